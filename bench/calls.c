@@ -19,7 +19,7 @@ static void need(int32_t status) {
 /* Runs for so many cycles in one call, or step by step. How many steps that was, if they were counted. */
 static uint64_t run(uint64_t cycles, bool one_by_one) {
     uint64_t passed, steps = 0, all = 0;
-    kbd48_place place;
+    kbd48_spot place;
     if (!one_by_one) {
         need(kbd48_run(&keyboard, cycles, false, &passed, &place));
         return 0;
@@ -42,7 +42,7 @@ static uint64_t strokes(uint64_t seconds, bool one_by_one) {
 /* So many steps, up to which nothing happens that the mask asks for. */
 static uint64_t steps_to(uint64_t steps, uint8_t mask) {
     uint64_t passed;
-    kbd48_place place;
+    kbd48_spot place;
     uint8_t met;
     need(kbd48_run_to(&keyboard, mask, 0, UINT64_MAX, steps, &met, &passed, &place));
     if (met) exit(1);
@@ -75,7 +75,7 @@ static uint64_t made(const char *row, uint64_t count) {
     if (!strcmp(row, "keys_steps")) return strokes(count, true);
     if (!strcmp(row, "one")) return run(count, true);
     if (!strcmp(row, "to_item")) return steps_to(count, KBD48_STOP_ITEM | KBD48_STOP_RISE | KBD48_STOP_WIRES);
-    if (!strcmp(row, "to_place")) return steps_to(count, KBD48_STOP_PLACE);
+    if (!strcmp(row, "to_place")) return steps_to(count, KBD48_STOP_COUNTER);
     if (!strcmp(row, "look")) return looks(count);
     if (!strcmp(row, "copy")) return copies(count, 0);
     if (!strcmp(row, "drain")) return copies(count, KEPT);

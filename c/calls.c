@@ -29,10 +29,10 @@ static void empty_handle(void) {
     uint16_t word = 7;
     uint8_t byte = 7;
     bool up = true, data = false;
-    kbd48_place place = {7, 7};
+    kbd48_spot spot = {7, 7};
     CHECK(kbd48_close(&k) == KBD48_NOT_OPEN);
     CHECK(kbd48_key(&k, 0, true) == KBD48_NOT_OPEN);
-    CHECK(kbd48_run(&k, 1, false, &number, &place) == KBD48_NOT_OPEN && number == 0 && place.counter == 7);
+    CHECK(kbd48_run(&k, 1, false, &number, &spot) == KBD48_NOT_OPEN && number == 0 && spot.counter == 7);
     CHECK(kbd48_write(&k, 0x60, 0) == KBD48_NOT_OPEN);
     CHECK(kbd48_read60(&k, &byte) == KBD48_NOT_OPEN && byte == 7);
     CHECK(kbd48_status(&k, &byte) == KBD48_NOT_OPEN && byte == 7);
@@ -53,7 +53,7 @@ static void empty_handle(void) {
     CHECK(kbd48_rises(&k, &number) == KBD48_NOT_OPEN && number == 7);
     CHECK(kbd48_next(&k, &item) == KBD48_NOT_OPEN && item.kind == 7);
     CHECK(kbd48_lost(&k, &number) == KBD48_NOT_OPEN && number == 7);
-    CHECK(kbd48_run_to(&k, 15, 0, 9, 9, &byte, &number, &place) == KBD48_NOT_OPEN && byte == 0 && number == 0);
+    CHECK(kbd48_run_to(&k, 15, 0, 9, 9, &byte, &number, &spot) == KBD48_NOT_OPEN && byte == 0 && number == 0);
     byte = 7;
     CHECK(kbd48_copy(&k, &other) == KBD48_NOT_OPEN && !other.at);
     CHECK(kbd48_look(&k, &registers) == KBD48_NOT_OPEN && registers.status == 7 && registers.output_port == 7);
@@ -67,12 +67,12 @@ static void bad_texts(void) {
     kbd48_fault fault = {9, 9};
     const uint8_t no_layout[] = "format = ", no_hex[] = ":00000001FF\n:0";
     CHECK(kbd48_open_layout(no_layout, sizeof no_layout - 1, &k, &fault) == KBD48_BAD_TEXT && !k.at);
-    CHECK(fault.place == 0 && fault.number == 1);
-    CHECK(kbd48_open_hex(no_hex, sizeof no_hex - 1, &k, &fault) == KBD48_BAD_TEXT && fault.place == 2);
-    fault.place = fault.number = 9;
+    CHECK(fault.position == 0 && fault.number == 1);
+    CHECK(kbd48_open_hex(no_hex, sizeof no_hex - 1, &k, &fault) == KBD48_BAD_TEXT && fault.position == 2);
+    fault.position = fault.number = 9;
     CHECK(kbd48_open_hex(hex, 16385, &k, &fault) == KBD48_TOO_LONG && !k.at);
     CHECK(kbd48_open_layout(layout, 65537, &k, &fault) == KBD48_TOO_LONG && !k.at);
-    CHECK(fault.place == 9 && fault.number == 9);
+    CHECK(fault.position == 9 && fault.number == 9);
     CHECK(!strcmp(kbd48_text(KBD48_ROSE), "the interrupt line rose") && !strcmp(kbd48_text(99), "no such status"));
 }
 
@@ -98,7 +98,7 @@ static void looks(kbd48 *k) {
 static void a_rise_within_a_step(kbd48 *k) {
     kbd48_item item;
     uint64_t rises, passed;
-    kbd48_place place;
+    kbd48_spot spot;
     uint8_t byte;
     bool up;
     CHECK(kbd48_write(k, 0x64, 0xaa) == KBD48_DONE);
@@ -108,9 +108,9 @@ static void a_rise_within_a_step(kbd48 *k) {
     CHECK(kbd48_interrupt(k, &up) == KBD48_DONE && up);
     CHECK(kbd48_rises(k, &rises) == KBD48_DONE && rises == 1);
     CHECK(kbd48_read60(k, &byte) == KBD48_DONE && byte == 0x55);
-    CHECK(kbd48_write(k, 0x64, 0xd1) == KBD48_DONE && kbd48_run(k, 8, false, &passed, &place) == KBD48_DONE);
-    CHECK(kbd48_write(k, 0x60, 0xdf) == KBD48_DONE && kbd48_run(k, 8, false, &passed, &place) == KBD48_DONE);
-    CHECK(kbd48_write(k, 0x64, 0xfe) == KBD48_DONE && kbd48_run(k, 8, false, &passed, &place) == KBD48_DONE);
+    CHECK(kbd48_write(k, 0x64, 0xd1) == KBD48_DONE && kbd48_run(k, 8, false, &passed, &spot) == KBD48_DONE);
+    CHECK(kbd48_write(k, 0x60, 0xdf) == KBD48_DONE && kbd48_run(k, 8, false, &passed, &spot) == KBD48_DONE);
+    CHECK(kbd48_write(k, 0x64, 0xfe) == KBD48_DONE && kbd48_run(k, 8, false, &passed, &spot) == KBD48_DONE);
     static const struct { uint8_t kind, value; } said[] = {
         {KBD48_ITEM_SENT, 0xaa}, {KBD48_ITEM_READ, 0xaa}, {KBD48_ITEM_READ, 0x55},
         {KBD48_ITEM_OUTPUT, 0xdf}, {KBD48_ITEM_PULSE, 0x0e},
@@ -127,7 +127,7 @@ static void a_rise_within_a_step(kbd48 *k) {
 static void a_noisy_byte(const uint8_t *hex, size_t length) {
     kbd48 k = KBD48_EMPTY;
     kbd48_fault fault;
-    kbd48_place place;
+    kbd48_spot spot;
     uint64_t passed, cycle, until;
     uint8_t byte, keyboard, controller, pulled_by_keyboard = 0, pulled_by_controller = 0;
     bool clock, data, up = false;
@@ -139,7 +139,7 @@ static void a_noisy_byte(const uint8_t *hex, size_t length) {
     CHECK(kbd48_key(&k, 34, true) == KBD48_DONE && kbd48_cycle(&k, &cycle) == KBD48_DONE);
     until = cycle + 40000;
     while (!up && cycle < until) {
-        CHECK(kbd48_run(&k, 1, false, &passed, &place) == KBD48_DONE);
+        CHECK(kbd48_run(&k, 1, false, &passed, &spot) == KBD48_DONE);
         CHECK(kbd48_pulls(&k, &keyboard, &controller) == KBD48_DONE && kbd48_wires(&k, &clock, &data) == KBD48_DONE);
         CHECK(clock == !((keyboard | controller) & 1) && data == !((keyboard | controller) & 2));
         pulled_by_keyboard |= keyboard, pulled_by_controller |= controller;
@@ -179,13 +179,13 @@ static void lost_items(kbd48 *k) {
 static void a_ready_one(const uint8_t *hex, size_t length) {
     kbd48 ready = KBD48_EMPTY, other = KBD48_EMPTY;
     kbd48_fault fault;
-    kbd48_place place;
+    kbd48_spot spot;
     uint64_t passed, cycle, at;
     uint8_t byte;
     bool up;
     CHECK(kbd48_open_ready_hex(hex, length, &ready, &fault) == KBD48_DONE);
     CHECK(kbd48_open_hex(hex, length, &other, &fault) == KBD48_DONE);
-    CHECK(kbd48_run(&other, 400000, true, &passed, &place) == KBD48_ROSE);
+    CHECK(kbd48_run(&other, 400000, true, &passed, &spot) == KBD48_ROSE);
     CHECK(kbd48_cycle(&ready, &cycle) == KBD48_DONE && kbd48_cycle(&other, &at) == KBD48_DONE && cycle == at);
     CHECK(kbd48_interrupt(&ready, &up) == KBD48_DONE && up);
     CHECK(kbd48_read60(&ready, &byte) == KBD48_DONE && byte == 0xaa);
@@ -197,36 +197,36 @@ static void a_ready_one(const uint8_t *hex, size_t length) {
 static void a_run_to(const uint8_t *hex, size_t length) {
     kbd48 k = KBD48_EMPTY, other = KBD48_EMPTY;
     kbd48_fault fault;
-    kbd48_place place;
+    kbd48_spot spot;
     kbd48_processor inside;
     uint64_t passed, one, cycle, at;
     uint8_t met;
     bool clock, data, clock_now, data_now;
     CHECK(kbd48_open_hex(hex, length, &k, &fault) == KBD48_DONE);
     CHECK(kbd48_copy(&k, &other) == KBD48_DONE);
-    CHECK(kbd48_run_to(&k, 0, 0, 400000, 9, &met, &passed, &place) == KBD48_DONE && met == 0 && passed >= 9 && passed <= 18);
-    CHECK(kbd48_run(&other, passed, false, &one, &place) == KBD48_DONE && one == passed);
+    CHECK(kbd48_run_to(&k, 0, 0, 400000, 9, &met, &passed, &spot) == KBD48_DONE && met == 0 && passed >= 9 && passed <= 18);
+    CHECK(kbd48_run(&other, passed, false, &one, &spot) == KBD48_DONE && one == passed);
     for (int changes = 0; changes < 30; changes++) {
-        CHECK(kbd48_run_to(&k, KBD48_STOP_WIRES, 0, 400000, UINT64_MAX, &met, &passed, &place) == KBD48_DONE);
+        CHECK(kbd48_run_to(&k, KBD48_STOP_WIRES, 0, 400000, UINT64_MAX, &met, &passed, &spot) == KBD48_DONE);
         if (met != KBD48_STOP_WIRES) break;
         CHECK(kbd48_wires(&other, &clock, &data) == KBD48_DONE);
         do {
-            CHECK(kbd48_run(&other, 1, false, &one, &place) == KBD48_DONE);
+            CHECK(kbd48_run(&other, 1, false, &one, &spot) == KBD48_DONE);
             CHECK(kbd48_wires(&other, &clock_now, &data_now) == KBD48_DONE);
         } while (clock == clock_now && data == data_now);
         CHECK(kbd48_cycle(&k, &cycle) == KBD48_DONE && kbd48_cycle(&other, &at) == KBD48_DONE && cycle == at);
     }
-    CHECK(kbd48_run_to(&k, KBD48_STOP_RISE | KBD48_STOP_ITEM, 0, 400000, UINT64_MAX, &met, &passed, &place) == KBD48_DONE);
+    CHECK(kbd48_run_to(&k, KBD48_STOP_RISE | KBD48_STOP_ITEM, 0, 400000, UINT64_MAX, &met, &passed, &spot) == KBD48_DONE);
     CHECK((met & ~(KBD48_STOP_RISE | KBD48_STOP_ITEM)) == 0);
-    CHECK(kbd48_run_to(&k, KBD48_STOP_PLACE, KBD48_TICK, 2049, UINT64_MAX, &met, &passed, &place) == KBD48_DONE);
-    CHECK(met == KBD48_STOP_PLACE && kbd48_inside(&k, &inside) == KBD48_DONE && inside.counter == KBD48_TICK);
+    CHECK(kbd48_run_to(&k, KBD48_STOP_COUNTER, KBD48_TICK, 2049, UINT64_MAX, &met, &passed, &spot) == KBD48_DONE);
+    CHECK(met == KBD48_STOP_COUNTER && kbd48_inside(&k, &inside) == KBD48_DONE && inside.counter == KBD48_TICK);
     CHECK(kbd48_close(&k) == KBD48_DONE && kbd48_close(&other) == KBD48_DONE);
 }
 
 /* A copy answers as the original does, and goes its own way. */
 static int32_t a_copy(kbd48 *k) {
     kbd48 copy = KBD48_EMPTY;
-    kbd48_place place;
+    kbd48_spot spot;
     uint64_t passed, as_many;
     uint8_t byte = 0, same = 1, rows;
     int32_t status = kbd48_copy(k, &copy);
@@ -236,7 +236,7 @@ static int32_t a_copy(kbd48 *k) {
     }
     a_rise_within_a_step(&copy);
     lost_items(&copy);
-    CHECK(kbd48_key(&copy, 0, true) == KBD48_DONE && kbd48_run(&copy, 4, false, &passed, &place) == KBD48_DONE);
+    CHECK(kbd48_key(&copy, 0, true) == KBD48_DONE && kbd48_run(&copy, 4, false, &passed, &spot) == KBD48_DONE);
     CHECK(kbd48_column(&copy, 0, &rows) == KBD48_DONE && rows == 0xfe);
     CHECK(kbd48_column(k, 0, &rows) == KBD48_DONE && rows == 0xff);
     status = kbd48_copy(k, &copy); /* closes the first copy, or leaves it */
@@ -248,8 +248,8 @@ static int32_t a_copy(kbd48 *k) {
         if (status == KBD48_DONE) {
             CHECK(kbd48_read60(&copy, &byte) == KBD48_DONE && kbd48_read60(&twin, &same) == KBD48_DONE && byte == same);
             CHECK(kbd48_write(&copy, 0x60, 0xee) == KBD48_DONE && kbd48_write(&twin, 0x60, 0xee) == KBD48_DONE);
-            CHECK(kbd48_run(&copy, 40000, true, &passed, &place) == KBD48_ROSE);
-            CHECK(kbd48_run(&twin, 40000, true, &as_many, &place) == KBD48_ROSE && passed == as_many);
+            CHECK(kbd48_run(&copy, 40000, true, &passed, &spot) == KBD48_ROSE);
+            CHECK(kbd48_run(&twin, 40000, true, &as_many, &spot) == KBD48_ROSE && passed == as_many);
             CHECK(kbd48_read60(&copy, &byte) == KBD48_DONE && kbd48_read60(&twin, &same) == KBD48_DONE);
             CHECK(byte == 0xee && same == 0xee);
             CHECK(kbd48_close(&twin) == KBD48_DONE);
@@ -262,7 +262,7 @@ static int32_t a_copy(kbd48 *k) {
 static int32_t a_session(void) {
     kbd48 k = KBD48_EMPTY;
     kbd48_fault fault;
-    kbd48_place place;
+    kbd48_spot spot;
     uint64_t passed, cycle;
     uint16_t word;
     uint8_t byte;
@@ -276,7 +276,7 @@ static int32_t a_session(void) {
     CHECK(status == KBD48_DONE || status == KBD48_NO_MEMORY);
     CHECK(k.at);
     CHECK(kbd48_cycle(&k, &cycle) == KBD48_DONE && cycle > 4096 && cycle < 4100);
-    CHECK(kbd48_run(&k, 400000, true, &passed, &place) == KBD48_ROSE && passed < 140000);
+    CHECK(kbd48_run(&k, 400000, true, &passed, &spot) == KBD48_ROSE && passed < 140000);
     CHECK(kbd48_interrupt(&k, &up) == KBD48_DONE && up);
     looks(&k);
     int32_t copied = a_copy(&k);
@@ -284,24 +284,24 @@ static int32_t a_session(void) {
     CHECK(kbd48_read60(&k, &byte) == KBD48_DONE && byte == 0xaa);
     CHECK(kbd48_interrupt(&k, &up) == KBD48_DONE && !up);
     CHECK(kbd48_wires(&k, &up, &data) == KBD48_DONE && !up && data); /* it held the clock while the byte waited */
-    CHECK(kbd48_run(&k, 128, false, &passed, &place) == KBD48_DONE);
+    CHECK(kbd48_run(&k, 128, false, &passed, &spot) == KBD48_DONE);
     CHECK(kbd48_wires(&k, &up, &data) == KBD48_DONE && up && data);
     CHECK(kbd48_write(&k, 0x64, 0xad) == KBD48_DONE); /* the controller disables the keyboard: it holds the clock */
-    CHECK(kbd48_run(&k, 64, false, &passed, &place) == KBD48_DONE);
+    CHECK(kbd48_run(&k, 64, false, &passed, &spot) == KBD48_DONE);
     CHECK(kbd48_wires(&k, &up, &data) == KBD48_DONE && !up && data);
     CHECK(kbd48_write(&k, 0x64, 0xae) == KBD48_DONE);
-    CHECK(kbd48_run(&k, 64, false, &passed, &place) == KBD48_DONE);
+    CHECK(kbd48_run(&k, 64, false, &passed, &spot) == KBD48_DONE);
     CHECK(kbd48_key(&k, 96, true) == KBD48_NO_SUCH_PLACE && kbd48_write(&k, 0x61, 0) == KBD48_NO_SUCH_PORT);
     for (int i = 0; i < 4; i++) CHECK(kbd48_key(&k, (uint8_t)i, true) == KBD48_DONE);
     CHECK(kbd48_key(&k, 4, true) == KBD48_FULL);
     CHECK(kbd48_write(&k, 0x60, 0xed) == KBD48_DONE);
-    CHECK(kbd48_run(&k, 40000, true, &passed, &place) == KBD48_ROSE);
+    CHECK(kbd48_run(&k, 40000, true, &passed, &spot) == KBD48_ROSE);
     CHECK(kbd48_read60(&k, &byte) == KBD48_DONE && byte == 0xfa);
     CHECK(kbd48_write(&k, 0x60, 7) == KBD48_DONE);
-    CHECK(kbd48_run(&k, 400000, false, &passed, &place) == KBD48_DONE && passed < 400002);
+    CHECK(kbd48_run(&k, 400000, false, &passed, &spot) == KBD48_DONE && passed < 400002);
     CHECK(kbd48_lights(&k, &byte) == KBD48_DONE && byte == 7);
     CHECK(kbd48_bios(&k, true) == KBD48_DONE);
-    CHECK(kbd48_run(&k, 400000, false, &passed, &place) == KBD48_DONE);
+    CHECK(kbd48_run(&k, 400000, false, &passed, &spot) == KBD48_DONE);
     CHECK(kbd48_take(&k, &word) == KBD48_DONE || kbd48_take(&k, &word) == KBD48_NO_WORD);
     CHECK(kbd48_close(&k) == KBD48_DONE && !k.at && kbd48_close(&k) == KBD48_NOT_OPEN);
     return status == KBD48_DONE ? copied : status;
@@ -311,13 +311,13 @@ static void a_stuck_one(void) {
     static const uint8_t stuck[] = ":0100000001FE\n:00000001FF\n";
     kbd48 k = KBD48_EMPTY;
     kbd48_fault fault;
-    kbd48_place place = {9, 9};
+    kbd48_spot spot = {9, 9};
     uint64_t passed;
     uint8_t byte;
     kbd48_processor inside;
     CHECK(kbd48_open_hex(stuck, sizeof stuck - 1, &k, &fault) == KBD48_DONE);
-    CHECK(kbd48_run(&k, 10, false, &passed, &place) == KBD48_STUCK && passed == 0);
-    CHECK(place.counter == 0 && place.byte == 1);
+    CHECK(kbd48_run(&k, 10, false, &passed, &spot) == KBD48_STUCK && passed == 0);
+    CHECK(spot.counter == 0 && spot.byte == 1);
     CHECK(kbd48_inside(&k, &inside) == KBD48_DONE && inside.counter == 0 && inside.byte == 1);
     CHECK(kbd48_read60(&k, &byte) == KBD48_EARLY && kbd48_key(&k, 0, true) == KBD48_EARLY);
     CHECK(kbd48_close(&k) == KBD48_DONE);

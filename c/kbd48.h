@@ -76,15 +76,15 @@ int32_t kbd48_version(void);
 /* The first fault of a text: the entry of a layout or the line of a HEX text, counted from 1, and the number of the
    rule that it breaks (`docs/FORMATS.md`). Entry 0 is the layout as a whole. */
 typedef struct {
-    uint32_t place;
+    uint32_t position;
     uint32_t number;
 } kbd48_fault;
 
-/* A place at which a processor is stuck: its program counter, 0 to 4,095, and the byte there. */
+/* What a stuck processor is at: its program counter, 0 to 4,095, and the byte there. */
 typedef struct {
     uint16_t counter;
     uint8_t byte;
-} kbd48_place;
+} kbd48_spot;
 
 /* Opens a keyboard of this layout (TOML, at most 65,536 bytes) at `handle`, and closes the one that was there. Its
    firmware is compiled, the board is powered on, 4,096 cycles pass, which is stamp 0, and INT 09h is masked. Takes all
@@ -102,7 +102,7 @@ int32_t kbd48_layout_key(const uint8_t *text, size_t length, const uint8_t *name
 int32_t kbd48_sample_key(const uint8_t *name, size_t length, uint8_t *place);
 
 /* As kbd48_open_layout, with a program memory of any program, as an Intel HEX text of at most 16,384 bytes. A program
-   that sticks in its first cycles is opened too, and stays at its place. */
+   that sticks in its first cycles is opened too, and stays there. */
 int32_t kbd48_open_hex(const uint8_t *text, size_t length, kbd48 *handle, kbd48_fault *fault);
 
 /* The same, and the keyboard's power-on test is over. Steps are made until the interrupt line rises for its AA, which
@@ -125,8 +125,8 @@ int32_t kbd48_key(kbd48 *handle, uint8_t place, bool down);
 
 /* Makes steps until `cycles` cycles have passed; a last step of two cycles may make it one more. If `watched` is true,
    it also ends when the interrupt line rises, and returns KBD48_ROSE. `passed` is how many cycles passed, whatever the
-   status. On KBD48_STUCK `place` is the place at which the processor is stuck. */
-int32_t kbd48_run(kbd48 *handle, uint64_t cycles, bool watched, uint64_t *passed, kbd48_place *place);
+   status. On KBD48_STUCK `spot` has the counter and the byte at which the processor is stuck. */
+int32_t kbd48_run(kbd48 *handle, uint64_t cycles, bool watched, uint64_t *passed, kbd48_spot *spot);
 
 /* A queue of edges of keys. It hands each edge to the keyboard as soon as the keyboard can see it and has had the time
    to send the edge before: 2,240 cycles after a press, 4,480 after a release. So keys are reported in the order in
@@ -167,23 +167,23 @@ int32_t kbd48_queued(kbd48_keys *queue, uint8_t *count);
    is due. KBD48_KEY_DUE says that fewer than `cycles` cycles have passed: call again with the rest. The edge is handed
    over as by kbd48_key, so it waits while four edges of that call wait. */
 int32_t kbd48_run_keys(kbd48 *handle, kbd48_keys *queue, uint64_t cycles, bool watched, uint64_t *passed,
-                       kbd48_place *place);
+                       kbd48_spot *spot);
 
 /* What a run may be asked to stop for. */
 enum {
     KBD48_STOP_RISE = 1,  /* the interrupt line rises */
     KBD48_STOP_ITEM = 2,  /* something is said: kbd48_next hands it out */
     KBD48_STOP_WIRES = 4, /* a wire's level after a step differs from that before it */
-    KBD48_STOP_PLACE = 8  /* the processor's counter reaches the place `at`, 0 to 2,047 (its low 11 bits) */
+    KBD48_STOP_COUNTER = 8  /* the processor's counter reaches `at`, 0 to 2,047 (its low 11 bits) */
 };
 
 /* Makes steps until one of them does what `mask` asks for, or until `cycles` cycles have passed (one more at most) or
    `steps` steps were made. `met` is what the last step did of that; it is 0 if a limit ended the run. `passed` and
-   `place` are as for kbd48_run. It makes many steps at once, as kbd48_run does; with KBD48_STOP_PLACE it makes them one
-   at a time. A tick of a layout's firmware begins at the place KBD48_TICK. */
+   `spot` are as for kbd48_run. It makes many steps at once, as kbd48_run does; with KBD48_STOP_COUNTER it makes them one
+   at a time. A tick of a layout's firmware begins at the counter KBD48_TICK. */
 #define KBD48_TICK 0x007
 int32_t kbd48_run_to(kbd48 *handle, uint8_t mask, uint16_t at, uint64_t cycles, uint64_t steps, uint8_t *met,
-                     uint64_t *passed, kbd48_place *place);
+                     uint64_t *passed, kbd48_spot *spot);
 
 /* The host writes a byte to port 0x60 or 0x64, in one step. Returns KBD48_FULL if the controller's input buffer is
    full. */

@@ -67,8 +67,8 @@ public:
     void flip(uint8_t bit) { need(kbd48_flip(&handle, bit)); }
     bool run(uint64_t cycles, bool watched = false) {
         uint64_t passed;
-        kbd48_place place;
-        int32_t why = kbd48_run(&handle, cycles, watched, &passed, &place);
+        kbd48_spot spot;
+        int32_t why = kbd48_run(&handle, cycles, watched, &passed, &spot);
         return why == KBD48_ROSE || (need(why), false);
     }
 
@@ -89,8 +89,8 @@ public:
         int32_t status = KBD48_KEY_DUE;
         while (status == KBD48_KEY_DUE) {
             uint64_t passed;
-            kbd48_place place;
-            status = kbd48_run_keys(&handle, &keys, cycles - ran.passed, watched, &passed, &place);
+            kbd48_spot spot;
+            status = kbd48_run_keys(&handle, &keys, cycles - ran.passed, watched, &passed, &spot);
             ran.passed += passed;
             ran.rises += rises();
         }
@@ -103,8 +103,8 @@ public:
     uint8_t run_to(uint8_t mask, uint64_t cycles, uint64_t steps = UINT64_MAX, uint16_t at = 0) {
         uint8_t met;
         uint64_t passed;
-        kbd48_place place;
-        need(kbd48_run_to(&handle, mask, at, cycles, steps, &met, &passed, &place));
+        kbd48_spot spot;
+        need(kbd48_run_to(&handle, mask, at, cycles, steps, &met, &passed, &spot));
         return met;
     }
 

@@ -12,7 +12,7 @@ use std::{fmt, ptr};
 pub enum Error {
     NoMemory,
     /// The text breaks the rule of this number at this entry of a layout, or line of a HEX text.
-    BadText { place: u32, number: u32 },
+    BadText { position: u32, number: u32 },
     TooLong,
     NoSuchPlace,
     NoSuchPort,
@@ -101,13 +101,13 @@ struct Handle {
 #[repr(C)]
 #[derive(Default)]
 struct Fault {
-    place: u32,
+    position: u32,
     number: u32,
 }
 
 #[repr(C)]
 #[derive(Default)]
-struct Place {
+struct Spot {
     counter: u16,
     byte: u8,
 }
@@ -125,13 +125,13 @@ unsafe extern "C" {
     fn kbd48_queue_key(queue: *mut Keys, cycle: u64, place: u8, down: bool) -> i32;
     fn kbd48_release_all(queue: *mut Keys, cycle: u64) -> i32;
     fn kbd48_queued(queue: *mut Keys, count: *mut u8) -> i32;
-    fn kbd48_run_keys(handle: *mut Handle, queue: *mut Keys, cycles: u64, watched: bool, passed: *mut u64, place: *mut Place) -> i32;
+    fn kbd48_run_keys(handle: *mut Handle, queue: *mut Keys, cycles: u64, watched: bool, passed: *mut u64, spot: *mut Spot) -> i32;
     fn kbd48_copy(from: *mut Handle, to: *mut Handle) -> i32;
     fn kbd48_close(handle: *mut Handle) -> i32;
     fn kbd48_key(handle: *mut Handle, place: u8, down: bool) -> i32;
-    fn kbd48_run(handle: *mut Handle, cycles: u64, watched: bool, passed: *mut u64, place: *mut Place) -> i32;
+    fn kbd48_run(handle: *mut Handle, cycles: u64, watched: bool, passed: *mut u64, spot: *mut Spot) -> i32;
     fn kbd48_run_to(handle: *mut Handle, mask: u8, at: u16, cycles: u64, steps: u64, met: *mut u8,
-        passed: *mut u64, place: *mut Place) -> i32;
+        passed: *mut u64, spot: *mut Spot) -> i32;
     fn kbd48_write(handle: *mut Handle, port: u8, byte: u8) -> i32;
     fn kbd48_read60(handle: *mut Handle, byte: *mut u8) -> i32;
     fn kbd48_bios(handle: *mut Handle, on: bool) -> i32;
@@ -152,7 +152,7 @@ fn judged(status: i32, fault: Fault) -> Result<(), Error> {
     Err(match status {
         0 => return Ok(()),
         2 => Error::NoMemory,
-        3 => Error::BadText { place: fault.place, number: fault.number },
+        3 => Error::BadText { position: fault.position, number: fault.number },
         4 => Error::TooLong,
         5 => Error::NoSuchPlace,
         6 => Error::NoSuchPort,
@@ -250,10 +250,10 @@ impl Keyboard {
     pub fn run_keys(&mut self, cycles: u64, watched: bool) -> Result<KeysRan, Error> {
         let mut ran = KeysRan { passed: 0, rises: 0, rose: false };
         loop {
-            let (mut passed, mut place) = (0, Place::default());
+            let (mut passed, mut spot) = (0, Spot::default());
             let left = cycles.saturating_sub(ran.passed);
             let status =
-                unsafe { kbd48_run_keys(self.handle.get(), self.keys.get(), left, watched, &mut passed, &mut place) };
+                unsafe { kbd48_run_keys(self.handle.get(), self.keys.get(), left, watched, &mut passed, &mut spot) };
             ran.passed += passed;
             ran.rises += self.rises();
             match status {
@@ -276,8 +276,8 @@ impl Keyboard {
     }
 
     pub fn run(&mut self, cycles: u64, watched: bool) -> Result<Ran, Error> {
-        let (mut passed, mut place) = (0, Place::default());
-        match unsafe { kbd48_run(self.handle.get(), cycles, watched, &mut passed, &mut place) } {
+        let (mut passed, mut spot) = (0, Spot::default());
+        match unsafe { kbd48_run(self.handle.get(), cycles, watched, &mut passed, &mut spot) } {
             12 => Ok(Ran { passed, rose: true }),
             status => done(status).map(|()| Ran { passed, rose: false }),
         }
@@ -286,9 +286,9 @@ impl Keyboard {
     /// Runs until a step comes to what the mask asks for (1 a rise of the line, 2 something said, 4 a wire that changed, 8
     /// the place `at` of the program), or to one of the limits. Answers how many cycles passed, and which of them it was.
     pub fn run_to(&mut self, mask: u8, at: u16, cycles: u64, steps: u64) -> Result<(u64, u8), Error> {
-        let (mut met, mut passed, mut place) = (0, 0, Place::default());
+        let (mut met, mut passed, mut spot) = (0, 0, Spot::default());
         let handle = self.handle.get();
-        done(unsafe { kbd48_run_to(handle, mask, at, cycles, steps, &mut met, &mut passed, &mut place) })
+        done(unsafe { kbd48_run_to(handle, mask, at, cycles, steps, &mut met, &mut passed, &mut spot) })
             .map(|()| (passed, met))
     }
 

@@ -43,7 +43,7 @@ int main() {
     ready.flip(9);
     CHECK(ready.pulls().controller == 1);
     CHECK(ready.interrupt() && ready.lost() == 0 && ready.run_to(0, 400000, 1) == 0);
-    CHECK(ready.run_to(KBD48_STOP_PLACE, 4096, UINT64_MAX, KBD48_TICK) == KBD48_STOP_PLACE);
+    CHECK(ready.run_to(KBD48_STOP_COUNTER, 4096, UINT64_MAX, KBD48_TICK) == KBD48_STOP_COUNTER);
     CHECK(ready.processor().counter == KBD48_TICK);
     try {
         Kbd48::of_layout("format = ");

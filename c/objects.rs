@@ -38,6 +38,6 @@ fn main() -> Result<(), Box<dyn std::error::Error>> {
     assert_eq!(ready.run_to(0, 0, 400_000, 1)?.1, 0);
     assert_eq!(ready.run_to(8, 7, 4096, u64::MAX)?.1, 8);
     assert_eq!(first.key(96, true), Err(Error::NoSuchPlace));
-    assert_eq!(Keyboard::of_layout(b"format = ").err(), Some(Error::BadText { place: 0, number: 1 }));
+    assert_eq!(Keyboard::of_layout(b"format = ").err(), Some(Error::BadText { position: 0, number: 1 }));
     Ok(())
 }

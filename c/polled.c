@@ -34,8 +34,8 @@ static uint64_t stamp(void) {
 
 static void run(uint64_t cycles) {
     uint64_t passed;
-    kbd48_place place;
-    CHECK(kbd48_run(&k, cycles, false, &passed, &place) == KBD48_DONE);
+    kbd48_spot spot;
+    CHECK(kbd48_run(&k, cycles, false, &passed, &spot) == KBD48_DONE);
 }
 
 /* Polls up to a stamp, and shows each byte that comes, if it is of a sample. */

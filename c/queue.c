@@ -37,10 +37,10 @@ static void push(uint8_t place, bool down) { CHECK(kbd48_queue_key(&keys, now(),
 /* Runs to an absolute cycle, through each edge that is due, and takes the words that INT 09h entered. */
 static void run_to(uint64_t end) {
     uint64_t passed;
-    kbd48_place place;
+    kbd48_spot spot;
     while (now() < end) {
         uint64_t slice = now() + 4 * CYCLES_PER_MS < end ? 4 * CYCLES_PER_MS : end - now();
-        int32_t status = kbd48_run_keys(&keyboard, &keys, slice, false, &passed, &place);
+        int32_t status = kbd48_run_keys(&keyboard, &keys, slice, false, &passed, &spot);
         CHECK(status == KBD48_DONE || (status == KBD48_KEY_DUE && passed < slice));
         uint16_t word;
         while (kbd48_take(&keyboard, &word) == KBD48_DONE)
@@ -120,16 +120,16 @@ static void refusals(void) {
 static void later(void) {
     uint8_t a = place_of("a"), edges, words, rows;
     uint64_t passed, at = now() + 40000;
-    kbd48_place place;
+    kbd48_spot spot;
     CHECK(kbd48_queue_key(&keys, at, a, true) == KBD48_DONE && kbd48_queue_key(&keys, at, a, false) == KBD48_DONE);
-    CHECK(kbd48_run_keys(&keyboard, &keys, 100000, false, &passed, &place) == KBD48_KEY_DUE);
+    CHECK(kbd48_run_keys(&keyboard, &keys, 100000, false, &passed, &spot) == KBD48_KEY_DUE);
     CHECK(now() >= at && now() <= at + 1 && queued() == 2);
     for (int i = 0; i < 4; i++) CHECK(kbd48_key(&keyboard, place_of("f1"), i % 2 == 0) == KBD48_DONE);
-    CHECK(kbd48_run_keys(&keyboard, &keys, 100000, false, &passed, &place) == KBD48_KEY_DUE && passed <= 2);
+    CHECK(kbd48_run_keys(&keyboard, &keys, 100000, false, &passed, &spot) == KBD48_KEY_DUE && passed <= 2);
     CHECK(kbd48_waiting(&keyboard, &edges, &words) == KBD48_DONE && edges == 0 && queued() == 2);
-    CHECK(kbd48_run_keys(&keyboard, &keys, 1, false, &passed, &place) == KBD48_DONE && queued() == 1);
+    CHECK(kbd48_run_keys(&keyboard, &keys, 1, false, &passed, &spot) == KBD48_DONE && queued() == 1);
     CHECK(kbd48_column(&keyboard, a / 8, &rows) == KBD48_DONE && !(rows >> a % 8 & 1));
-    CHECK(kbd48_run_keys(&keyboard, &keys, 100000, false, &passed, &place) == KBD48_KEY_DUE);
+    CHECK(kbd48_run_keys(&keyboard, &keys, 100000, false, &passed, &spot) == KBD48_KEY_DUE);
     CHECK(passed >= 2230 && passed <= 2241);
     run_to(now() + 100 * CYCLES_PER_MS);
 }
@@ -143,11 +143,11 @@ static void random_queues(void) {
         for (size_t j = 0; j < 160; j++) any.edges[j].down = bytes[j] & 1;
         for (size_t j = 0; j < 96; j++) any.down[j] = bytes[j] & 2;
         uint64_t passed;
-        kbd48_place place;
+        kbd48_spot spot;
         uint8_t count;
         CHECK(kbd48_queue_key(&any, now(), (uint8_t)rand(), rand() & 1) < 32);
         CHECK(kbd48_queued(&any, &count) == KBD48_DONE && count <= 160);
-        CHECK(kbd48_run_keys(&keyboard, &any, 100, false, &passed, &place) < 32);
+        CHECK(kbd48_run_keys(&keyboard, &any, 100, false, &passed, &spot) < 32);
         CHECK(kbd48_release_all(&any, now()) == KBD48_DONE);
     }
 }
@@ -155,7 +155,7 @@ static void random_queues(void) {
 int main(void) {
     uint8_t place = 7;
     uint64_t passed;
-    kbd48_place where = {7, 7};
+    kbd48_spot where = {7, 7};
     CHECK(kbd48_run_keys(&keyboard, &keys, 1, false, &passed, &where) == KBD48_NOT_OPEN && passed == 0 && where.byte == 7);
     CHECK(kbd48_version() == KBD48_VERSION_NUMBER);
     CHECK(kbd48_sample_key((const uint8_t *)"H", 1, &place) == KBD48_NO_SUCH_KEY && place == 7);

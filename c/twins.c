@@ -26,7 +26,7 @@ static uint32_t random_below(uint32_t most) { /* xorshift64*: the high half of t
 typedef struct {
     int32_t status;
     uint64_t passed, rises, cycle, lost;
-    kbd48_place place;
+    kbd48_spot spot;
     uint8_t met, byte, lights, edges, words, rows, cell;
     uint16_t word;
     bool up, clock, data;
@@ -52,12 +52,12 @@ static void act(kbd48 *k, seen *s, uint32_t what, uint32_t a, uint32_t b) {
     case 3: s->status = kbd48_status(k, &s->byte); break;
     case 4: s->status = kbd48_take(k, &s->word); break;
     case 5: s->status = kbd48_bios(k, b & 1); break;
-    case 6: s->status = kbd48_run(k, a % 100, b & 1, &s->passed, &s->place); break;
+    case 6: s->status = kbd48_run(k, a % 100, b & 1, &s->passed, &s->spot); break;
     case 7: s->status = kbd48_flip(k, (uint8_t)(a % 11)); break;
     case 8:
-        s->status = kbd48_run_to(k, (uint8_t)(b % 16), (uint16_t)(a % 2048), a % 4000, b % 4096, &s->met, &s->passed, &s->place);
+        s->status = kbd48_run_to(k, (uint8_t)(b % 16), (uint16_t)(a % 2048), a % 4000, b % 4096, &s->met, &s->passed, &s->spot);
         break;
-    default: s->status = kbd48_run(k, a % 20000, b & 1, &s->passed, &s->place); break;
+    default: s->status = kbd48_run(k, a % 20000, b & 1, &s->passed, &s->spot); break;
     }
 }
 

@@ -23,11 +23,11 @@ static unsigned tick(void) { /* a tick has 2,048 cycles; stamp 0 is cycle 4,096 
 
 static void run_to(unsigned ms) { /* INT 09h reads at each interrupt, 64 cycles after it */
     for (uint64_t cycle, end = 4096 + 400 * (uint64_t)ms, passed; need(kbd48_cycle(&keyboard, &cycle)), cycle < end;) {
-        kbd48_place place;
+        kbd48_spot spot;
         uint8_t byte;
         bool up = true;
-        if (kbd48_run(&keyboard, end - cycle, true, &passed, &place) != KBD48_ROSE) continue;
-        for (; up; need(kbd48_interrupt(&keyboard, &up))) need(kbd48_run(&keyboard, 1, false, &passed, &place));
+        if (kbd48_run(&keyboard, end - cycle, true, &passed, &spot) != KBD48_ROSE) continue;
+        for (; up; need(kbd48_interrupt(&keyboard, &up))) need(kbd48_run(&keyboard, 1, false, &passed, &spot));
         printf("%u port ", tick());
         need(kbd48_read60(&keyboard, &byte));
         printf("%02X\n", byte);

@@ -14,10 +14,10 @@ class Handle(c.Structure):
 
 
 class Fault(c.Structure):
-    _fields_ = [("place", c.c_uint32), ("number", c.c_uint32)]
+    _fields_ = [("position", c.c_uint32), ("number", c.c_uint32)]
 
 
-class Place(c.Structure):
+class Spot(c.Structure):
     _fields_ = [("counter", c.c_uint16), ("byte", c.c_uint8)]
 
 
@@ -26,7 +26,7 @@ H = c.POINTER(Handle)
 lib.kbd48_open_layout.argtypes = [c.c_char_p, c.c_size_t, H, c.POINTER(Fault)]
 lib.kbd48_close.argtypes = [H]
 lib.kbd48_key.argtypes = [H, c.c_uint8, c.c_bool]
-lib.kbd48_run.argtypes = [H, c.c_uint64, c.c_bool, c.POINTER(c.c_uint64), c.POINTER(Place)]
+lib.kbd48_run.argtypes = [H, c.c_uint64, c.c_bool, c.POINTER(c.c_uint64), c.POINTER(Spot)]
 lib.kbd48_read60.argtypes = [H, c.POINTER(c.c_uint8)]
 lib.kbd48_take.argtypes = [H, c.POINTER(c.c_uint16)]
 lib.kbd48_bios.argtypes = [H, c.c_bool]
@@ -35,7 +35,7 @@ lib.kbd48_cycle.argtypes = [H, c.POINTER(c.c_uint64)]
 
 text = open(sys.argv[1] if len(sys.argv) > 1 else os.path.join(TOP, "examples", "us84.toml"), "rb").read()
 keyboard, byte, word, up = Handle(), c.c_uint8(), c.c_uint16(), c.c_bool()
-cycle, passed, place = c.c_uint64(), c.c_uint64(), Place()
+cycle, passed, spot = c.c_uint64(), c.c_uint64(), Spot()
 words = []
 
 

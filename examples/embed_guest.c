@@ -41,9 +41,9 @@ static uint64_t now(void) {
    that is due ends a call, and the next one hands it over. */
 static void run_to(uint64_t cycle) {
     uint64_t passed;
-    kbd48_place place;
+    kbd48_spot spot;
     while (now() < cycle) {
-        int32_t status = kbd48_run_keys(&keyboard, &keys, cycle - now(), false, &passed, &place);
+        int32_t status = kbd48_run_keys(&keyboard, &keys, cycle - now(), false, &passed, &spot);
         if (status != KBD48_KEY_DUE) need(status);
     }
 }

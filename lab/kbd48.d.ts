@@ -13,9 +13,9 @@ export declare const Item: Readonly<{
 }>;
 
 /** What `runTo` may be asked to stop for: a sum of these. */
-export declare const Stop: Readonly<{ RISE: 1; ITEM: 2; WIRES: 4; PLACE: 8 }>;
+export declare const Stop: Readonly<{ RISE: 1; ITEM: 2; WIRES: 4; COUNTER: 8 }>;
 
-/** The place at which a tick of a layout's firmware begins. */
+/** The program counter at which a tick of a layout's firmware begins. */
 export declare const TICK: 7;
 
 /** How a run with the queue ended: how many cycles passed, and how often the interrupt line rose. */
@@ -81,7 +81,7 @@ export interface Processor {
 /** A call that was refused. For a text with a fault: the entry or line (from 1, entry 0 is the whole), and the rule. */
 export declare class Kbd48Error extends Error {
   readonly status: StatusNumber;
-  readonly place: number;
+  readonly position: number;
   readonly number: number;
 }
 

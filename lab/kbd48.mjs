@@ -7,10 +7,10 @@ export const Status = Object.freeze({
   NO_SUCH_BIT: 19,
 });
 
-/** What `runTo` may be asked to stop for: a rise of the interrupt line, something said, a wire that changed, a place. */
-export const Stop = Object.freeze({ RISE: 1, ITEM: 2, WIRES: 4, PLACE: 8 });
+/** What `runTo` may be asked to stop for: a rise of the interrupt line, something said, a wire that changed, a value of the program counter. */
+export const Stop = Object.freeze({ RISE: 1, ITEM: 2, WIRES: 4, COUNTER: 8 });
 
-/** The place at which a tick of a layout's firmware begins. */
+/** The program counter at which a tick of a layout's firmware begins. */
 export const TICK = 0x007;
 
 /** What happened: what the log says, item by item, and the bytes that the keyboard sent over the wires, or was given. */
@@ -24,11 +24,11 @@ const STATUS_TEXTS = ['done', 'the handle is empty', 'there is no memory left', 
   'the processor stuck before stamp 0', 'the count of cycles is at its end', 'there is no word', 'the interrupt line rose', 'there is no such cell', 'nothing was said',
   'more was said than is kept', 'the key is so already', 'the next edge is due', 'there is no such key', 'there is no such bit'];
 
-/** A call that was refused. `place` and `number` say which rule a text breaks, and at which entry or line. */
+/** A call that was refused. `position` and `number` say which rule a text breaks, and at which entry or line. */
 export class Kbd48Error extends Error {
-  constructor(status, place = 0, number = 0) {
+  constructor(status, position = 0, number = 0) {
     super(STATUS_TEXTS[status] ?? `status ${status}`);
-    Object.assign(this, { name: 'Kbd48Error', status, place, number });
+    Object.assign(this, { name: 'Kbd48Error', status, position, number });
   }
 }
 
@@ -90,7 +90,7 @@ async function started(bytes) {
 
 // Where the values lie that calls pass by pointer, in one block. The last is the keyboard's queue, a `kbd48_keys`.
 const PLACES = {
-  handle: 0, fault: 8, passed: 16, place: 24, byte: 28, word: 30, one: 32, two: 33, cycle: 40, item: 48, shown: 64, queue: 96,
+  handle: 0, fault: 8, passed: 16, spot: 24, byte: 28, word: 30, one: 32, two: 33, cycle: 40, item: 48, shown: 64, queue: 96,
 };
 const QUEUE_SIZE = 2672, PLACES_SIZE = PLACES.queue + QUEUE_SIZE;
 const ONE = 1n, ANY_NUMBER = (1n << 64n) - 1n;
@@ -226,18 +226,18 @@ export class Keyboard {
 
   /** Runs for so many cycles, or, if watched, until the interrupt line rises. The status. */
   run(cycles, watched = false) {
-    return this.machine.call('kbd48_run', this.to.handle, BigInt(cycles), watched ? 1 : 0, this.to.passed, this.to.place);
+    return this.machine.call('kbd48_run', this.to.handle, BigInt(cycles), watched ? 1 : 0, this.to.passed, this.to.spot);
   }
 
   /** One step, which ends with ROSE if the interrupt line rose. */
-  step() { return this.machine.call('kbd48_run', this.to.handle, ONE, 1, this.to.passed, this.to.place); }
+  step() { return this.machine.call('kbd48_run', this.to.handle, ONE, 1, this.to.passed, this.to.spot); }
 
-  /** Runs until a step does what `mask` asks for (Stop), or to a limit of cycles or steps. `at` is the place of Stop.PLACE.
+  /** Runs until a step does what `mask` asks for (Stop), or to a limit of cycles or steps. `at` is the counter of Stop.COUNTER.
       Returns the status, DONE or STUCK; what the last step did of the mask, 0 if a limit ended the run; and how many cycles
       passed. */
   runTo(mask, cycles, { steps = ANY_NUMBER, at = 0 } = {}) {
     const { machine, to } = this, limits = [BigInt(cycles), BigInt(steps)];
-    const status = this.#expected(machine.call('kbd48_run_to', to.handle, mask, at, ...limits, to.byte, to.passed, to.place), Status.STUCK);
+    const status = this.#expected(machine.call('kbd48_run_to', to.handle, mask, at, ...limits, to.byte, to.passed, to.spot), Status.STUCK);
     return { status, met: this.#byte(PLACES.byte), passed: this.passed };
   }
 
@@ -269,7 +269,7 @@ export class Keyboard {
     let status, passed = 0, rises = 0;
     do {
       const left = BigInt(cycles) - BigInt(passed);
-      status = this.#expected(machine.call('kbd48_run_keys', to.handle, to.queue, left, watched ? 1 : 0, to.passed, to.place),
+      status = this.#expected(machine.call('kbd48_run_keys', to.handle, to.queue, left, watched ? 1 : 0, to.passed, to.spot),
         Status.ROSE, Status.STUCK, Status.KEY_DUE);
       passed += this.passed;
       rises += this.rises();
@@ -283,7 +283,7 @@ export class Keyboard {
 
   /** Where the processor is stuck, if the last run said STUCK. */
   get stuck() {
-    return { counter: this.#short(PLACES.place), byte: this.#byte(PLACES.place + 2) };
+    return { counter: this.#short(PLACES.spot), byte: this.#byte(PLACES.spot + 2) };
   }
 
   /** The host writes port 0x60 or 0x64. The status: DONE, or FULL. */

@@ -38,7 +38,7 @@ def check_refusals(layout, stuck):
         assert twin.run(100_000) == keyboard.run(100_000) and twin.processor == keyboard.processor
     with Keyboard.of_layout(layout, ready=True) as ready:
         assert ready.interrupt and ready.lost == 0 and ready.run_to(Stop(0), 400_000, steps=1).met == Stop(0)
-        assert ready.run_to(Stop.PLACE | Stop.RISE, 4096, at=7).met == Stop.PLACE and ready.processor.counter == 7
+        assert ready.run_to(Stop.COUNTER | Stop.RISE, 4096, at=7).met == Stop.COUNTER and ready.processor.counter == 7
     assert refusal(keyboard.run, 1).status == Status.NOT_OPEN
     assert twin.cycle > 100_000 and twin.wires.clock in (True, False)
     found = refusal(Keyboard.of_hex(stuck).run, 100)

@@ -21,7 +21,7 @@ static uint64_t answer(kbd48 *keyboard, kbd48_keys *keys, long number) {
     uint64_t what = random_below(16), x = random_below(256), cycles = random_below(3000), flag = random_below(2), passed, now;
     kbd48_registers registers;
     kbd48_processor inside;
-    kbd48_place place;
+    kbd48_spot spot;
     kbd48_item item;
     uint16_t word;
     uint8_t byte, other;
@@ -51,11 +51,11 @@ static uint64_t answer(kbd48 *keyboard, kbd48_keys *keys, long number) {
         kbd48_cycle(keyboard, &now);
         return (uint64_t)kbd48_queue_key(keys, now, x % 96, flag);
     case 12: {
-        int32_t status = kbd48_run_keys(keyboard, keys, cycles, flag, &passed, &place);
+        int32_t status = kbd48_run_keys(keyboard, keys, cycles, flag, &passed, &spot);
         return (uint64_t)status * 1000000 + passed;
     }
     case 13: {
-        int32_t status = kbd48_run_to(keyboard, x & 15, x * 8, cycles, 500, &byte, &passed, &place);
+        int32_t status = kbd48_run_to(keyboard, x & 15, x * 8, cycles, 500, &byte, &passed, &spot);
         return (uint64_t)status * 1000000 + passed + ((uint64_t)byte << 32);
     }
     case 14:
@@ -64,7 +64,7 @@ static uint64_t answer(kbd48 *keyboard, kbd48_keys *keys, long number) {
         kbd48_cell(keyboard, x % 128, &byte);
         return registers.status | registers.output << 8 | registers.command_byte << 16 | (uint64_t)inside.counter << 24 |
                (uint64_t)inside.a << 36 | (uint64_t)byte << 44;
-    default: return (uint64_t)kbd48_run(keyboard, cycles, flag, &passed, &place) * 1000000 + passed;
+    default: return (uint64_t)kbd48_run(keyboard, cycles, flag, &passed, &spot) * 1000000 + passed;
     }
 }
 

@@ -77,7 +77,7 @@ async function typing() {
 async function refusals() {
   const keyboard = await Keyboard.load(keyboardModule);
   assert.throws(() => keyboard.openLayout(Buffer.from('format = 1\n')), error => error instanceof Kbd48Error && error.status === Status.BAD_TEXT && error.number === 3);
-  assert.throws(() => keyboard.openHex(Buffer.from(':00')), error => error.status === Status.BAD_TEXT && error.place === 1 && error.number === 1);
+  assert.throws(() => keyboard.openHex(Buffer.from(':00')), error => error.status === Status.BAD_TEXT && error.position === 1 && error.number === 1);
   assert.throws(() => keyboard.lights(), error => error.status === Status.NOT_OPEN);
   keyboard.openLayout(layout);
   assert.equal(keyboard.key(96, true), Status.NO_SUCH_PLACE);
@@ -247,12 +247,12 @@ async function runs() {
     assert.deepEqual([met, passed, keyboard.wires()], [Stop.WIRES, gone, copy.wires()]);
   }
   for (let ticks = 0; ticks < 3; ticks++) {
-    const { met, passed } = keyboard.runTo(Stop.PLACE, 4096, { at: TICK });
-    assert.equal(met, Stop.PLACE);
+    const { met, passed } = keyboard.runTo(Stop.COUNTER, 4096, { at: TICK });
+    assert.equal(met, Stop.COUNTER);
     assert.equal(keyboard.inside().counter, TICK);
     assert.ok(ticks === 0 || Math.abs(passed - 2048) < 2, 'a tick has 2,048 cycles');
   }
-  assert.equal(keyboard.runTo(Stop.PLACE, 100, { at: 0x7FF }).met, 0, 'a limit');
+  assert.equal(keyboard.runTo(Stop.COUNTER, 100, { at: 0x7FF }).met, 0, 'a limit');
   keyboard.openHex(Buffer.from(':0100000001FE\n:00000001FF\n'));
   assert.deepEqual(keyboard.runTo(0, 10), { status: Status.STUCK, met: 0, passed: 0 });
   assert.deepEqual(keyboard.stuck, { counter: 0, byte: 1 });

@@ -14,7 +14,7 @@ export async function everyCall(keyboardModule: Uint8Array, layout: Uint8Array, 
   const pressed: StatusNumber = keyboard.key(place, true);
   if (pressed === Status.FULL) keyboard.step();
   const ran: StatusNumber = keyboard.run(400_000), watched: StatusNumber = keyboard.run(400_000, true);
-  const stopped: Stopped = keyboard.runTo(Stop.RISE | Stop.ITEM | Stop.WIRES | Stop.PLACE, 1000, { steps: 10, at: TICK });
+  const stopped: Stopped = keyboard.runTo(Stop.RISE | Stop.ITEM | Stop.WIRES | Stop.COUNTER, 1000, { steps: 10, at: TICK });
   const changed: StatusNumber = keyboard.watch(1000), pushed: StatusNumber = keyboard.queueKey(same, false, keyboard.cycle() + 10);
   const keys: KeysRan = keyboard.runKeys(1000, true);
   keyboard.releaseAll();

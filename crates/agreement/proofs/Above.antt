@@ -1,7 +1,7 @@
 -- A board above the joint board shows the same edges and reads bytes of the columns.
 use Rattle.std.proofs.Common.{◌≡◌, ◌<◌, ℕ, ◌+◌, ◌-◌, ◌*◌, List, slice_index, bit_xor, refl, ap, sym, ◌∙◌, subst}
-use Rattle.board_lines.specs.declared.event.Edge.{Edge}
-use Rattle.board_lines.specs.declared.event.HostEvent.{HostEvent}
+use Rattle.board_terms.specs.declared.event.Edge.{Edge}
+use Rattle.board_terms.specs.declared.event.HostEvent.{HostEvent}
 use Rattle.fw_keys.proofs.Begun.{columns_same}
 use Rattle.fw_keys.specs.Frameless.{changed_now, edges_now}
 use Rattle.fw_logic.specs.Ticks.{column_read}

@@ -1,8 +1,8 @@
 -- The run whatever the keys and the PC do: from each tick start to the next, and so the whole run.
 use Rattle.std.proofs.Common.{◌≡◌, ◌≤◌, ◌<◌, ℕ, suc, zero, ◌+◌, ◌-◌, ◌*◌, ◌==◌, List, All, length, true, Some, refl, ap, sym, ◌∙◌}
 use Rattle.std.proofs.Common.{subst, arith}
-use Rattle.board_lines.specs.declared.event.Edge.{Edge}
-use Rattle.board_lines.specs.declared.event.HostEvent.{HostEvent}
+use Rattle.board_terms.specs.declared.event.Edge.{Edge}
+use Rattle.board_terms.specs.declared.event.HostEvent.{HostEvent}
 use Rattle.fw_compile.specs.Image.{image_of}
 use Rattle.fw_kernel.specs.Places.{HasKernel}
 use Rattle.fw_kernel.specs.declared.labels.TheConstants.{TICK}
@@ -155,7 +155,7 @@ module _ (d : Board) (bytes : List ℕ) (hk : HasKernel bytes) (alike : IsSilent
     unfolding known
     begins stamp s = cycle_is 0 stamp s
 
-    -- each is a tick behind the one before
+    -- each is a tick after the one before
     one_on : (n : ℕ) → Next (known n).w (known (suc n)).w
     unfolding known
     one_on n = (onward (known n).w (known n).keeps).rest.goal

@@ -1,7 +1,7 @@
 -- The laws of the run whatever the keys and the PC do: it never stops, and each state keeps to the board.
 use Rattle.std.proofs.Common.{List}
-use Rattle.board_lines.specs.declared.event.Edge.{Edge}
-use Rattle.board_lines.specs.declared.event.HostEvent.{HostEvent}
+use Rattle.board_terms.specs.declared.event.Edge.{Edge}
+use Rattle.board_terms.specs.declared.event.HostEvent.{HostEvent}
 use Rattle.fw_compile.specs.Image.{image_of}
 use Rattle.fw_logic.proofs.Executing.{every_fit, every_late, every_soon}
 use Rattle.fw_logic.proofs.Waking.{Wakes, wakes}

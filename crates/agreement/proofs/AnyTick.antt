@@ -17,7 +17,7 @@ use Rattle.fw_keys.specs.Frameless.{cells_in, shown_by, layers_by, IsRepeating, 
 use Rattle.fw_keys.specs.Frameless.{clock_now, data_now, data_again}
 use Rattle.fw_keys.specs.State.{Inv}
 use Rattle.fw_link.proofs.Latches.{driven}
-use Rattle.fw_link.proofs.TickLatch.{before_data, within, behind, without_frame}
+use Rattle.fw_link.proofs.TickLatch.{before_data, within, afterwards, without_frame}
 use Rattle.fw_link.proofs.Wired.{IsReleased, lights_leave, spans_on, spans_as}
 use Rattle.fw_link.proofs.Wires.{look_within}
 use Rattle.fw_link.specs.Latch.{Frame, NoFrame, SentFrame, CutFrame, ReceivedFrame, frame_latch, frame_cycles}
@@ -35,7 +35,7 @@ use Rattle.kbd_model.specs.Keyboard.{Keyboard}
 use Rattle.kbd_model.specs.declared.meeting.Meeting.{Meeting}
 use Rattle.kbd_model.specs.declared.meeting.Meeting.TheVariants.{Sent, Cut, Got}
 use Rattle.agreement.proofs.AtLook.{one_byte, sent_at, received_at}
-use Rattle.agreement.proofs.Fitting.{Behind, clock, data_wire, data_second, clock_look, data_look}
+use Rattle.agreement.proofs.Fitting.{Afterwards, clock, data_wire, data_second, clock_look, data_look}
 use Rattle.agreement.proofs.Fitting.{sends_frame, cuts_frame, gets_frame}
 use Rattle.agreement.proofs.Ran.{Ran}
 use Rattle.agreement.proofs.Lit.{shine, from_lights, from_head}
@@ -56,7 +56,7 @@ module _ (d : Board) (bytes : List ℕ) (hk : HasKernel bytes) (alike : IsSilent
   abbrev kbd : Keyboard
   kbd = shown_by w.cpu.ram
 
-  -- what the laws of a tick's work are told: cells, ring and held keys; where the work begins; and its head's end
+  -- what the laws of a tick's work are reported: cells, ring and held keys; where the work begins; and its head's end
   abbrev f : ℕ → ℕ
   f = cells_in w.cpu.ram
 
@@ -81,7 +81,7 @@ module _ (d : Board) (bytes : List ℕ) (hk : HasKernel bytes) (alike : IsSilent
   abbrev shines : TimerState → d.State
   shines l = shine d bytes hk alike small low w s l
 
-  -- the lights stand above the wires' bits
+  -- the lights are above the wires' bits
   pub released : IsReleased v
   released =
       let lamps : f LIGHTS ≡ 16 * (f LIGHTS / 16 % 8) = s.inv.lamps in
@@ -156,9 +156,9 @@ module _ (d : Board) (bytes : List ℕ) (hk : HasKernel bytes) (alike : IsSilent
       (from_head d bytes hk alike small low w s frame l 26
       (λ i u. before_data w.cpu.p2 v frame i (omega (arith, u))))
 
-  -- a frame of n cycles, behind which the latch leaves both wires alone
+  -- a frame of n cycles, after which the latch leaves both wires alone
   abbrev framed : Frame → TimerState → Stage d.State → Type 0
-  framed frame l = Behind d v start (frame_latch frame v) (frame_cycles frame) (framing l)
+  framed frame l = Afterwards d v start (frame_latch frame v) (frame_cycles frame) (framing l)
 
   frame_came : (meeting : Meeting) (frame : Frame) (last_off : ℕ) (u : World d.State) → Fits last_off
       → Comes meeting last_off (framed frame) u → So meeting frame u
@@ -173,7 +173,7 @@ module _ (d : Board) (bytes : List ℕ) (hk : HasKernel bytes) (alike : IsSilent
       c.board_now ∙ ap (λ p. after_cycles c.n (start + (3 + c.from.off)) (d.cycle p) c.from.board) c.facts.p2
       ∙ ap (λ q. after_cycles c.n (start + (3 + c.from.off)) (d.cycle v) q) c.facts.board_is
       ∙ spans_on d start (latch frame) c.n (260 + n) (start + (3 + c.from.off)) v
-      (driven d (260 + start) (frame_latch frame v) n 0 (framing c.l)) w.board z (λ i l. behind w.cpu.p2 v frame i)
+      (driven d (260 + start) (frame_latch frame v) n 0 (framing c.l)) w.board z (λ i l. afterwards w.cpu.p2 v frame i)
       (in_frame frame c.l n (omega arith))
       ∙ ap (gone frame) i)
 

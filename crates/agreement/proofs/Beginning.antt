@@ -2,10 +2,10 @@
 use Rattle.std.proofs.Common.{◌≡◌, ◌≤◌, ◌<◌, ℕ, ◌+◌, ◌-◌, ◌%◌, ◌==◌, ◌&&◌, not, List, All, true, false, refl, ap}
 use Rattle.std.proofs.Common.{sym, ◌∙◌}
 use Rattle.std.proofs.Common.{subst, arith, slice_index}
-use Rattle.board_lines.specs.declared.event.Edge.{Edge}
-use Rattle.board_lines.specs.declared.event.HostEvent.{HostEvent}
-use Rattle.board_lines.specs.declared.lines.Lines.{Lines}
-use Rattle.board_lines.specs.Flips.{AreFlips}
+use Rattle.board_terms.specs.declared.event.Edge.{Edge}
+use Rattle.board_terms.specs.declared.event.HostEvent.{HostEvent}
+use Rattle.board_terms.specs.declared.lines.Lines.{Lines}
+use Rattle.board_terms.specs.Flips.{AreFlips}
 use Rattle.byte_time.specs.ByteTime.{quietly}
 use Rattle.byte_time.specs.declared.UnderWay.{UnderWay}
 use Rattle.ctl_link.specs.Link.{is_busy}
@@ -100,7 +100,7 @@ begins_let_go edges events bytes hk small m fine =
     (first_started W bytes hk small (low_over edges events W (λ s. s.under) above) m fine b)
 
 module _ (edges : List Edge) (events : List HostEvent) (noise : AreFlips events) where
-  -- what stands beside the processor stays as it is up to stamp 0, and then goes on at its wires
+  -- what is beside the processor stays as it is up to stamp 0, and then goes on at its wires
   beside : (first late all : ℕ) → first ≤ 4096 → first + late ≡ all
       → after_cycles all 0 ((joint_board edges events).cycle 255) beside_at_start
       ≡ record { pc = board_cycles events high late first pc_at_start; shown = 0 }

@@ -7,12 +7,12 @@ use Rattle.std.specs.List.{filter}
 use Rattle.std.proofs.lemmas.Bool.Decides.{nat_tests}
 use Rattle.std.proofs.lemmas.List.{append-nil, append_assoc}
 use Rattle.std.proofs.lemmas.Nat.Bits.{bit_at_xor}
-use Rattle.board_lines.specs.declared.event.Edge.{Edge}
-use Rattle.board_lines.specs.declared.event.HostEvent.{HostEvent}
-use Rattle.board_lines.specs.Edges.{of_place, last_of, is_made}
-use Rattle.board_lines.specs.Matrix.{all_up, column_rows, rows_of}
+use Rattle.board_terms.specs.declared.event.Edge.{Edge}
+use Rattle.board_terms.specs.declared.event.HostEvent.{HostEvent}
+use Rattle.board_terms.specs.Edges.{of_place, last_of, is_made}
+use Rattle.board_terms.specs.Matrix.{all_up, column_rows, rows_of}
 use Rattle.bits.proofs.Every.{and-left, and-right}
-use Rattle.board_lines.proofs.Shown.{shown_from, edges_shown}
+use Rattle.board_terms.proofs.Shown.{shown_from, edges_shown}
 use Rattle.fw_keys.specs.Edges.{row_edges, column_edges, tick_edges}
 use Rattle.fw_keys.specs.Frameless.{shown_by, edges_now}
 use Rattle.fw_logic.specs.Ticks.{column_read}
@@ -22,7 +22,7 @@ use Rattle.fw_logic.specs.Scan.{in_tick}
 use Rattle.joint_run.specs.Joint.{Beside, joint_board, joint_pins, keys_at}
 use Rattle.joint_run.specs.Run.{Board, World}
 use Rattle.kbd_model.specs.Keyboard.{is_held}
-use Rattle.board_lines.proofs.Shown.{skip, keep}
+use Rattle.board_terms.proofs.Shown.{skip, keep}
 use Rattle.link_model.proofs.Edges.{are_at, filter_same}
 use Rattle.link_model.specs.TickEdges.{by_place, change_at, is_down, shown, shown_at}
 use Rattle.bits.specs.Bits.{bit}
@@ -95,22 +95,22 @@ rows_by b =
     + (if b 4 then 0 else 16) + (if b 5 then 0 else 32) + (if b 6 then 0 else 64) + (if b 7 then 0 else 128)
 
 -- whether its complement has a 1 there
-abbrev row_told : List Bool → ℕ → Bool
-row_told xs r = same (bit r (255 - rows_by (λ i. slice_index_or xs i false))) (slice_index_or xs r false)
+abbrev row_reported : List Bool → ℕ → Bool
+row_reported xs r = same (bit r (255 - rows_by (λ i. slice_index_or xs i false))) (slice_index_or xs r false)
 
 -- in each row
-abbrev rows_told : List Bool → Bool
-rows_told xs = every_below (row_told xs) 8
+abbrev rows_reported : List Bool → Bool
+rows_reported xs = every_below (row_reported xs) 8
 
 -- so it is whatever keys are down
-all_told : every_list 8 rows_told ≡ true
-all_told = refl
+all_reported : every_list 8 rows_reported ≡ true
+all_reported = refl
 
 -- the complement of the rows has a 1 where a key is down
 bit_of_rows : (b : ℕ → Bool) (r : ℕ) → r < 8 → bit r (255 - rows_by b) ≡ b r
 bit_of_rows b r l =
     same_is (bit r (255 - rows_by b)) (slice_index_or (flags b 8) r false)
-    (at_each (row_told (flags b 8)) 8 (at_list 8 rows_told all_told b) r l)
+    (at_each (row_reported (flags b 8)) 8 (at_list 8 rows_reported all_reported b) r l)
     ∙ flags_at b 8 r l
 
 -- and so has that of a column
@@ -234,7 +234,7 @@ module _ (held now : ℕ → Bool) (old new : ℕ → ℕ)
       ∙ ap (λ b. if differ (held p) b then (p, b) ∷ rest else rest) (now_is c r lc lr)
       ∙ change_is p (held p) (now p) rest
 
-  -- the rows of a column, behind what the places below show
+  -- the rows of a column, after what the places below show
   rows_shown : (c r n : ℕ) → c < 12 → r + n ≡ 8
       → by_place (shown_at held now) (8 * c + r) ++ row_edges (8 * c) r n (changed c) (new c)
       ≡ by_place (shown_at held now) (8 * c + 8)

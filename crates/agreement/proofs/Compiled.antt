@@ -31,7 +31,7 @@ silent_at_fn layout place is has = keys.silent_at_fn layout is place has
 pub has_kernel : (layout : KeyLayout) → HasKernel (image_of layout)
 has_kernel layout = image.has_kernel layout
 
--- what stands behind the codes is the layout's rate
+-- what is after the codes is the layout's rate
 pub has_rate : (layout : KeyLayout) → slice_index (image_of layout) rate_at ≡ layout.rate
 has_rate layout = image.rate_read layout
 

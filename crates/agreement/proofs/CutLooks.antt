@@ -1,9 +1,9 @@
--- The first look that finds the clock low: the controller began to pull it behind the look before.
+-- The first look that finds the clock low: the controller began to pull it after the look before.
 use Rattle.std.proofs.Common.{◌≡◌, ◌≤◌, ◌<◌, ◌⊎◌, inl, inr, ℕ, suc, ◌+◌, ◌-◌, ◌*◌, List, Bool, true, false, nat_lt, Some}
 use Rattle.std.proofs.Common.{refl, ap, sym, ◌∙◌, arith}
 use Rattle.std.proofs.lemmas.Bool.Decides.{nat_tests}
-use Rattle.board_lines.specs.declared.event.HostEvent.{HostEvent}
-use Rattle.board_lines.specs.declared.lines.Lines.{Lines}
+use Rattle.board_terms.specs.declared.event.HostEvent.{HostEvent}
+use Rattle.board_terms.specs.declared.lines.Lines.{Lines}
 use Rattle.ctl_link.specs.Pulls.{pulled}
 use Rattle.ctl_link.specs.declared.link.Link.TheVariants.{Free}
 use Rattle.ctl_wire.proofs.Pulls.{pulled_is_low}
@@ -39,19 +39,19 @@ module _ (events : List HostEvent) (v start : ℕ) (released : IsReleased v) (b 
   abbrev whole : ℕ → Lines
   whole = lines_by (SentFrame byte) v start released
 
-  -- the PC's side so many cycles behind the tick's look at the clock
+  -- the PC's side so many cycles after the tick's look at the clock
   abbrev at_cycle : ℕ → Pc
   at_cycle n = board_cycles events whole n (256 + start) b
 
   abbrev lets : ℕ → Bool
   lets look = lets_at events whole start b look
 
-  -- at a look that is the first, the controller pulls the clock since a cycle behind the looks before
+  -- at a look that is the first, the controller pulls the clock since a cycle after the looks before
   pub record Since (look : ℕ) : Type 0 where
     pub since : ℕ
     pub pulls : pulled (at_cycle (4 + look)).side.port.link ≡ Some since
     pub from : start + 256 ≤ since
-    pub behind : (earlier : ℕ) → IsLook earlier → earlier < look → start + (260 + earlier) ≤ since
+    pub afterwards : (earlier : ℕ) → IsLook earlier → earlier < look → start + (260 + earlier) ≤ since
     pub not_last : look < 344
 
   up : (o : ℕ) → 256 + start ≤ o → o < 288 + start → (whole o).clk ≡ true
@@ -125,7 +125,7 @@ module _ (events : List HostEvent) (v start : ℕ) (released : IsReleased v) (b 
         since = p.0;
         pulls = ap (λ o. pulled (at_cycle (4 + o)).side.port.link) e ∙ p.1;
         from = omega (arith, from);
-        behind = λ earlier is l. absurd (no_earlier earlier is (omega (arith, e, l)));
+        afterwards = λ earlier is l. absurd (no_earlier earlier is (omega (arith, e, l)));
         not_last = omega (arith, e);
       }
     where
@@ -142,7 +142,7 @@ module _ (events : List HostEvent) (v start : ℕ) (released : IsReleased v) (b 
         since = p.0;
         pulls = ap (λ o. pulled (at_cycle (4 + o)).side.port.link) e ∙ p.1;
         from = omega (arith, from);
-        behind = λ earlier is l. (let one : earlier ≤ 8 = up_to_eight earlier is (omega (arith, e, l)) in omega (arith, one, from));
+        afterwards = λ earlier is l. (let one : earlier ≤ 8 = up_to_eight earlier is (omega (arith, e, l)) in omega (arith, one, from));
         not_last = omega (arith, e);
       }
     where
@@ -167,7 +167,7 @@ module _ (events : List HostEvent) (v start : ℕ) (released : IsReleased v) (b 
                   ∙ ap (λ (c : Pc). pulled c.side.port.link) more
                   ∙ (pulled_span events whole 18 (32 + (256 + start)) (at_cycle 32) p.0 p.1 (omega (arith, from))).1;
               from = omega (arith, from);
-              behind = λ earlier is l. (let one : earlier ≤ 26 = up_to_second earlier is (omega (arith, at, l)) in omega (arith, one, from));
+              afterwards = λ earlier is l. (let one : earlier ≤ 26 = up_to_second earlier is (omega (arith, at, l)) in omega (arith, one, from));
               not_last = omega (arith, at);
             }
       ]
@@ -179,7 +179,7 @@ module _ (events : List HostEvent) (v start : ℕ) (released : IsReleased v) (b 
       up_to_second earlier (inr (inr (k, few, inr q))) l = absurd (omega (arith, q, l))
   before_edge gone look (inr (inr (k, few, inr e))) early before low = absurd (omega (arith, e, early))
 
-  -- the PC's side at a look, by the cycles behind the first edge
+  -- the PC's side at a look, by the cycles after the first edge
   as_look : (look n : ℕ) → look ≡ 28 + n
       → pulled (at_cycle (4 + look)).side.port.link
       ≡ pulled (board_cycles events whole n (288 + start) (at_meeting events whole start b)).side.port.link
@@ -235,7 +235,7 @@ module _ (events : List HostEvent) (v start : ℕ) (released : IsReleased v) (b 
             | inl late ↦ omega (arith, late)
             | inr earlier ↦ omega (arith, earlier.2)
           ];
-          behind = λ earlier is l.
+          afterwards = λ earlier is l.
               let most = up_to_cell k earlier is (omega (arith, e, l)) in
               elim way as (λ q. start + (260 + earlier) ≤ off.since) [
                 | inl late ↦ omega (arith, late, most.0)
@@ -268,7 +268,7 @@ module _ (events : List HostEvent) (v start : ℕ) (released : IsReleased v) (b 
           since = off.since;
           pulls = as_look look (32 * k + suc 27) (omega (arith, e)) ∙ off.pulls;
           from = omega (arith, least);
-          behind = λ earlier is l.
+          afterwards = λ earlier is l.
               (let near : earlier ≤ 46 + 32 * k = up_to_first k earlier is (omega (arith, e, l)) in omega (arith, near, least));
           not_last = omega (arith, e, inside);
         }

@@ -1,10 +1,10 @@
--- Where a frame is cut: its look is the first behind the cycle in which the controller began to pull the clock.
+-- Where a frame is cut: its look is the first after the cycle in which the controller began to pull the clock.
 use Rattle.std.proofs.Common.{◌≡◌, ◌≤◌, ◌<◌, ◌⊎◌, inl, inr, ℕ, ◌+◌, List, Bool, true, false, Some, None}
 use Rattle.std.proofs.Common.{refl, ap, ◌∙◌, arith}
 use Rattle.std.specs.declared.option.Option.{Option}
-use Rattle.board_lines.specs.declared.event.Edge.{Edge}
-use Rattle.board_lines.specs.declared.event.HostEvent.{HostEvent}
-use Rattle.board_lines.specs.declared.lines.Lines.{Lines}
+use Rattle.board_terms.specs.declared.event.Edge.{Edge}
+use Rattle.board_terms.specs.declared.event.HostEvent.{HostEvent}
+use Rattle.board_terms.specs.declared.lines.Lines.{Lines}
 use Rattle.ctl_link.specs.Pulls.{pulled}
 use Rattle.ctl_link.specs.declared.link.Link.{Link}
 use Rattle.ctl_link.specs.declared.link.Link.TheVariants.{Free, Hold, Ask, Request, Busy}
@@ -60,7 +60,7 @@ module _ (events : List HostEvent) (latch start : ℕ) (released : IsReleased la
                 (omega arith))
                 ∙ known.pulls,
             known.from,
-            known.behind,
+            known.afterwards,
           )
 
   abbrev each : ℕ → Frame

@@ -4,10 +4,10 @@ use Rattle.std.proofs.Common.{◌≡◌, ◌≤◌, ◌<◌, ◌⊎◌, inl, inr
 use Rattle.std.proofs.Common.{None, length, slice_index, refl, ap, sym, ◌∙◌, subst, arith}
 use Rattle.std.specs.declared.option.Option.{Option}
 use Rattle.std.proofs.lemmas.Bool.Decides.{nat_tests}
-use Rattle.board_lines.specs.Flips.{AreFlips}
-use Rattle.board_lines.specs.declared.event.Edge.{Edge}
-use Rattle.board_lines.specs.declared.event.HostEvent.{HostEvent}
-use Rattle.board_lines.specs.declared.lines.Lines.{Lines}
+use Rattle.board_terms.specs.Flips.{AreFlips}
+use Rattle.board_terms.specs.declared.event.Edge.{Edge}
+use Rattle.board_terms.specs.declared.event.HostEvent.{HostEvent}
+use Rattle.board_terms.specs.declared.lines.Lines.{Lines}
 use Rattle.byte_time.specs.ByteTime.{meeting_in, meeting_by, meeting_of}
 use Rattle.byte_time.specs.declared.UnderWay.{UnderWay}
 use Rattle.byte_time.specs.declared.meeting.Meeting.{Meeting}
@@ -196,7 +196,7 @@ module _ (edges : List Edge) (events : List HostEvent) (d : Board) (to : d.State
                   cut_ticked events v w.cycle released rest k look all byte first.look first.is (early gone) free gone
             ]
           where
-            -- up to the meeting the lines are those of the whole frame, where the look is behind it
+            -- up to the meeting the lines are those of the whole frame, where the look is after it
             at_edge : 28 ≤ first.look + 2 → at_meeting events here w.cycle look ≡ at_meeting events whole w.cycle look
             at_edge l = cut_sides v w.cycle byte released events first.look 32 (256 + w.cycle) look first.is (omega (arith, l))
 

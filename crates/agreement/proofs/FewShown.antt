@@ -7,10 +7,10 @@ use Rattle.std.specs.List.{filter}
 use Rattle.std.proofs.lemmas.Bool.Decides.{nat_tests}
 use Rattle.std.proofs.lemmas.List.{length-append}
 use Rattle.bits.proofs.Every.{and-left, and-right}
-use Rattle.board_lines.proofs.Shown.{skip, keep}
-use Rattle.board_lines.specs.declared.event.Edge.{Edge}
-use Rattle.board_lines.specs.Edges.{of_place, last_of, AreInOrder}
-use Rattle.board_lines.specs.Laws.{ArePlaces}
+use Rattle.board_terms.proofs.Shown.{skip, keep}
+use Rattle.board_terms.specs.declared.event.Edge.{Edge}
+use Rattle.board_terms.specs.Edges.{of_place, last_of, AreInOrder}
+use Rattle.board_terms.specs.Laws.{ArePlaces}
 use Rattle.key_file.specs.Accepted.{IsThin}
 use Rattle.link_model.proofs.Edges.{are_at, filter_same}
 use Rattle.link_model.proofs.Few.{no_longer, four}
@@ -132,7 +132,7 @@ read_by start p e = nat_le e.stamp (start + 16 + 16 * (p / 8))
 abbrev read_in : ℕ → ℕ → Edge → Bool
 read_in before now e = read_by now e.place e && not (read_by before e.place e)
 
--- a tick behind another
+-- a tick after another
 later_few : (edges : List Edge) (n before now base : ℕ) → ArePlaces edges → AreInOrder (edges_from n edges)
     → IsThin (edges_from n edges) → ArePlaces (edges_from n edges)
     → before ≤ now → base ≡ before + 16 → now ≤ before + 2049

@@ -24,7 +24,7 @@ use Rattle.fw_link.proofs.Sending.{sending}
 use Rattle.fw_link.proofs.Wired.{IsReleased}
 use Rattle.fw_logic.proofs.Block.{memory, scratched, begin_at, At}
 use Rattle.fw_logic.proofs.Blocks.{absolute, joined}
-use Rattle.fw_logic.proofs.Clock.{IsFree}
+use Rattle.fw_logic.proofs.TimerParts.{IsFree}
 use Rattle.fw_logic.proofs.Kernel.{kernel_in}
 use Rattle.fw_logic.proofs.Leads.{Leads}
 use Rattle.fw_logic.proofs.Path.{Stage}
@@ -37,18 +37,18 @@ use Rattle.agreement.proofs.Leaves.{Leaves, sent_leaves, cut_leaves, got_leaves,
 use Rattle.agreement.proofs.Looking.{looked_in, Looked, with_frame, to_send, to_got}
 
 -- R5 says whether the parity was right
-told : (right : Bool) → not (255 * digit right == 0) ≡ right
-told true = refl
-told false = refl
+reported : (right : Bool) → not (255 * digit right == 0) ≡ right
+reported true = refl
+reported false = refl
 
 -- a frame of n cycles has passed: the latch is released, and the board has gone on by the frame's latch
-pub record Behind (d : Board) (v start : ℕ) (frame : ℕ → ℕ) (n : ℕ) (entered : d.State) (e : Stage d.State)
+pub record Afterwards (d : Board) (v start : ℕ) (frame : ℕ → ℕ) (n : ℕ) (entered : d.State) (e : Stage d.State)
     : Type 0 where
   pub p2 : e.cpu.p2 ≡ v
   pub off : e.off ≡ 257 + n
   pub board_is : e.board ≡ driven d (260 + start) frame n 0 entered
 
--- in a tick from `start`, whose third instruction is 3 cycles behind
+-- in a tick from `start`, whose third instruction is 3 cycles after
 module _ (d : Board) (bytes : List ℕ) (hk : HasKernel bytes) (alike : IsSilentAlike bytes) (small : All IsByte bytes)
     (low : (p1 p2 c : ℕ) (s : d.State) → (d.pins p1 p2 c s).bus < 256) (held : List Bool)
     (y : ℕ) (m : Cpu) (board : d.State) (f : ℕ → ℕ) (ring : List ℕ) (start : ℕ) (here : y ≡ start + 3)
@@ -98,7 +98,7 @@ module _ (d : Board) (bytes : List ℕ) (hk : HasKernel bytes) (alike : IsSilent
   abbrev pub data_look : ℕ → Bool
   data_look k = (d.pins 44 v (260 + start + (28 + 32 * k + 18)) (passed (received_latch v) (28 + 32 * k + 18))).t1
 
-  -- the second look at data, told from where a frame begins
+  -- the second look at data, reported from where a frame begins
   second_is : (d.pins 44 v (260 + start + 26) (after_cycles 26 0 (λ o. d.cycle v (260 + start + o)) entered)).t1 ≡ data_second
   second_is =
       let at : 260 + start + 26 ≡ y + 231 + 52 = omega (arith, here) in
@@ -135,7 +135,7 @@ module _ (d : Board) (bytes : List ℕ) (hk : HasKernel bytes) (alike : IsSilent
 
   abbrev Law : ℕ → ℕ → (ℕ → ℕ) → ℕ → (ℕ → ℕ → (ℕ → ℕ) → Type 0) → Type 0
   Law end max frame n R =
-      FrameLaw d bytes hk alike small low held y m board f ring end max (Behind d v start frame n entered) R
+      FrameLaw d bytes hk alike small low held y m board f ring end max (Afterwards d v start frame n entered) R
 
   -- the looks and the frame are what any tick wants of a frame
   by_frame : (pc end n max : ℕ) (latch : ℕ → ℕ) (leaves : (ℕ → ℕ) → ℕ → ℕ) (R : ℕ → ℕ → (ℕ → ℕ) → Type 0)
@@ -144,7 +144,7 @@ module _ (d : Board) (bytes : List ℕ) (hk : HasKernel bytes) (alike : IsSilent
   by_frame pc end n max latch leaves R room kept look frame registers m' board' r4 r5 is where_board offers safe =
       let g : ℕ → ℕ = cells r4 r5 in
       let now : ℕ → ℕ = leaves (looked_in g) in
-      let F : Stage d.State → Type 0 = Behind d v start latch n entered in
+      let F : Stage d.State → Type 0 = Afterwards d v start latch n entered in
       let Q : Stage d.State → Type 0 = Framed d bytes hk alike small low held y m board f ring end max F (R r4 r5) g in
       let c : Cpu = at_tested r4 r5 m' in
       let begin : Cpu → d.State → Stage d.State = λ u q. begin_at d TESTED g ring u q in
@@ -219,4 +219,4 @@ module _ (d : Board) (bytes : List ℕ) (hk : HasKernel bytes) (alike : IsSilent
         (λ r4 r5 c offers less ok acc.
         received_frame d bytes hk (260 + start) (entry GOT r4 r5 c) entered (looked_in (cells r4 r5)) ring released acc
         ok (second_is ∙ still))
-        (λ r4 r5 offers. (is, told (right_in data_look) ∙ right))
+        (λ r4 r5 offers. (is, reported (right_in data_look) ∙ right))

@@ -2,8 +2,8 @@
 -- columns show.
 use Rattle.std.proofs.Common.{◌≡◌, ◌≤◌, ◌<◌, ℕ, suc, zero, ◌+◌, ◌-◌, ◌*◌, Bool, true, List, length, Some}
 use Rattle.std.proofs.Common.{refl, ap, sym, ◌∙◌, subst, arith}
-use Rattle.board_lines.specs.declared.event.Edge.{Edge}
-use Rattle.board_lines.specs.declared.event.HostEvent.{HostEvent}
+use Rattle.board_terms.specs.declared.event.Edge.{Edge}
+use Rattle.board_terms.specs.declared.event.HostEvent.{HostEvent}
 use Rattle.byte_time.specs.declared.meeting.Meeting.{Meeting}
 use Rattle.fw_kernel.specs.declared.labels.TheConstants.{TICK}
 use Rattle.fw_logic.proofs.Numbers as numbers
@@ -48,28 +48,28 @@ module _ (S : Type 0) (bytes : List ℕ) (edges : List Edge) (events : List Host
   d = joint_board edges events
 
   -- a start with the model's state there; its tick shows few
-  pub record Stand (k : ℕ) : Type 0 where
+  pub record Station (k : ℕ) : Type 0 where
     pub w : World Beside
     pub m : Whole S
     pub time : IsOnTime (n + k) w
     pub ties : R w m
     pub few : length (shown (kb.held m.keys) (columns_in edges w.cycle)) ≤ 4
 
-  punctual : (k : ℕ) (s : Stand k) → InTime (n + k) s.w
+  punctual : (k : ℕ) (s : Station k) → InTime (n + k) s.w
   punctual k s = on_time (n + k) s.w s.time (late s.w s.m s.ties).0 (late s.w s.m s.ties).1
 
-  -- the run comes to the next start
-  onward : (k : ℕ) (s : Stand k) → Tick d TICK bytes s.w
+  -- the run reaches the next start
+  onward : (k : ℕ) (s : Station k) → Tick d TICK bytes s.w
       (λ e. IsOnTime (suc (n + k)) e × R e (by_columns kb edges events s.w.cycle e.cycle s.m))
   onward k s = goes_on (n + k) s.w s.m s.time s.ties s.few
 
-  first : Stand 0
+  first : Station 0
   first =
       let t : begin.cycle + 2 ≡ 4096 + 2048 * n + begin.cpu.pre = begins_on in
       record { w = begin; m = model; time = omega (arith, t); ties = begins_tied; few = begins_few }
 
   -- a key that is held is one that the tick before showed as down
-  shows_few : (k : ℕ) (s : Stand k) (e : World Beside) → IsOnTime (suc (n + k)) e → (m : Whole S) → R e m
+  shows_few : (k : ℕ) (s : Station k) (e : World Beside) → IsOnTime (suc (n + k)) e → (m : Whole S) → R e m
       → ((p : ℕ) → p < 96 → kb.held m.keys p ≡ columns_in edges s.w.cycle p)
       → length (shown (kb.held m.keys) (columns_in edges e.cycle)) ≤ 4
   shows_few k s e at m tie held =
@@ -82,7 +82,7 @@ module _ (S : Type 0) (bytes : List ℕ) (edges : List Edge) (events : List Host
       (later k (s.w.cycle - 4096) (e.cycle - 4096) (as_prompt (n + k) s.w (punctual k s))
       (as_prompt (suc (n + k)) e (on_time (suc (n + k)) e at (late e m tie).0 (late e m tie).1)))
 
-  next : (k : ℕ) → Stand k → Stand (suc k)
+  next : (k : ℕ) → Station k → Station (suc k)
   next k s =
       let c = (onward k s).rest in
       let t : c.end.cycle + 2 ≡ 4096 + 2048 * suc (n + k) + c.end.cpu.pre = c.goal.0 in
@@ -96,39 +96,39 @@ module _ (S : Type 0) (bytes : List ℕ) (edges : List Edge) (events : List Host
             (fits s.w s.m s.ties) l);
       }
 
-  pub stand : (k : ℕ) → Stand k
-  stand zero = first
-  stand (suc k) = next k (stand k)
+  pub station : (k : ℕ) → Station k
+  station zero = first
+  station (suc k) = next k (station k)
 
   abbrev pub starts : ℕ → ℕ
-  starts k = (stand k).w.cycle - 4096
+  starts k = (station k).w.cycle - 4096
 
-  cycle_is : (k : ℕ) → (stand k).w.cycle ≡ 4096 + starts k
-  cycle_is k = (punctual k (stand k)).stamp
+  cycle_is : (k : ℕ) → (station k).w.cycle ≡ 4096 + starts k
+  cycle_is k = (punctual k (station k)).stamp
 
   pub prompt : (k : ℕ) → IsPrompt (n + k) (starts k)
-  prompt k = as_prompt (n + k) (stand k).w (punctual k (stand k))
+  prompt k = as_prompt (n + k) (station k).w (punctual k (station k))
 
   -- the model's state is what the model says from the first start on
-  model_first : (stand 0).m ≡ model
-  unfolding stand first
+  model_first : (station 0).m ≡ model
+  unfolding station first
   model_first = refl
 
-  pub begins_there : (stand 0).w ≡ begin
-  unfolding stand first
+  pub begins_there : (station 0).w ≡ begin
+  unfolding station first
   begins_there = refl
 
-  model_next : (k : ℕ) → (stand (suc k)).m
-      ≡ by_columns kb edges events (stand k).w.cycle (stand (suc k)).w.cycle (stand k).m
-  unfolding stand next
+  model_next : (k : ℕ) → (station (suc k)).m
+      ≡ by_columns kb edges events (station k).w.cycle (station (suc k)).w.cycle (station k).m
+  unfolding station next
   model_next k = refl
 
-  model_is : (k : ℕ) → (stand k).m ≡ model_from kb edges events starts model k
+  model_is : (k : ℕ) → (station k).m ≡ model_from kb edges events starts model k
   model_is zero = model_first
   model_is (suc k) =
-      let w : World Beside = (stand k).w in
-      let m : Whole S = (stand k).m in
-      let v : World Beside = (stand (suc k)).w in
+      let w : World Beside = (station k).w in
+      let m : Whole S = (station k).m in
+      let v : World Beside = (station (suc k)).w in
       let a : w.cycle ≡ 4096 + starts k = cycle_is k in
       let b : v.cycle ≡ 4096 + starts (suc k) = cycle_is (suc k) in
       let c : v.cycle - w.cycle - 609 ≡ starts (suc k) - starts k - 609 = omega (arith, a, b) in
@@ -139,33 +139,33 @@ module _ (S : Type 0) (bytes : List ℕ) (edges : List Edge) (events : List Host
       (starts (suc k) - starts k - 609) x) (model_is k)
 
   -- the run comes to each
-  run_next : (k : ℕ) → Tick d TICK bytes (stand k).w (λ e. e ≡ (stand (suc k)).w)
-  unfolding stand next
+  run_next : (k : ℕ) → Tick d TICK bytes (station k).w (λ e. e ≡ (station (suc k)).w)
+  unfolding station next
   run_next k =
-      let t = onward k (stand k) in
+      let t = onward k (station k) in
       let rest : Comes d TICK bytes t.first (λ e. e ≡ t.rest.end) =
       record { steps = t.rest.steps; end = t.rest.end; run = t.rest.run; goal = refl } in
       record { at = t.at; first = t.first; step = t.step; rest = rest }
 
-  nth : (k : ℕ) → IsNth d TICK bytes from k (stand k).w
+  nth : (k : ℕ) → IsNth d TICK bytes from k (station k).w
   nth zero = record { steps = comes.steps; end = comes.end; run = comes.run; goal = comes.goal ∙ sym begins_there }
-  nth (suc k) = ((stand k).w, nth k, run_next k)
+  nth (suc k) = ((station k).w, nth k, run_next k)
 
-  reached : (k : ℕ) → Reached d TICK bytes from k (stand k).w
-  reached k = numbers.nth_reached d TICK bytes from k (stand k).w (nth k)
+  reached : (k : ℕ) → Reached d TICK bytes from k (station k).w
+  reached k = numbers.nth_reached d TICK bytes from k (station k).w (nth k)
 
-  here : (k : ℕ) → at_tick d TICK (stand k).w ≡ true
-  here k = (onward k (stand k)).at
+  here : (k : ℕ) → at_tick d TICK (station k).w ≡ true
+  here k = (onward k (station k)).at
 
   pub never_stuck : (k : ℕ) → (w : World Beside) × (run_at d bytes from k ≡ Some w)
-  never_stuck = numbers.goes_on d TICK bytes from (λ k. ((stand k).w, reached k))
+  never_stuck = numbers.goes_on d TICK bytes from (λ k. ((station k).w, reached k))
 
   pub each : (k : ℕ) → IsStart d TICK bytes from k (starts k)
   each k =
       let r = reached k in
       record {
         steps = r.steps;
-        state = (stand k).w;
+        state = (station k).w;
         reached = r.run;
         at = here k;
         number = r.count;
@@ -177,7 +177,7 @@ module _ (S : Type 0) (bytes : List ℕ) (edges : List Edge) (events : List Host
       → ((k : ℕ) (w : World Beside) (m : Whole S) → IsOnTime (n + k) w → R w m → P k w m)
       → (k stamp : ℕ) (s : IsStart d TICK bytes from k stamp) → P k s.state (model_from kb edges events starts model k)
   at_starts P law k stamp s =
-      let at : Stand k = stand k in
+      let at : Station k = station k in
       let r = reached k in
       let same : at.w ≡ s.state =
       numbers.same_start d TICK bytes from r.steps s.steps at.w s.state r.run s.reached (here k) s.at

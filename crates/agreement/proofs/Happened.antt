@@ -1,9 +1,9 @@
 -- What a tick of the joint run comes to, whatever its meeting: the keyboard that memory shows is a tick of the model
 -- later, and the PC's side has gone on by the cycles at its wires.
 use Rattle.std.specs.Prelude.{◌≡◌, ℕ, ◌+◌, List}
-use Rattle.board_lines.specs.declared.event.Edge.{Edge}
-use Rattle.board_lines.specs.declared.event.HostEvent.{HostEvent}
-use Rattle.board_lines.specs.declared.lines.Lines.{Lines}
+use Rattle.board_terms.specs.declared.event.Edge.{Edge}
+use Rattle.board_terms.specs.declared.event.HostEvent.{HostEvent}
+use Rattle.board_terms.specs.declared.lines.Lines.{Lines}
 use Rattle.fw_keys.specs.Edges.{image_keys}
 use Rattle.fw_keys.specs.Frameless.{IsStarted, IsRepeating, shown_by, layers_by, layers_met, edges_now, latch_now}
 use Rattle.fw_link.specs.Latch.{Frame, tick_latch}

@@ -6,7 +6,7 @@ use Rattle.std.specs.declared.option.Option.{Option}
 use Rattle.std.proofs.lemmas.Bool.{eqb-true}
 use Rattle.std.proofs.lemmas.Bool.Decides.{nat_tests}
 use Rattle.std.proofs.lemmas.List.{get_or-set_same, get_or-set_other, length-set}
-use Rattle.board_lines.specs.Matrix.{turned}
+use Rattle.board_terms.specs.Matrix.{turned}
 use Rattle.fw_keys.proofs.Fold.{turned_all}
 use Rattle.fw_keys.specs.Frameless.{shown_by}
 use Rattle.kbd_model.specs.declared.meeting.Meeting.{Meeting as KeyboardMeeting}
@@ -160,7 +160,7 @@ turned_is (e ∷ es) held p long l =
     turned_is es (turned e.0 e.1 held) p (length-set held e.0 e.1 ∙ long) l
     ∙ ap (λ b. last_change es p b) (turned_at held e.0 p e.1 (omega (arith, long, l)) (e.0 == p) refl)
 
--- what the columns show is held behind the tick
+-- what the columns show is held after the tick
 pub holds_now : (layout : KeyLayout) (meeting : Meeting) (k : LayeredKeyboard) (now : ℕ → Bool) (p : ℕ) → HasPlaces k.keyboard → p < 96
     → (keyboard layout).held ((keyboard layout).ticked meeting (shown ((keyboard layout).held k) now) k) p ≡ now p
 holds_now layout meeting k now p has l =

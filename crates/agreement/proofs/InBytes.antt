@@ -2,9 +2,9 @@
 use Rattle.std.proofs.Common.{◌≡◌, ◌<◌, ℕ, suc, zero, ◌+◌, ◌-◌, List, Bool, true, false, not, ◌&&◌}
 use Rattle.std.proofs.Common.{subst}
 use Rattle.std.specs.Prelude.{is_some, slice_get}
-use Rattle.board_lines.specs.declared.event.HostEvent.{HostEvent}
+use Rattle.board_terms.specs.declared.event.HostEvent.{HostEvent}
 use Rattle.ctl_link.specs.declared.link.Link.TheVariants.{Request}
-use Rattle.ctl_link.specs.declared.port.Port.{Port}
+use Rattle.ctl_link.specs.declared.port.LinkEnd.{LinkEnd}
 use Rattle.ctl_link.specs.Link.{may_break}
 use Rattle.ctl_link.specs.Link.{broken_off}
 use Rattle.host_turn.specs.Host.{Host, event_turn, interrupts}
@@ -44,7 +44,7 @@ module _ (events : List HostEvent) (written : AreWritten events) where
       let first : Host = (event_turn now (slice_get events m.done) h).host in
       let event = event_in now (slice_get events m.done) h (writes_next events m.done written) b.0 in
       let read = read_in (interrupts now m.port.filled first) first event in
-      let p : Port UnderWay = port_by (turn_of events now m) m.port in
+      let p : LinkEnd UnderWay = port_by (turn_of events now m) m.port in
       settled_in now (broken_off is_open now p)
       (broken_in (may_break is_open p.link && not p.awaits && is_some p.core.input) now p (read, b.1))
 

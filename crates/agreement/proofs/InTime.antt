@@ -1,6 +1,6 @@
 -- A tick start on time keeps the cadence.
 use Rattle.std.proofs.Common.{◌≡◌, ◌≤◌, ℕ, ◌+◌, ◌-◌, ◌*◌, arith}
-use Rattle.board_lines.specs.Cadence.{IsNear}
+use Rattle.board_terms.specs.Cadence.{IsNear}
 use Rattle.joint_run.specs.Joint.{Beside}
 use Rattle.joint_run.specs.Run.{World}
 use Rattle.fw_logic.specs.Ticks.{IsOnTime}

@@ -14,7 +14,7 @@ use Rattle.fw_logic.proofs.Block.{put}
 use Rattle.fw_logic.proofs.Cells.{put_other}
 use Rattle.agreement.proofs.Looking.{looked_in}
 
--- the cells behind a frame, by those behind the looks
+-- the cells after a frame, by those after the looks
 pub record Leaves (leaves : (ℕ → ℕ) → ℕ → ℕ) : Type 0 where
   pub kept : (g : ℕ → ℕ) (i : ℕ) → 32 ≤ i → leaves (looked_in g) i ≡ g i
   pub stack : (g : ℕ → ℕ) → (leaves (looked_in g) 8 ≡ g 8) × (leaves (looked_in g) 9 ≡ g 9)
@@ -76,7 +76,7 @@ got_leaves byte right = record {
   stack = λ g. (refl, refl);
 }
 
--- a byte that is offered stands in R4, and R5 isn't 0
+-- a byte that is offered is in R4, and R5 isn't 0
 pub is_offered : (r4 r5 byte : ℕ) → offered_in r4 r5 ≡ Some byte → (r4 ≡ byte) × ((r5 == 0) ≡ false)
 is_offered r4 r5 byte h = by (r5 == 0) refl
   where

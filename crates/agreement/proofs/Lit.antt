@@ -1,8 +1,8 @@
 -- The board of a tick from the lights on: its first cycle may change the lights, and then they stay.
 use Rattle.std.proofs.Common.{◌≡◌, ◌≤◌, ◌<◌, ℕ, ◌+◌, List, All, drop, refl, ap, ◌∙◌, arith}
-use Rattle.board_lines.specs.declared.event.Edge.{Edge}
-use Rattle.board_lines.specs.declared.event.HostEvent.{HostEvent}
-use Rattle.board_lines.specs.declared.lines.Lines.{Lines}
+use Rattle.board_terms.specs.declared.event.Edge.{Edge}
+use Rattle.board_terms.specs.declared.event.HostEvent.{HostEvent}
+use Rattle.board_terms.specs.declared.lines.Lines.{Lines}
 use Rattle.fw_kernel.specs.Places.{HasKernel}
 use Rattle.fw_keys.proofs.Begun.{IsAnyStart}
 use Rattle.fw_keys.proofs.FramelessTick.{board3, held_before, cpu_at_head, shone_is}
@@ -77,12 +77,12 @@ module _ (edges : List Edge) (events : List HostEvent) (d : Board) (to : d.State
     (over : IsOver edges events d to) where
   -- where its joint board is known 24 cycles behind, it is known from there on, over lines that leave both wires to the
   -- latch
-  pub behind_look : (lines : ℕ → Lines) (v start y j : ℕ) (s : d.State) (b : Pc) → y + 24 ≡ 256 + start
+  pub after_look : (lines : ℕ → Lines) (v start y j : ℕ) (s : d.State) (b : Pc) → y + 24 ≡ 256 + start
       → to (after_cycles 24 y (d.cycle v) s) ≡ record { pc = b; shown = lights_of v }
       → ((o : ℕ) → 256 + start ≤ o → o < 256 + start + j → lines o ≡ latch_of v)
       → to (after_cycles (24 + j) y (d.cycle v) s)
       ≡ record { pc = board_cycles events lines j (256 + start) b; shown = lights_of v }
-  behind_look lines v start y j s b at is still =
+  after_look lines v start y j s b at is still =
       let there : Beside = record { pc = b; shown = lights_of v } in
       ap to (ticks_add 24 j y (d.cycle v) s)
       ∙ ticks_over edges events d to over j (y + 24) v (after_cycles 24 y (d.cycle v) s)
@@ -110,7 +110,7 @@ module _ (edges : List Edge) (events : List HostEvent) (d : Board) (to : d.State
         ticks_over edges events d to over 232 w.cycle w.cpu.p2 w.board
         ∙ still_wires edges events (λ o. latch_of w.cpu.p2) 232 w.cycle w.cpu.p2 (to w.board) lit (λ o a u. refl)
 
-    -- what stands beside the processor at the look at the clock
+    -- what is beside the processor at the look at the clock
     pub at_clock : to (after_cycles 24 (w.cycle + 232) (d.cycle v) (in_tick d w 232))
         ≡ record { pc = at_look edges events u; shown = lights_of v }
     at_clock =

@@ -8,7 +8,7 @@ use Rattle.fw_keys.proofs.Blocks.{fine_end}
 use Rattle.mcs48_ranges.specs.Sizes.{IsByte, IsFine}
 use Rattle.fw_logic.proofs.Block.{memory, scratched, begin_at, At}
 use Rattle.fw_logic.proofs.Blocks.{straight, absolute, from_stage}
-use Rattle.fw_logic.proofs.Clock.{IsFree}
+use Rattle.fw_logic.proofs.TimerParts.{IsFree}
 use Rattle.fw_logic.proofs.Kernel.{kernel_in}
 use Rattle.fw_logic.proofs.Leads.{Leads}
 use Rattle.fw_logic.proofs.Looks.{readied}
@@ -17,7 +17,7 @@ use Rattle.fw_logic.proofs.Short.{has_rows}
 use Rattle.fw_logic.proofs.Sound.{chain}
 use Rattle.joint_run.specs.Run.{Board, after_cycles}
 
--- the registers behind the looks
+-- the registers after the looks
 abbrev pub looked_in : (ℕ → ℕ) → ℕ → ℕ
 looked_in g = readied g
 
@@ -26,7 +26,7 @@ module _ (d : Board) (bytes : List ℕ) (has : HasKernel bytes) (z : ℕ) (m : C
   abbrev code : Code
   code = kernel_in true bytes
 
-  -- the board so many cycles behind
+  -- the board so many cycles after
   abbrev pub board_at : ℕ → d.State
   board_at n = after_cycles n z (d.cycle m.p2) board
 
@@ -37,7 +37,7 @@ module _ (d : Board) (bytes : List ℕ) (has : HasKernel bytes) (z : ℕ) (m : C
   abbrev pub data_wire : Bool
   data_wire = (d.pins m.p1 m.p2 (z + 24) (board_at 24)).t1
 
-  -- the looks end at a place, 26 cycles behind
+  -- the looks end at a place, 26 cycles after
   abbrev pub Looked : ℕ → Stage d.State → Type 0
   Looked to = At d (record m { f1 = false }) to (looked_in g) ring 26 (board_at 26)
 

@@ -1,7 +1,7 @@
 -- The model's tick by what the columns show, with no list of starts in it.
 use Rattle.std.specs.Prelude.{ℕ, ◌+◌, ◌-◌, ◌*◌, ◌/◌, Bool, List}
-use Rattle.board_lines.specs.declared.event.Edge.{Edge}
-use Rattle.board_lines.specs.declared.event.HostEvent.{HostEvent}
+use Rattle.board_terms.specs.declared.event.Edge.{Edge}
+use Rattle.board_terms.specs.declared.event.HostEvent.{HostEvent}
 use Rattle.byte_time.specs.ByteTime.{quietly}
 use Rattle.byte_time.specs.declared.UnderWay.{UnderWay}
 use Rattle.host_turn.specs.Run.{side_at_start}

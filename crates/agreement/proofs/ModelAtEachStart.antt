@@ -1,7 +1,7 @@
 -- From one law a tick to the whole run: each tick start of the run has the model's state beside it.
 use Rattle.std.proofs.Common.{◌≡◌, ◌≤◌, ◌<◌, ℕ, suc, zero, ◌+◌, ◌-◌, ◌*◌, Bool, true, false, List, length, Some}
 use Rattle.std.proofs.Common.{refl, ap, sym, ◌∙◌, subst, arith}
-use Rattle.board_lines.specs.Cadence.{KeepsCadence}
+use Rattle.board_terms.specs.Cadence.{KeepsCadence}
 use Rattle.byte_time.specs.declared.meeting.Meeting.{Meeting}
 use Rattle.fw_kernel.specs.declared.labels.TheConstants.{TICK}
 use Rattle.fw_logic.specs.JointRun.{KeepsTimeFrom}
@@ -49,7 +49,7 @@ module _ (S : Type 0) (from : World Beside) (bytes : List ℕ) (history : KeyHis
   in_time n w m time ties = on_time n w time (late w m ties).0 (late w m ties).1
 
   -- a start with the model's state there, and the stamp of the start before it, whose reads showed the keys held
-  record Stand (n : ℕ) : Type 0 where
+  record Station (n : ℕ) : Type 0 where
     pub w : World Beside
     pub m : Whole S
     pub time : IsOnTime n w
@@ -58,23 +58,23 @@ module _ (S : Type 0) (from : World Beside) (bytes : List ℕ) (history : KeyHis
     pub was : WasNear n ago
     pub held : HeldBefore history.edges (λ j. ago) n (kb.held m.keys)
 
-  -- and so is each start that stands here
-  punctual : (n : ℕ) (s : Stand n) → InTime n s.w
+  -- and so is each start that is here
+  punctual : (n : ℕ) (s : Station n) → InTime n s.w
   punctual n s = in_time n s.w s.m s.time s.ties
 
   -- its tick sees at most four edges
-  few : (n : ℕ) (s : Stand n) → length (shown (kb.held s.m.keys) (columns_in history.edges s.w.cycle)) ≤ 4
+  few : (n : ℕ) (s : Station n) → length (shown (kb.held s.m.keys) (columns_in history.edges s.w.cycle)) ≤ 4
   few n s =
       let t = punctual n s in
       at_most_four history ok n s.ago (s.w.cycle - 4096) s.w.cycle (kb.held s.m.keys) s.was t.near t.stamp s.held
 
-  -- and the run comes to the next start
-  onward : (n : ℕ) (s : Stand n) → Tick d TICK bytes s.w
+  -- and the run reaches the next start
+  onward : (n : ℕ) (s : Station n) → Tick d TICK bytes s.w
       (λ e. IsOnTime (suc n) e × R e (by_columns kb history.edges history.host s.w.cycle e.cycle s.m))
   onward n s = goes_on n s.w s.m s.time s.ties (few n s)
 
   -- the first start
-  first : Stand 0
+  first : Station 0
   first = record {
     w = begins.end;
     m = at_first kb history.host begins.end.cycle;
@@ -86,7 +86,7 @@ module _ (S : Type 0) (from : World Beside) (bytes : List ℕ) (history : KeyHis
   }
 
   -- and from each to the next
-  next : (n : ℕ) → Stand n → Stand (suc n)
+  next : (n : ℕ) → Station n → Station (suc n)
   next n s =
       let c = (onward n s).rest in
       record {
@@ -101,70 +101,70 @@ module _ (S : Type 0) (from : World Beside) (bytes : List ℕ) (history : KeyHis
       }
 
   -- every start, from the first one on
-  stand : (n : ℕ) → Stand n
-  stand zero = first
-  stand (suc n) = next n (stand n)
+  station : (n : ℕ) → Station n
+  station zero = first
+  station (suc n) = next n (station n)
 
   -- the model begins at the first start
-  model_first : (stand 0).m ≡ at_first kb history.host (stand 0).w.cycle
-  unfolding stand first
+  model_first : (station 0).m ≡ at_first kb history.host (station 0).w.cycle
+  unfolding station first
   model_first = refl
 
   -- and its tick goes from each start to the next
-  model_next : (n : ℕ) → (stand (suc n)).m
-      ≡ by_columns kb history.edges history.host (stand n).w.cycle (stand (suc n)).w.cycle (stand n).m
-  unfolding stand next
+  model_next : (n : ℕ) → (station (suc n)).m
+      ≡ by_columns kb history.edges history.host (station n).w.cycle (station (suc n)).w.cycle (station n).m
+  unfolding station next
   model_next n = refl
 
-  -- the run comes to the first start
-  run_first : Comes d TICK bytes from (λ e. e ≡ (stand 0).w)
-  unfolding stand first
+  -- the run reaches the first start
+  run_first : Comes d TICK bytes from (λ e. e ≡ (station 0).w)
+  unfolding station first
   run_first = record { steps = begins.steps; end = begins.end; run = begins.run; goal = refl }
 
   -- and from each to the next
-  run_next : (n : ℕ) → Tick d TICK bytes (stand n).w (λ e. e ≡ (stand (suc n)).w)
-  unfolding stand next
+  run_next : (n : ℕ) → Tick d TICK bytes (station n).w (λ e. e ≡ (station (suc n)).w)
+  unfolding station next
   run_next n =
-      let t = onward n (stand n) in
+      let t = onward n (station n) in
       let rest : Comes d TICK bytes t.first (λ e. e ≡ t.rest.end) =
       record { steps = t.rest.steps; end = t.rest.end; run = t.rest.run; goal = refl } in
       record { at = t.at; first = t.first; step = t.step; rest = rest }
 
   -- the stamps of the starts
   abbrev starts : ℕ → ℕ
-  starts n = (stand n).w.cycle - 4096
+  starts n = (station n).w.cycle - 4096
 
   -- a start's cycle is 4,096 past its stamp
-  cycle_is : (n : ℕ) → (stand n).w.cycle ≡ 4096 + starts n
-  cycle_is n = (punctual n (stand n)).stamp
+  cycle_is : (n : ℕ) → (station n).w.cycle ≡ 4096 + starts n
+  cycle_is n = (punctual n (station n)).stamp
 
   -- the starts keep the cadence
   cadence : KeepsCadence starts
-  cadence n = (punctual n (stand n)).near
+  cadence n = (punctual n (station n)).near
 
   -- the keys held at each start are those of the reads before it
-  held_is : (n : ℕ) → HeldBefore history.edges starts n (kb.held (stand n).m.keys)
+  held_is : (n : ℕ) → HeldBefore history.edges starts n (kb.held (station n).m.keys)
   held_is zero p l = ap (λ (m : Whole S). kb.held m.keys p) model_first ∙ none p l
   held_is (suc n) p l =
-      let s = stand n in
+      let s = station n in
       ap (λ (m : Whole S). kb.held m.keys p) (model_next n)
       ∙ so (meeting_from kb history.host s.w.cycle s.m) s.m.keys (columns_in history.edges s.w.cycle) p
       (fits s.w s.m s.ties) l
 
   -- so what the columns show are the tick's edges
-  changes_are : (n : ℕ) → shown (kb.held (stand n).m.keys) (columns_in history.edges (stand n).w.cycle)
+  changes_are : (n : ℕ) → shown (kb.held (station n).m.keys) (columns_in history.edges (station n).w.cycle)
       ≡ tick_edges starts history.edges n
   changes_are n =
-      let s = stand n in
+      let s = station n in
       edges_seen history ok starts n s.w.cycle (kb.held s.m.keys) (λ j l. cadence j) (cycle_is n) (held_is n)
 
   -- and the model's state is what the model says up to the start
-  model_is : (n : ℕ) → (stand n).m ≡ whole_at kb history.edges history.host starts n
+  model_is : (n : ℕ) → (station n).m ≡ whole_at kb history.edges history.host starts n
   model_is zero = model_first
   model_is (suc n) =
-      let w : World Beside = (stand n).w in
-      let m : Whole S = (stand n).m in
-      let v : World Beside = (stand (suc n)).w in
+      let w : World Beside = (station n).w in
+      let m : Whole S = (station n).m in
+      let v : World Beside = (station (suc n)).w in
       let a : w.cycle ≡ 4096 + starts n = cycle_is n in
       let b : v.cycle ≡ 4096 + starts (suc n) = cycle_is (suc n) in
       let c : v.cycle - w.cycle - 609 ≡ starts (suc n) - starts n - 609 = omega (arith, a, b) in
@@ -176,44 +176,44 @@ module _ (S : Type 0) (from : World Beside) (bytes : List ℕ) (history : KeyHis
       (starts (suc n) - starts n - 609) x) (model_is n)
 
   -- a start of the run, so many cycles late
-  abbrev IsStand : ℕ → World Beside → Type 0
-  IsStand l w = (n : ℕ) × (w ≡ (stand n).w) × (w.cpu.pre ≡ l + 2)
+  abbrev IsStation : ℕ → World Beside → Type 0
+  IsStation l w = (n : ℕ) × (w ≡ (station n).w) × (w.cpu.pre ≡ l + 2)
 
   -- such a start is in time
-  in_time_as : (n : ℕ) (w : World Beside) → w ≡ (stand n).w → InTime n w
-  in_time_as n w is = subst (λ (v : World Beside). InTime n v) (sym is) (punctual n (stand n))
+  in_time_as : (n : ℕ) (w : World Beside) → w ≡ (station n).w → InTime n w
+  in_time_as n w is = subst (λ (v : World Beside). InTime n v) (sym is) (punctual n (station n))
 
   -- one cycle late at most
-  late_by : (n : ℕ) (w : World Beside) → w ≡ (stand n).w
-      → (l : ℕ) × IsStand l w × (l ≤ 1) × (w.cycle ≡ 4096 + 2048 * n + l)
+  late_by : (n : ℕ) (w : World Beside) → w ≡ (station n).w
+      → (l : ℕ) × IsStation l w × (l ≤ 1) × (w.cycle ≡ 4096 + 2048 * n + l)
   late_by n w is =
-      let s = stand n in
+      let s = station n in
       let least : 2 ≤ w.cpu.pre = subst (λ (v : World Beside). 2 ≤ v.cpu.pre) (sym is) (late s.w s.m s.ties).0 in
       let t = in_time_as n w is in
       let pre : w.cpu.pre ≡ w.cpu.pre - 2 + 2 = omega (arith, least) in
       (w.cpu.pre - 2, (n, is, pre), t.most, t.cycle)
 
   -- the first start is such a start
-  clock_first : Comes d TICK bytes from (λ w. (l : ℕ) × IsStand l w × (l ≤ 1) × (w.cycle ≡ 4096 + l))
+  clock_first : Comes d TICK bytes from (λ w. (l : ℕ) × IsStation l w × (l ≤ 1) × (w.cycle ≡ 4096 + l))
   clock_first =
       let c = run_first in
       let r = late_by 0 c.end c.goal in
       let cycle : c.end.cycle ≡ 4096 + 2048 * 0 + r.0 = r.3 in
       record { steps = c.steps; end = c.end; run = c.run; goal = (r.0, r.1, r.2, omega (arith, cycle)) }
 
-  -- and behind each comes the next, 2,048 cycles later but for how late they are
-  clock_each : (l : ℕ) (w : World Beside) → IsStand l w → l ≤ 1
-      → Tick d TICK bytes w (λ v. (k : ℕ) × IsStand k v × (k ≤ 1) × (v.cycle + l ≡ w.cycle + 2048 + k))
+  -- and after each comes the next, 2,048 cycles later but for how late they are
+  clock_each : (l : ℕ) (w : World Beside) → IsStation l w → l ≤ 1
+      → Tick d TICK bytes w (λ v. (k : ℕ) × IsStation k v × (k ≤ 1) × (v.cycle + l ≡ w.cycle + 2048 + k))
   clock_each l w is most =
       let n : ℕ = is.0 in
-      let t = subst (λ (v : World Beside). Tick d TICK bytes v (λ e. e ≡ (stand (suc n)).w)) (sym is.1) (run_next n) in
+      let t = subst (λ (v : World Beside). Tick d TICK bytes v (λ e. e ≡ (station (suc n)).w)) (sym is.1) (run_next n) in
       let c = t.rest in
       let r = late_by (suc n) c.end c.goal in
       let here : w.cycle ≡ 4096 + 2048 * n + (w.cpu.pre - 2) = (in_time_as n w is.1).cycle in
       let pre : w.cpu.pre ≡ l + 2 = is.2 in
       let there : c.end.cycle ≡ 4096 + 2048 * suc n + r.0 = r.3 in
       let rest : Comes d TICK bytes t.first
-      (λ v. (k : ℕ) × IsStand k v × (k ≤ 1) × (v.cycle + l ≡ w.cycle + 2048 + k)) =
+      (λ v. (k : ℕ) × IsStation k v × (k ≤ 1) × (v.cycle + l ≡ w.cycle + 2048 + k)) =
       record {
         steps = c.steps;
         end = c.end;
@@ -223,47 +223,47 @@ module _ (S : Type 0) (from : World Beside) (bytes : List ℕ) (history : KeyHis
       record { at = t.at; first = t.first; step = t.step; rest = rest }
 
   -- the starts are a clockwork
-  clock : IsClockwork d bytes from IsStand
+  clock : IsClockwork d bytes from IsStation
   clock = record {
     first = clock_first;
     each = clock_each;
     serves = λ l w is.
         subst (λ (v : World Beside). (v.cpu.svc ≡ true) × (v.cpu.rb ≡ true)) (sym is.1)
-        (serves (stand is.0).w (stand is.0).m (stand is.0).ties);
+        (serves (station is.0).w (station is.0).m (station is.0).ties);
   }
 
   -- the run keeps its time
   pub keeps_time : KeepsTimeFrom from bytes history.edges history.host
   keeps_time = record {
-    goes_on = clockwork.never_stuck d bytes from IsStand clock;
-    none_early = clockwork.none_early d bytes from IsStand clock;
-    starts = λ n. (_, clockwork.starts d bytes from IsStand clock n);
-    near = clockwork.near d bytes from IsStand clock;
-    serves = clockwork.serving d bytes from IsStand clock;
-    ends = clockwork.ends d bytes from IsStand clock;
+    goes_on = clockwork.never_stuck d bytes from IsStation clock;
+    none_early = clockwork.none_early d bytes from IsStation clock;
+    starts = λ n. (_, clockwork.starts d bytes from IsStation clock n);
+    near = clockwork.near d bytes from IsStation clock;
+    serves = clockwork.serving d bytes from IsStation clock;
+    ends = clockwork.ends d bytes from IsStation clock;
   }
 
   -- each tick start of a number is the start of that number here
-  same_start : (n stamp : ℕ) (s : IsStart d TICK bytes from n stamp) → s.state ≡ (stand n).w
+  same_start : (n stamp : ℕ) (s : IsStart d TICK bytes from n stamp) → s.state ≡ (station n).w
   same_start n stamp s =
-      let k = clockwork.known d bytes from IsStand clock n in
+      let k = clockwork.known d bytes from IsStation clock n in
       let j : ℕ = k.set.0 in
-      let is : k.w ≡ (stand j).w = k.set.1 in
+      let is : k.w ≡ (station j).w = k.set.1 in
       let cycle : k.w.cycle ≡ 4096 + 2048 * n + k.late = k.cycle in
       let most : k.late ≤ 1 = k.most in
       let t = in_time_as j k.w is in
       let cycle_there : k.w.cycle ≡ 4096 + 2048 * j + (k.w.cpu.pre - 2) = t.cycle in
       let most_there : k.w.cpu.pre - 2 ≤ 1 = t.most in
       let same : j ≡ n = omega (arith, cycle, most, cycle_there, most_there) in
-      sym (clockwork.is_nth d bytes from IsStand clock n stamp s)
-      ∙ subst (λ i. k.w ≡ (stand i).w) same is
+      sym (clockwork.is_nth d bytes from IsStation clock n stamp s)
+      ∙ subst (λ i. k.w ≡ (station i).w) same is
 
   -- and it has the stamp of that one
   is_start : (n stamp : ℕ) → IsStart d TICK bytes from n stamp → IsStart d TICK bytes from n (starts n)
   is_start n stamp s =
       let cycle : s.state.cycle ≡ 4096 + stamp = s.cycle in
-      let there : (stand n).w.cycle ≡ 4096 + starts n = cycle_is n in
-      let same : s.state.cycle ≡ (stand n).w.cycle = ap (λ (v : World Beside). v.cycle) (same_start n stamp s) in
+      let there : (station n).w.cycle ≡ 4096 + starts n = cycle_is n in
+      let same : s.state.cycle ≡ (station n).w.cycle = ap (λ (v : World Beside). v.cycle) (same_start n stamp s) in
       let stamp_is : stamp ≡ starts n = omega (arith, cycle, there, same) in
       subst (λ t. IsStart d TICK bytes from n t) stamp_is s
 
@@ -287,7 +287,7 @@ module _ (S : Type 0) (from : World Beside) (bytes : List ℕ) (history : KeyHis
     starts,
     λ n. let s = keeps_time.starts n in is_start n s.0 s.1,
     λ n stamp s.
-        let at : Stand n = stand n in
+        let at : Station n = station n in
         subst (λ w. P w (whole_at kb history.edges history.host starts n)) (sym (same_start n stamp s))
         (subst (λ m. P at.w m) (model_is n) (law n at.w at.m at.time at.ties (few n at))),
   )

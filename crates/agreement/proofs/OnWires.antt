@@ -1,8 +1,8 @@
 -- A tick whose board has gone on by its latch, at the wires of the joint board.
 use Rattle.std.proofs.Common.{◌≡◌, ◌≤◌, ℕ, ◌+◌, ◌-◌, ◌*◌, List, refl, ap, sym, ◌∙◌, arith}
-use Rattle.board_lines.specs.declared.event.Edge.{Edge}
-use Rattle.board_lines.specs.declared.event.HostEvent.{HostEvent}
-use Rattle.board_lines.specs.declared.lines.Lines.{Lines}
+use Rattle.board_terms.specs.declared.event.Edge.{Edge}
+use Rattle.board_terms.specs.declared.event.HostEvent.{HostEvent}
+use Rattle.board_terms.specs.declared.lines.Lines.{Lines}
 use Rattle.fw_keys.specs.Frameless.{latch_now}
 use Rattle.fw_link.proofs.Board.{at_wires}
 use Rattle.fw_link.specs.Latch.{Frame, tick_latch}
@@ -70,10 +70,10 @@ module _ (edges : List Edge) (events : List HostEvent) (d : Board) (to : d.State
       ∙ lit_wires edges events (λ o. latch_of v) 23 (232 + x) v before (λ o l m. refl)
 
   -- and from there on
-  pub behind_clock : (k : ℕ)
+  pub after_clock : (k : ℕ)
       → to (driven d x latch (256 + k) 0 w.board)
       ≡ record { pc = board_cycles events lines k (256 + x) (at_look edges events u); shown = lights_of v }
-  behind_clock k =
+  after_clock k =
       let a : x + 256 ≡ 256 + x = omega arith in
       driven_over edges events d to over x latch (256 + k) 0 w.board
       ∙ ticks_add 256 k 0 (λ o. joint.cycle (latch o) (x + o)) (to w.board)
@@ -88,7 +88,7 @@ module _ (edges : List Edge) (events : List HostEvent) (d : Board) (to : d.State
       ≡ board_cycles events lines (4 + look) (256 + x) (at_look edges events u)
   at_clock_look look =
       let o : 260 + look ≡ 256 + (4 + look) = omega arith in
-      ap (λ n. (to (driven d x latch n 0 w.board)).pc) o ∙ ap (λ (t : Beside). t.pc) (behind_clock (4 + look))
+      ap (λ n. (to (driven d x latch n 0 w.board)).pc) o ∙ ap (λ (t : Beside). t.pc) (after_clock (4 + look))
 
   -- at the look of a cell, by the state at the first edge
   pub at_cell : (k : ℕ) → (to (driven d x latch (306 + 32 * k) 0 w.board)).pc
@@ -98,7 +98,7 @@ module _ (edges : List Edge) (events : List HostEvent) (d : Board) (to : d.State
       let e : 32 + (32 * k + 18) ≡ 50 + 32 * k = omega arith in
       let a : 32 + (256 + x) ≡ 288 + x = omega arith in
       let first : Pc = at_meeting events lines x (at_look edges events u) in
-      ap (λ n. (to (driven d x latch n 0 w.board)).pc) o ∙ ap (λ (t : Beside). t.pc) (behind_clock (50 + 32 * k))
+      ap (λ n. (to (driven d x latch n 0 w.board)).pc) o ∙ ap (λ (t : Beside). t.pc) (after_clock (50 + 32 * k))
       ∙ cycles_more events lines 32 (32 * k + 18) (50 + 32 * k) (256 + x) (at_look edges events u) e
       ∙ ap (λ c. board_cycles events lines (32 * k + 18) c first) a
 
@@ -116,4 +116,4 @@ module _ (edges : List Edge) (events : List HostEvent) (d : Board) (to : d.State
       is : (k : ℕ) → e.cycle ≡ 256 + x + k
           → to e.board
           ≡ record { pc = board_cycles events lines k (256 + x) (at_look edges events u); shown = lights_of v }
-      is k at = ap to (h.board (256 + k) (omega (arith, at))) ∙ behind_clock k
+      is k at = ap to (h.board (256 + k) (omega (arith, at))) ∙ after_clock k

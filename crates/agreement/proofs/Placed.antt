@@ -4,8 +4,8 @@ use Rattle.std.specs.Prelude.{All}
 use Rattle.std.specs.List.{filter}
 use Rattle.std.proofs.lemmas.Bool.{eqb-true}
 use Rattle.std.proofs.lemmas.List.Elements.{All-append, All-cons, All-nil}
-use Rattle.board_lines.specs.Edges.{of_place, last_of}
-use Rattle.board_lines.specs.declared.event.Edge.{Edge}
+use Rattle.board_terms.specs.Edges.{of_place, last_of}
+use Rattle.board_terms.specs.declared.event.Edge.{Edge}
 use Rattle.layout_reader.specs.Layouts.{KeyLayout, IsKeyLayout, HasEntry, is_fn_place}
 use Rattle.link_model.specs.TickEdges.{by_place, change_at, is_down, shown, shown_at}
 use Rattle.agreement.proofs.Compiled.{is_silent, silent_at_fn}

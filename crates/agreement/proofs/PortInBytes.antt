@@ -6,10 +6,10 @@ use Rattle.std.specs.Prelude.{if◌then◌else◌, nat_le, slice_get}
 use Rattle.std.specs.Option.{option_map_or}
 use Rattle.std.specs.declared.option.Option.{Option}
 use Rattle.std.proofs.lemmas.List.Elements.{All-head, All-tail}
-use Rattle.board_lines.specs.declared.event.HostAct.{HostAct}
-use Rattle.board_lines.specs.declared.event.HostAct.TheVariants.{Write60, Write64, Read60, Mask, Unmask, Take, Status}
-use Rattle.board_lines.specs.declared.event.HostAct.TheVariants.{Flip}
-use Rattle.board_lines.specs.declared.event.HostEvent.{HostEvent}
+use Rattle.board_terms.specs.declared.event.HostAct.{HostAct}
+use Rattle.board_terms.specs.declared.event.HostAct.TheVariants.{Write60, Write64, Read60, Mask, Unmask, Take, Status}
+use Rattle.board_terms.specs.declared.event.HostAct.TheVariants.{Flip}
+use Rattle.board_terms.specs.declared.event.HostEvent.{HostEvent}
 use Rattle.ctl_core.specs.Controller.{ControllerState, is_disabled, put_out}
 use Rattle.ctl_core.specs.Commands.{Taken, taken, taken_from, taken_by, passed, commanded, command_of}
 use Rattle.ctl_core.specs.Controller.{asks_again, gave_up}
@@ -28,7 +28,7 @@ use Rattle.ctl_core.specs.declared.controller.Did.TheVariants.{Nothing, ToKeyboa
 use Rattle.ctl_core.specs.declared.translation.Translated.{Translated}
 use Rattle.ctl_link.specs.declared.link.Link.{Link}
 use Rattle.ctl_link.specs.declared.link.Link.TheVariants.{Free, Hold, Ask, Request, Busy}
-use Rattle.ctl_link.specs.declared.port.Port.{Port}
+use Rattle.ctl_link.specs.declared.port.LinkEnd.{LinkEnd}
 use Rattle.ctl_link.specs.Link.{settled, asking, took_where, takes_input, held_since, link_after, received}
 use Rattle.host_turn.specs.Host.{Host, acted, acted_where, event_turn, read_by_bios, in_silence, is_done}
 use Rattle.byte_time.specs.declared.UnderWay.{UnderWay}
@@ -77,15 +77,15 @@ pub read_in : (reads : Bool) (h : Host) → HoldsByte h.core.input
 read_in true h i = i
 read_in false h i = i
 
--- what is told of an input taken: a byte for the keyboard is below 256
-abbrev TellsByte : Did → Type 0
-TellsByte Nothing = Unit {0}
-TellsByte (ToKeyboard byte) = byte < 256
-TellsByte (Output byte) = Unit {0}
-TellsByte (Pulse lines) = Unit {0}
+-- what is reported of an input taken: a byte for the keyboard is below 256
+abbrev SaysByte : Did → Type 0
+SaysByte Nothing = Unit {0}
+SaysByte (ToKeyboard byte) = byte < 256
+SaysByte (Output byte) = Unit {0}
+SaysByte (Pulse lines) = Unit {0}
 
 abbrev IsTaken : Taken → Type 0
-IsTaken t = HoldsByte t.state.input × TellsByte t.did
+IsTaken t = HoldsByte t.state.input × SaysByte t.did
 
 -- a command asks the keyboard for nothing
 commanded_in : (c : Command) (s : ControllerState) → HoldsByte s.input → IsTaken (commanded c s)
@@ -126,15 +126,15 @@ unless_full : (full : Bool) (t : Option Taken) → IsTakenWhere t → IsTakenWhe
 unless_full true t i = tt
 unless_full false t i = i
 
--- what is told becomes what is asked for
-asking_in : (since : ℕ) (d : Did) (l : Link UnderWay) → TellsByte d → AsksByte l → AsksByte (asking since d l)
+-- what is reported becomes what is asked for
+asking_in : (since : ℕ) (d : Did) (l : Link UnderWay) → SaysByte d → AsksByte l → AsksByte (asking since d l)
 asking_in since Nothing l t a = a
 asking_in since (ToKeyboard byte) l t a = t
 asking_in since (Output byte) l t a = a
 asking_in since (Pulse lines) l t a = a
 
 -- the input is taken
-took_in : (now : ℕ) (since : Option ℕ) (input : Option Taken) (p : Port UnderWay) → IsTakenWhere input → IsPortInBytes p
+took_in : (now : ℕ) (since : Option ℕ) (input : Option Taken) (p : LinkEnd UnderWay) → IsTakenWhere input → IsPortInBytes p
     → IsPortInBytes (took_where now since input p).port
 took_in now None input p t b = b
 took_in now (Some since) None p t b = b
@@ -156,12 +156,12 @@ after_in now stop awaits (Request byte) a = a
 after_in now stop awaits (Busy under_way) a = tt
 
 -- the settling: the input is taken, and the link changes
-pub settled_in : (now : ℕ) (p : Port UnderWay) → IsPortInBytes p → IsPortInBytes (settled now p).port
+pub settled_in : (now : ℕ) (p : LinkEnd UnderWay) → IsPortInBytes p → IsPortInBytes (settled now p).port
 settled_in now p b =
     let input : Option Taken = if p.core.output_full then None else taken p.core in
     let full = unless_full p.core.output_full (taken p.core) (from_in p.core.input p.core b.0) in
     let took = took_in now (held_since now p.awaits p.link) input p full b in
-    let q : Port UnderWay = (takes_input now p).port in
+    let q : LinkEnd UnderWay = (takes_input now p).port in
     (took.0, after_in now (q.core.output_full || is_disabled q.core) q.awaits q.link took.1)
 
 -- what comes over the link leaves the input buffer; a byte that came wrong is asked for again by FE
@@ -175,7 +175,7 @@ wrong_in : (again : Bool) (s : ControllerState) → HoldsByte s.input
 wrong_in true s i = i
 wrong_in false s i = i
 
-received_in : (now : ℕ) (came : Option ℕ) (p : Port UnderWay) → IsPortInBytes p → IsPortInBytes (received now came p)
+received_in : (now : ℕ) (came : Option ℕ) (p : LinkEnd UnderWay) → IsPortInBytes p → IsPortInBytes (received now came p)
 received_in now (Some byte) p b =
     let t : Translated = translation (translates p.core) p.core.break_mark byte in
     (put_in t.byte (record p.core { break_mark = t.mark; resends = 0 }) b.0, tt)
@@ -183,7 +183,7 @@ received_in now None p b =
     (wrong_in (asks_again p.core) p.core b.0, either (asks_again p.core) (Ask 0xfe now) (Hold now) (omega arith) tt)
 
 -- where a byte is under way
-arrived_at : (now byte : ℕ) (l : Link UnderWay) (p : Port UnderWay) → IsPortInBytes p
+arrived_at : (now byte : ℕ) (l : Link UnderWay) (p : LinkEnd UnderWay) → IsPortInBytes p
     → IsPortInBytes (arrived_in now byte l p)
 arrived_at now byte Free p b = b
 arrived_at now byte (Hold since) p b = b
@@ -198,7 +198,7 @@ closed_in (Ask byte since) a = a
 closed_in (Request byte) a = a
 closed_in (Busy u) a = tt
 
-pub happened_in : (now : ℕ) (event : Event) (p : Port UnderWay) → IsPortInBytes p
+pub happened_in : (now : ℕ) (event : Event) (p : LinkEnd UnderWay) → IsPortInBytes p
     → IsPortInBytes (happened_at now event p)
 happened_in now Quiet p b = b
 happened_in now (Begins true) p b = (b.0, tt)
@@ -208,7 +208,7 @@ happened_in now (Arrives byte) p b = arrived_at now byte p.link p b
 happened_in now IsWhole p b = (b.0, tt)
 
 -- a byte that is broken off leaves a hold
-pub broken_in : (breaks : Bool) (now : ℕ) (p : Port UnderWay) → IsPortInBytes p
+pub broken_in : (breaks : Bool) (now : ℕ) (p : LinkEnd UnderWay) → IsPortInBytes p
     → IsPortInBytes (if breaks then record p { link = Hold now } else p)
 broken_in true now p b = (b.0, tt)
 broken_in false now p b = b

@@ -1,6 +1,6 @@
 -- The wires from the look at the clock, 256 cycles past a tick's start, to the first edge of a frame.
 use Rattle.std.proofs.Common.{◌≡◌, ℕ, ◌+◌, List, true, false, Some, refl, ap, inl, inr, arith}
-use Rattle.board_lines.specs.declared.event.HostEvent.{HostEvent}
+use Rattle.board_terms.specs.declared.event.HostEvent.{HostEvent}
 use Rattle.ctl_link.specs.Pulls.{pulled}
 use Rattle.ctl_link.specs.declared.link.Link.{Link}
 use Rattle.ctl_link.specs.declared.link.Link.TheVariants.{Free, Hold, Ask, Request, Busy}

@@ -1,8 +1,8 @@
 -- The PC's side of a tick: at the look at the clock, and at the tick's end, it is the model's.
 use Rattle.std.proofs.Common.{◌≡◌, ℕ, ◌+◌, List, false, ap, sym, ◌∙◌}
-use Rattle.board_lines.specs.declared.event.Edge.{Edge}
-use Rattle.board_lines.specs.declared.event.HostEvent.{HostEvent}
-use Rattle.board_lines.specs.declared.lines.Lines.{Lines}
+use Rattle.board_terms.specs.declared.event.Edge.{Edge}
+use Rattle.board_terms.specs.declared.event.HostEvent.{HostEvent}
+use Rattle.board_terms.specs.declared.lines.Lines.{Lines}
 use Rattle.byte_time.specs.ByteTime.{quietly}
 use Rattle.byte_time.specs.declared.UnderWay.{UnderWay}
 use Rattle.byte_time.specs.declared.meeting.Meeting.{Meeting}
@@ -17,7 +17,7 @@ use Rattle.pc_wires.specs.Wires.{Pc}
 use Rattle.wires_agree.proofs.Between.{between}
 use Rattle.wires_agree.specs.Cycles.{board_cycles}
 use Rattle.wires_agree.specs.Ticks.{Ticked, from_look}
-use Rattle.wires_agree.specs.Ticks.{meeting_from as meeting_behind}
+use Rattle.wires_agree.specs.Ticks.{meeting_from as meeting_after}
 use Rattle.wires_agree.specs.Without.{seen_in_bytes}
 use Rattle.agreement.proofs.Happened.{lit_latch, at_lights, at_look}
 
@@ -59,9 +59,9 @@ module _ (edges : List Edge) (events : List HostEvent) (w : World Beside) (was :
 
     -- the meeting of the model's tick is that of a tick in byte time from the look on
     pub meeting_is : meeting_from kb events w.cycle m
-        ≡ meeting_behind events (kb.tested m.keys) (kb.offer m.keys) w.cycle (seen_in_bytes look.side)
+        ≡ meeting_after events (kb.tested m.keys) (kb.offer m.keys) w.cycle (seen_in_bytes look.side)
     meeting_is =
-        ap (λ s. meeting_behind events (kb.tested m.keys) (kb.offer m.keys) w.cycle s) (sym model_looks)
+        ap (λ s. meeting_after events (kb.tested m.keys) (kb.offer m.keys) w.cycle s) (sym model_looks)
 
     -- over lines of which a law of the tick speaks, the tick's meeting is that of the law, and its end is that of the
     -- model's tick

@@ -17,8 +17,8 @@ use Rattle.fw_logic.proofs.Passing.{Passes}
 use Rattle.fw_logic.proofs.Entered.{entered_served}
 use Rattle.fw_logic.proofs.Sweep.{selects_from, column_from}
 use Rattle.ctl_link.specs.declared.link.Link.TheVariants.{Request}
-use Rattle.board_lines.specs.declared.event.Edge.{Edge}
-use Rattle.board_lines.specs.declared.event.HostEvent.{HostEvent}
+use Rattle.board_terms.specs.declared.event.Edge.{Edge}
+use Rattle.board_terms.specs.declared.event.HostEvent.{HostEvent}
 use Rattle.joint_run.specs.Joint.{Beside, joint_board}
 use Rattle.joint_run.specs.Run.{Board, World}
 use Rattle.joint_run.specs.Starts.{at_tick, Comes, Tick}
@@ -223,7 +223,7 @@ module _ (layout : KeyLayout) (history : KeyHistory) (fine : IsKeyLayout layout)
           of_meeting = t.rest.goal.2;
           before = (tie.released.byte, tie.released.clock, tie.released.data_wire);
           lit = lit;
-          behind = (released.byte, released.clock, released.data_wire);
+          afterwards = (released.byte, released.clock, released.data_wire);
           lamps = (
             slice_index w.cpu.ram LIGHTS / 16 % 8,
             omega arith,

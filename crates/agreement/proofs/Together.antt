@@ -3,9 +3,9 @@
 use Rattle.std.proofs.Common.{◌≡◌, ◌<◌, ◌⊎◌, inl, inr, ℕ, ◌+◌, List, Bool, true, false, Some, None}
 use Rattle.std.proofs.Common.{refl, ap, sym, ◌∙◌, subst, arith}
 use Rattle.std.specs.declared.option.Option.{Option}
-use Rattle.board_lines.specs.declared.event.Edge.{Edge}
-use Rattle.board_lines.specs.declared.event.HostEvent.{HostEvent}
-use Rattle.board_lines.specs.declared.lines.Lines.{Lines}
+use Rattle.board_terms.specs.declared.event.Edge.{Edge}
+use Rattle.board_terms.specs.declared.event.HostEvent.{HostEvent}
+use Rattle.board_terms.specs.declared.lines.Lines.{Lines}
 use Rattle.byte_time.specs.declared.meeting.Meeting.{Meeting}
 use Rattle.byte_time.specs.declared.meeting.Meeting.TheVariants.{Got, Inhibited, Idle, Sent, Cut}
 use Rattle.ctl_link.specs.declared.link.Link.{Link}
@@ -27,7 +27,7 @@ use Rattle.wires_agree.proofs.Spans.{IsAt}
 use Rattle.wires_agree.specs.Ticks.{at_meeting}
 use Rattle.agreement.proofs.Frames.{FirstLow, free_or_not, first_low, frame_offered, frame_free, frame_ended, frame_in}
 use Rattle.agreement.proofs.Happened.{at_look}
-use Rattle.agreement.proofs.OnWires.{at_clock_look, behind_clock}
+use Rattle.agreement.proofs.OnWires.{at_clock_look, after_clock}
 use Rattle.agreement.specs.Wires.{GoesWith, IsAskedFor, IsFrameOf, beside_in}
 
 module _ (events : List HostEvent) (v start : ℕ) (released : IsReleased v) (look : Pc) where
@@ -116,7 +116,7 @@ module _ (edges : List Edge) (events : List HostEvent) (w : World Beside)
       → pc frame 288 ≡ at_meeting events (lines_by frame v w.cycle released) w.cycle (at_look edges events w)
   at_first frame =
       ap (λ (b : Beside). b.pc)
-      (behind_clock edges events (joint_board edges events) (λ b. b) (itself edges events) w lit released frame 32)
+      (after_clock edges events (joint_board edges events) (λ b. b) (itself edges events) w lit released frame 32)
 
   pub goes_with : (frame : Frame) → With events v w.cycle released (at_look edges events w) frame
       → GoesWith (pc frame) frame

@@ -2,10 +2,10 @@
 use Rattle.std.proofs.Common.{◌≡◌, ◌≤◌, ◌<◌, ℕ, suc, zero, ◌+◌, ◌-◌, ◌*◌, ◌/◌, List, [], ◌∷◌, Bool, not, ◌&&◌}
 use Rattle.std.proofs.Common.{filter, map, nat_le, if◌then◌else◌, refl, ap, ◌∙◌, arith}
 use Rattle.std.proofs.lemmas.List.Elements.{filter_agree}
-use Rattle.board_lines.specs.Cadence.{begun, tick_of}
-use Rattle.board_lines.specs.Edges.{of_place}
-use Rattle.board_lines.specs.declared.event.Edge.{Edge}
-use Rattle.board_lines.specs.declared.event.HostEvent.{HostEvent}
+use Rattle.board_terms.specs.Cadence.{begun, tick_of}
+use Rattle.board_terms.specs.Edges.{of_place}
+use Rattle.board_terms.specs.declared.event.Edge.{Edge}
+use Rattle.board_terms.specs.declared.event.HostEvent.{HostEvent}
 use Rattle.byte_time.specs.ByteTime.{quietly}
 use Rattle.byte_time.specs.declared.UnderWay.{UnderWay}
 use Rattle.host_turn.specs.Run.{side_at_start}

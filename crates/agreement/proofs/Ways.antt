@@ -2,9 +2,9 @@
 -- drives is what the looks find.
 use Rattle.std.proofs.Common.{◌≡◌, ◌≤◌, ◌<◌, ℕ, ◌+◌, ◌*◌, ◌&&◌, ◌==◌, List, All, true, false, length}
 use Rattle.std.proofs.Common.{Some, None, refl, ap, ◌∙◌, inl, inr, arith}
-use Rattle.board_lines.specs.declared.event.Edge.{Edge}
-use Rattle.board_lines.specs.declared.event.HostEvent.{HostEvent}
-use Rattle.board_lines.specs.declared.lines.Lines.{Lines}
+use Rattle.board_terms.specs.declared.event.Edge.{Edge}
+use Rattle.board_terms.specs.declared.event.HostEvent.{HostEvent}
+use Rattle.board_terms.specs.declared.lines.Lines.{Lines}
 use Rattle.ctl_link.specs.declared.link.Link.TheVariants.{Free, Request}
 use Rattle.ctl_wire.specs.Wire.{drive}
 use Rattle.fw_kernel.specs.Places.{HasKernel}
@@ -40,7 +40,7 @@ use Rattle.wires_agree.specs.Ticks.{at_meeting}
 use Rattle.agreement.proofs.Timely.{released, quiet, sent, cut, got}
 use Rattle.agreement.proofs.AtLook.{one_byte, sent_at, received_at}
 use Rattle.agreement.proofs.Happened.{at_look, Happened}
-use Rattle.agreement.proofs.Lit.{at_clock, behind_look}
+use Rattle.agreement.proofs.Lit.{at_clock, after_look}
 use Rattle.agreement.proofs.OnWires.{at_cell, at_clock_look}
 use Rattle.agreement.proofs.Seen.{at_data, free_shows, request_shows}
 use Rattle.agreement.specs.Firmware.{Offers, clock_in, data_in, board_at}
@@ -84,7 +84,7 @@ module _ (edges : List Edge) (events : List HostEvent) (d : Board) (to : d.State
   sees_data =
       data_is edges events d to over 44 v (start + 232 + 26) (after_cycles 26 (start + 232) (d.cycle v) (in_tick d w 232))
       ∙ ap (λ (t : Beside). (latch_of v).dat && (drive t.pc.side.port.link).dat)
-      (behind_look edges events d to over (λ o. latch_of v) v start (start + 232) 2 (in_tick d w 232) b (omega arith)
+      (after_look edges events d to over (λ o. latch_of v) v start (start + 232) 2 (in_tick d w 232) b (omega arith)
       (at_clock edges events d to over w lit) (λ o a u. refl))
       ∙ ap (λ c. c && (drive later.side.port.link).dat) free_latch.data_wire
 
@@ -94,7 +94,7 @@ module _ (edges : List Edge) (events : List HostEvent) (d : Board) (to : d.State
       let later : Pc = board_cycles events (λ o. latch_of v) 30 (256 + start) b in
       data_is edges events d to over 44 v (start + 232 + 54) (after_cycles 54 (start + 232) (d.cycle v) (in_tick d w 232))
       ∙ ap (λ (t : Beside). (latch_of v).dat && (drive t.pc.side.port.link).dat)
-      (behind_look edges events d to over (λ o. latch_of v) v start (start + 232) 30 (in_tick d w 232) b (omega arith)
+      (after_look edges events d to over (λ o. latch_of v) v start (start + 232) 30 (in_tick d w 232) b (omega arith)
       (at_clock edges events d to over w lit) (λ o a u. refl))
       ∙ ap (λ c. c && (drive later.side.port.link).dat) free_latch.data_wire
       ∙ ap (λ l. (drive l).dat) (requests events (λ o. latch_of v) 30 (256 + start) b byte (λ o a u. free_latch.clock) asks)
@@ -119,7 +119,7 @@ module _ (edges : List Edge) (events : List HostEvent) (d : Board) (to : d.State
       → Tick d TICK bytes w (So Inhibited NoFrame)
   inhibited no_test holds = quiet d bytes hk alike small low w s repeats few Inhibited (no_test, sees_clock ∙ holds)
 
-  -- the lines of a tick with a frame; and what stands beside the processor at a look of it
+  -- the lines of a tick with a frame; and what is beside the processor at a look of it
   abbrev lines : Frame → ℕ → Lines
   lines frame = lines_by frame v start free_latch
 

@@ -5,7 +5,7 @@ use Rattle.byte_time.specs.declared.UnderWay.{UnderWay}
 use Rattle.ctl_core.specs.declared.port.Input.{Input}
 use Rattle.ctl_link.specs.declared.link.Link.{Link}
 use Rattle.ctl_link.specs.declared.link.Link.TheVariants.{Free, Hold, Ask, Request, Busy}
-use Rattle.ctl_link.specs.declared.port.Port.{Port}
+use Rattle.ctl_link.specs.declared.port.LinkEnd.{LinkEnd}
 use Rattle.host_turn.specs.Run.{Side}
 
 -- the input buffer's byte, if it has one, is below 256
@@ -22,7 +22,7 @@ AsksByte (Request byte) = byte < 256
 AsksByte (Busy under_way) = Unit {0}
 
 -- both, of the controller and of the PC's side
-abbrev pub IsPortInBytes : Port UnderWay → Type 0
+abbrev pub IsPortInBytes : LinkEnd UnderWay → Type 0
 IsPortInBytes p = HoldsByte p.core.input × AsksByte p.link
 
 abbrev pub IsInBytes : Side UnderWay → Type 0

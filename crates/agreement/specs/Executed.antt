@@ -1,7 +1,7 @@
 -- What the joint run of a layout's image executes, and when it looks at the clock on a chip.
 use Rattle.std.specs.Prelude.{◌≡◌, ℕ, true, List, Some}
-use Rattle.board_lines.specs.declared.event.Edge.{Edge}
-use Rattle.board_lines.specs.declared.event.HostEvent.{HostEvent}
+use Rattle.board_terms.specs.declared.event.Edge.{Edge}
+use Rattle.board_terms.specs.declared.event.HostEvent.{HostEvent}
 use Rattle.fw_compile.specs.Image.{image_of}
 use Rattle.fw_logic.specs.Executed.{IsFit, LooksLate, LooksSoon, looks}
 use Rattle.joint_run.specs.Joint.{Beside, joint_board}

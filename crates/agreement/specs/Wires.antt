@@ -3,8 +3,8 @@ use Rattle.std.specs.Prelude.{◌≡◌, ◌≤◌, ◌<◌, ℕ, ◌+◌, ◌-�
 use Rattle.std.specs.Prelude.{Some}
 use Rattle.std.specs.declared.option.Option.{Option}
 use Rattle.bits.specs.Bits.{bit}
-use Rattle.board_lines.specs.declared.event.Edge.{Edge}
-use Rattle.board_lines.specs.declared.event.HostEvent.{HostEvent}
+use Rattle.board_terms.specs.declared.event.Edge.{Edge}
+use Rattle.board_terms.specs.declared.event.HostEvent.{HostEvent}
 use Rattle.byte_time.specs.declared.meeting.Meeting.{Meeting}
 use Rattle.byte_time.specs.declared.meeting.Meeting.TheVariants.{Got, Inhibited, Idle, Sent, Cut}
 use Rattle.ctl_link.specs.Link.{is_busy}
@@ -82,7 +82,7 @@ IsAskedFor pc Idle = Unit {0}
 abbrev pub IsLetGo : ℕ → Type 0
 IsLetGo v = (v < 256) × (bit 0 v ≡ true) × (bit 1 v ≡ true)
 
--- a tick of the joint run from its start: the run comes to the next start, and in each cycle on the way the latch of
+-- a tick of the joint run from its start: the run reaches the next start, and in each cycle on the way the latch of
 -- port 2 is that of a tick with the meeting's frame; outside the frame it pulls neither wire, and bits 4 to 6 alone, the
 -- lights, can be 0. A frame that is cut is cut at the first look that can see it; the controller goes with one that isn't.
 -- No byte is under way at its start. Port 1 selects each column in its cycles, and none in between: up to the first tick, which starts
@@ -93,7 +93,7 @@ pub record DrivesFrame (edges : List Edge) (events : List HostEvent) (bytes : Li
   pub of_meeting : IsFrameOf offered meeting frame
   pub before : IsLetGo w.cpu.p2
   pub lit : ℕ
-  pub behind : IsLetGo lit
+  pub afterwards : IsLetGo lit
   pub lamps : (lights : ℕ) × (lights < 8) × (lit ≡ 255 - 16 * lights)
   pub idle : is_busy w.board.pc.side.port.link ≡ false
   pub goes_with : GoesWith (λ o. (beside_in edges events (tick_latch w.cpu.p2 lit frame) w o).pc) frame

@@ -18,11 +18,11 @@ use Rattle.app_answers.specs.Spoken.{IsSpoken, May, still_to_say}
 use Rattle.app_answers.specs.Taking.{Taking, Whole, CutOff}
 
 -- how the probes are left, and what was said before the answer
-abbrev pub left_behind : List Watch → Taking → List ℕ → Left
-left_behind probes taking log = record { probes = probes; taking = taking; log = log }
+abbrev pub left_after : List Watch → Taking → List ℕ → Left
+left_after probes taking log = record { probes = probes; taking = taking; log = log }
 
 abbrev pub left_so : List Watch → Taking → Left
-left_so probes taking = left_behind probes taking []
+left_so probes taking = left_after probes taking []
 
 -- what one thing may say, another may
 pub spoken_on : (P Q : May) → ((answer : Answer) (taking : Taking) (log : List ℕ) → P answer taking log → Q answer taking log)
@@ -56,7 +56,7 @@ module _ (may : KeyHistory → Answer → Left → Type 0) (outcome : Result Key
   pub keys_refused : (refusal : Refusal) (probes : List Watch) (result : Result Spoken Refusal) (x : Shown)
       → (fault : KeyFault) × (outcome ≡ Err fault) × (refusal ≡ keys_refusal fault)
       → IsErrAnd result (λ (r : Refusal). r ≡ refusal)
-      → IsSpoken (λ answer taking log. OfHistory may outcome answer probes (left_behind probes taking log)) result x x
+      → IsSpoken (λ answer taking log. OfHistory may outcome answer probes (left_after probes taking log)) result x x
   keys_refused refusal probes (Ok said) x h same = absurd same
   keys_refused refusal probes (Err r) x h same = (λ taking. refused h.0 r probes taking h.1 (same ∙ h.2), refl)
 

@@ -22,7 +22,7 @@ same_desk a b first second =
     ap (λ c. let d : Desk = record { controller = c; bios = a.bios } in d) first
     ∙ ap (λ s. let d : Desk = record { controller = b.controller; bios = s } in d) second
 
--- the byte at this place, and then those behind it
+-- the byte at this place, and then those after it
 pub heard_at : (desk next : Desk) (bytes before after all : List ℕ) (i : ℕ) → i < length bytes
     → next.controller ≡ (desk_after desk (get_or bytes i 0)).controller → next.bios ≡ (desk_after desk (get_or bytes i 0)).bios
     → after ≡ before ++ lines_of (said_of desk (get_or bytes i 0))

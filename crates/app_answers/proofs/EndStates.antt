@@ -5,7 +5,7 @@ use Rattle.std.proofs.lemmas.List.{append-nil, append_assoc}
 use Rattle.mcs48_core.specs.Cpu.{Cpu}
 use Rattle.mcs48_core.specs.StateText.{state_row, state_text_of}
 
--- five rows, put one behind the other
+-- five rows, put one after the other
 five : (a b c d e : List ℕ) → a ++ b ++ c ++ d ++ e ≡ a ++ (b ++ (c ++ (d ++ (e ++ []))))
 five a b c d e =
     append_assoc (a ++ b ++ c) d e ∙ append_assoc (a ++ b) c (d ++ e) ∙ append_assoc a b (c ++ (d ++ e))
@@ -20,7 +20,7 @@ rows_put m steps cycles none first second third fourth fifth n a b c d e =
     (five (state_row m steps cycles 0) (state_row m steps cycles 1) (state_row m steps cycles 2)
     (state_row m steps cycles 3) (state_row m steps cycles 4))
 
--- the state at a run's end, where it is wanted
+-- the state at a run's end, if it is wanted
 pub same_state : (wanted : Bool) (m m' : Cpu) (steps steps' cycles cycles' : ℕ) → m ≡ m' → steps ≡ steps' → cycles ≡ cycles'
     → (if wanted then state_text_of m steps cycles else []) ≡ (if wanted then state_text_of m' steps' cycles' else [])
 same_state wanted m m' steps steps' cycles cycles' a b c =

@@ -17,7 +17,7 @@ use Rattle.app_words.specs.declared.words.FileCommand.TheVariants.{Step, Listing
 use Rattle.app_words.specs.Kinds.{kind_of}
 use Rattle.app_answers.specs.FileAnswers.{Answer, assembled, compiled, file_said, of_image, run_said}
 use Rattle.app_answers.specs.Says.{exit_said}
-use Rattle.app_answers.specs.Stepping.{Progress, Stands, Stopped, after_steps}
+use Rattle.app_answers.specs.Stepping.{Progress, WentOn, Stopped, after_steps}
 
 -- the file's first fault
 abbrev pub IsFault : FileCommand → List ℕ → Type 0
@@ -41,7 +41,7 @@ Exits command bytes said =
 
 run_exits : (count : ℕ) (bytes image : List ℕ) (run : Progress)
     → hex_of bytes ≡ Ok image → after_steps image count ≡ run → Exits (Step count) bytes (run_said count run)
-run_exits count bytes image (Stands cpu cycles) is runs = inl refl
+run_exits count bytes image (WentOn cpu cycles) is runs = inl refl
 run_exits count bytes image (Stopped stuck) is runs = inr (inr (refl, (count, refl, image, is, stuck, runs)))
 
 step_exits : (count : ℕ) (bytes : List ℕ) (outcome : HexOutcome)

@@ -3,7 +3,7 @@ use Rattle.std.proofs.Common.{◌≡◌, ℕ, ◌≤◌, List, [], length, Some,
 use Rattle.std.specs.declared.alloc.Global.{Global}
 use Rattle.std.specs.declared.option.Option.{Option}
 use Rattle.std.specs.declared.vec.Vec.{Vec}
-use Rattle.io_edge.specs.Shelf.{Told, Fetched, Fails, Long, Found, fetched, IsFetch}
+use Rattle.io_edge.specs.Shelf.{Shelved, Fetched, Fails, Long, Found, fetched, IsFetch}
 use Rattle.io_edge.specs.declared.shelf.FetchFault.TheVariants as faults
 use Rattle.app_words.specs.declared.kind.Kind.{Kind}
 use Rattle.app_words.specs.declared.refusal.Refusal.TheVariants.{Memory}
@@ -21,8 +21,8 @@ lacking kind Long is = absurd cc
 lacking kind (Found bytes) is = refl
 
 -- a file that was found
-pub gives_found : (kind : Kind) (name : List ℕ) (shelf : Option Told) (limit : ℕ) (file : Vec ℕ Global) → limit ≡ limit_of kind
-    → IfSome shelf (λ told. IsFetch (fetched told name limit) (Ok file)) → length file.items ≤ limit → MayGive kind name shelf (Ok file)
+pub gives_found : (kind : Kind) (name : List ℕ) (shelf : Option Shelved) (limit : ℕ) (file : Vec ℕ Global) → limit ≡ limit_of kind
+    → IfSome shelf (λ shelved. IsFetch (fetched shelved name limit) (Ok file)) → length file.items ≤ limit → MayGive kind name shelf (Ok file)
 gives_found kind name (Some shelf) limit file most is within =
     let outcome = fetched shelf name (limit_of kind) in
     let same : IsFetch outcome (Ok file) = subst (λ (n : ℕ). IsFetch (fetched shelf name n) (Ok file)) most is in
@@ -30,9 +30,9 @@ gives_found kind name (Some shelf) limit file most is within =
 gives_found kind name None limit file most is within =
     (Found file.items, subst (λ (n : ℕ). length file.items ≤ n) most within, refl)
 
--- a file for which memory was wanting
-pub gives_lacking : (kind : Kind) (name : List ℕ) (shelf : Option Told) (limit : ℕ) → limit ≡ limit_of kind
-    → IfSome shelf (λ told. IsFetch (fetched told name limit) (Err faults.Memory)) → MayGive kind name shelf (Err Memory)
+-- a file for which memory was lacking
+pub gives_lacking : (kind : Kind) (name : List ℕ) (shelf : Option Shelved) (limit : ℕ) → limit ≡ limit_of kind
+    → IfSome shelf (λ shelved. IsFetch (fetched shelved name limit) (Err faults.Memory)) → MayGive kind name shelf (Err Memory)
 gives_lacking kind name (Some shelf) limit most is =
     let outcome = fetched shelf name (limit_of kind) in
     let same : IsFetch outcome (Err faults.Memory) = subst (λ (n : ℕ). IsFetch (fetched shelf name n) (Err faults.Memory)) most is in

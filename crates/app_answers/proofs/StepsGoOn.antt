@@ -5,13 +5,13 @@ use Rattle.std.specs.declared.option.Option.{Option}
 use Rattle.mcs48_core.specs.Cpu.{Cpu}
 use Rattle.mcs48_core.specs.Step.{Stepped, stepped, IsStep}
 use Rattle.mcs48_core.specs.declared.stepping.Stuck.{Stuck}
-use Rattle.app_answers.specs.Stepping.{high, Progress, Stands, Stopped, step_on, onward, after_steps}
+use Rattle.app_answers.specs.Stepping.{high, Progress, WentOn, Stopped, step_on, onward, after_steps}
 
 -- a step that was made
-stands_on : (bytes : List ℕ) (cpu new : Cpu) (cycles n : ℕ) (next : Option Stepped)
-    → IsStep bytes cpu next (Ok n) new → step_on bytes cpu cycles next ≡ Stands new (cycles + n)
-stands_on bytes cpu new cycles n (Some next) h = let same : n ≡ next.cycles = cc in grind (arith, h.1, same)
-stands_on bytes cpu new cycles n None h = absurd (cc)
+holds_on : (bytes : List ℕ) (cpu new : Cpu) (cycles n : ℕ) (next : Option Stepped)
+    → IsStep bytes cpu next (Ok n) new → step_on bytes cpu cycles next ≡ WentOn new (cycles + n)
+holds_on bytes cpu new cycles n (Some next) h = let same : n ≡ next.cycles = cc in grind (arith, h.1, same)
+holds_on bytes cpu new cycles n None h = absurd (cc)
 
 -- a step that met a byte without an instruction
 stops_on : (bytes : List ℕ) (cpu new : Cpu) (cycles : ℕ) (stuck : Stuck) (next : Option Stepped)
@@ -23,10 +23,10 @@ stops_on bytes cpu new cycles stuck None h =
 after_more : (bytes : List ℕ) (k : ℕ) (p : Progress) → after_steps bytes k ≡ p → after_steps bytes (k + 1) ≡ onward bytes p
 after_more bytes k p h = subst (λ (n : ℕ). after_steps bytes n ≡ onward bytes p) (sym (add-one k)) (ap (onward bytes) h)
 
-pub stands_after : (bytes : List ℕ) (k : ℕ) (cpu new : Cpu) (cycles n : ℕ) → after_steps bytes k ≡ Stands cpu cycles
-    → IsStep bytes cpu (stepped bytes high cpu) (Ok n) new → after_steps bytes (k + 1) ≡ Stands new (cycles + n)
-stands_after bytes k cpu new cycles n before h =
-    after_more bytes k (Stands cpu cycles) before ∙ stands_on bytes cpu new cycles n (stepped bytes high cpu) h
+pub holds_after : (bytes : List ℕ) (k : ℕ) (cpu new : Cpu) (cycles n : ℕ) → after_steps bytes k ≡ WentOn cpu cycles
+    → IsStep bytes cpu (stepped bytes high cpu) (Ok n) new → after_steps bytes (k + 1) ≡ WentOn new (cycles + n)
+holds_after bytes k cpu new cycles n before h =
+    after_more bytes k (WentOn cpu cycles) before ∙ holds_on bytes cpu new cycles n (stepped bytes high cpu) h
 
 -- a run that has stopped stays where it is
 stays : (bytes : List ℕ) (k more : ℕ) (stuck : Stuck) → after_steps bytes k ≡ Stopped stuck → after_steps bytes (k + more) ≡ Stopped stuck
@@ -37,9 +37,9 @@ stays bytes k (suc more) stuck h =
     subst (λ (n : ℕ). after_steps bytes n ≡ Stopped stuck) same next
 
 pub stopped_after : (bytes : List ℕ) (k count : ℕ) (cpu new : Cpu) (cycles : ℕ) (stuck : Stuck) → k < count
-    → after_steps bytes k ≡ Stands cpu cycles
+    → after_steps bytes k ≡ WentOn cpu cycles
     → IsStep bytes cpu (stepped bytes high cpu) (Err stuck) new → after_steps bytes count ≡ Stopped stuck
 stopped_after bytes k count cpu new cycles stuck below before h =
-    let stopped = after_more bytes k (Stands cpu cycles) before ∙ stops_on bytes cpu new cycles stuck (stepped bytes high cpu) h in
+    let stopped = after_more bytes k (WentOn cpu cycles) before ∙ stops_on bytes cpu new cycles stuck (stepped bytes high cpu) h in
     let same : k + 1 + (count - (k + 1)) ≡ count = omega (arith, below) in
     subst (λ (n : ℕ). after_steps bytes n ≡ Stopped stuck) same (stays bytes (k + 1) (count - (k + 1)) stuck stopped)

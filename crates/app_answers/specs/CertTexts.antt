@@ -23,6 +23,6 @@ abbrev pub cert_said : List ℕ → List ℕ → Answer
 cert_said image text = certified number_of (certificate_said image text)
 
 -- what is said is how many places have a bound, and the greatest one, of a certificate whose places keep their bounds:
--- from each of them the processor comes to the target in time
+-- from each of them the processor reaches the target in time
 abbrev pub IsCertText : List ℕ → List ℕ → List ℕ → Type 0
 IsCertText image text said = (proved : Proved) × IsProved image text proved × (said ≡ proved_text proved)

@@ -16,7 +16,7 @@ use Rattle.app_words.specs.declared.refusal.Refusal.{Refusal}
 use Rattle.app_words.specs.declared.refusal.Refusal.TheVariants.{Hex, Asm, Layout, Keys, Timing, Stuck, Memory}
 use Rattle.app_words.specs.declared.words.FileCommand.{FileCommand}
 use Rattle.app_words.specs.declared.words.FileCommand.TheVariants.{Step, Listing, Assemble, Compile}
-use Rattle.app_answers.specs.Stepping.{Progress, Stands, Stopped, after_steps}
+use Rattle.app_answers.specs.Stepping.{Progress, WentOn, Stopped, after_steps}
 
 -- a text, or a refusal
 abbrev pub Answer : Type 0
@@ -24,7 +24,7 @@ Answer = Result (List ℕ) Refusal
 
 -- `step` of a run that is or has stopped after its steps
 abbrev pub run_said : ℕ → Progress → Answer
-run_said count (Stands cpu cycles) = Ok (state_text_of cpu count cycles)
+run_said count (WentOn cpu cycles) = Ok (state_text_of cpu count cycles)
 run_said count (Stopped stuck) = Err (Stuck stuck)
 
 -- what is said of the image of a HEX file, or the file's first fault

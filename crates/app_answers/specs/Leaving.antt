@@ -1,4 +1,4 @@
--- What a call leaves behind it, and how a run leaves the probes that look at it.
+-- What a call leaves, and how a run leaves the probes that look at it.
 use Rattle.std.specs.Prelude.{◌≡◌, ℕ, List, [], Ok, Err}
 use Rattle.std.specs.declared.result.Result.{Result}
 use Rattle.board_probes.specs.Looks.{looks}
@@ -10,7 +10,7 @@ use Rattle.app_answers.specs.Answers.{MayAnswerOf}
 use Rattle.app_answers.specs.FileAnswers.{Answer, keys_refusal}
 use Rattle.app_answers.specs.Taking.{Taking}
 
--- what a call leaves behind: the probes, how much the sink has taken of all that it had to say, and what it said before
+-- what a call leaves: the probes, how much the sink has taken of all that it had to say, and what it said before
 -- its answer, which is the log of a run on the board, or its trace, and else nothing
 pub record Left : Type 0 where
   pub probes : List Watch

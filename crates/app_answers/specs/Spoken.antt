@@ -29,8 +29,8 @@ abbrev pub IsUnsaid : May → Answer → Shown → Shown → Type 0
 IsUnsaid may answer before after = ((taking : Taking) → may answer taking []) × (after ≡ before)
 
 -- of a run that is stuck the log was said: the answer may be given if its line is taken, or is broken off
-abbrev pub IsStuckBehind : May → Answer → Shown → Shown → Type 0
-IsStuckBehind may answer before after =
+abbrev pub IsStuckAfter : May → Answer → Shown → Shown → Type 0
+IsStuckAfter may answer before after =
     (log : List ℕ) × may answer Whole log
     × ((later : Shown) → IsBrokenOff after later (text_said answer) → may answer (CutOff before later) log)
     × IsSaid before after log
@@ -45,7 +45,7 @@ IsSpoken may (Ok (Said (Ok done))) before after =
 IsSpoken may (Ok (Said (Err fault))) before after =
     (answer : Answer) × (log : List ℕ) × may answer (CutOff before after) log
     × IsBrokenOff before after (log ++ text_said answer)
-IsSpoken may (Ok (Stuck place)) before after = IsStuckBehind may (Err (refusals.Stuck place)) before after
+IsSpoken may (Ok (Stuck place)) before after = IsStuckAfter may (Err (refusals.Stuck place)) before after
 
 -- a text is printed, and ends the call so; or a put failed
 abbrev pub Prints : List ℕ → Exit → Shown → Shown → Exit → Type 0

@@ -1,4 +1,4 @@
-//! The state at a run's end, said where it is wanted.
+//! The state at a run's end, said if it is wanted.
 
 ghost use Rattle.std.specs.Prelude.{◌≡◌, [], if◌then◌else◌, OnErr, OnOk};
 ghost use Rattle.io_edge.specs.Said.{IsBrokenOff, IsSaid};

@@ -17,9 +17,9 @@ pub fn fetch_file<F: Shelf>(
     name: &str,
     kind: Kind,
 ) -> Result<Vec<u8>, Refusal>
-    ensures gives { MayGive kind name.now (F.told shelf.old) result }
+    ensures gives { MayGive kind name.now (F.in_memory shelf.old) result }
     ensures within { IfOk result (λ file. length file.items ≤ limit_of kind) }
-    ensures fetched { F.told shelf.new ≡ option_map after_fetch (F.told shelf.old) }
+    ensures fetched { F.in_memory shelf.new ≡ option_map after_fetch (F.in_memory shelf.old) }
     ensures read { result ≡ Err Refusal.Read → Rose (F.faults shelf.old) (F.faults shelf.new) }
     ensures steady { (result ≡ Err Refusal.Read) ⊎ (F.faults shelf.new ≡ F.faults shelf.old) }
 {

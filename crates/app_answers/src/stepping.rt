@@ -4,7 +4,7 @@ ghost use Rattle.std.specs.Prelude.{◌≡◌, MatchResult, Ok};
 ghost use Rattle.mcs48_core.specs.StateText.{state_text_of};
 ghost use Rattle.app_answers.specs.Answers.{answer_of, MayAnswerOf};
 ghost use Rattle.app_answers.specs.FileAnswers.{run_said};
-ghost use Rattle.app_answers.specs.Stepping.{after_steps, Stands, Stopped};
+ghost use Rattle.app_answers.specs.Stepping.{after_steps, WentOn, Stopped};
 
 use app_words::Refusal;
 use mcs48_core::{Mcu, Pins, Stuck, reset, state_text};
@@ -32,7 +32,7 @@ struct Ran {
 #[inline(never)]
 fn run(image: &Image, count: u32) -> Result<Ran, Stuck>
     ensures ran { MatchResult result
-        (λ ran. after_steps image.now.bytes count ≡ Stands ran.mcu ran.cycles)
+        (λ ran. after_steps image.now.bytes count ≡ WentOn ran.mcu ran.cycles)
         (λ stuck. after_steps image.now.bytes count ≡ Stopped stuck) }
 {
     let mut mcu = reset();

@@ -4,12 +4,12 @@ use Rattle.std.specs.Prelude.{MatchResult}
 use Rattle.std.specs.declared.option.Option.{Option}
 use Rattle.std.specs.declared.result.Result.{Result}
 use Rattle.std.specs.declared.vec.Vec.{Vec}
-use Rattle.fw_debug.specs.declared.rule.SessionFault.{SessionFault}
-use Rattle.fw_debug.specs.Faults.{IsRight, IsVerdict}
-use Rattle.fw_debug.specs.Obeyed.{IsObeyed, IsObeyedInPart}
+use Rattle.debugger.specs.declared.rule.SessionFault.{SessionFault}
+use Rattle.debugger.specs.Faults.{IsRight, IsVerdict}
+use Rattle.debugger.specs.Obeyed.{IsObeyed, IsObeyedInPart}
 use Rattle.board_probes.specs.Probes.{Watch}
-use Rattle.fw_debug.specs.Scripts.{number_of, script_of}
-use Rattle.fw_debug.specs.Sessions.{Debuggee}
+use Rattle.debugger.specs.Scripts.{number_of, script_of}
+use Rattle.debugger.specs.Sessions.{Debuggee}
 use Rattle.app_words.specs.declared.refusal.Refusal.{Refusal}
 use Rattle.app_words.specs.declared.refusal.Refusal.TheVariants as refusals
 use Rattle.app_boards.specs.SessionAnswers.{MayAnswerSession}
@@ -51,7 +51,7 @@ said_of : (taking : Taking) (s : Debuggee) (script : List ℕ) (probes left : Li
 said_of taking s script probes left (Ok text) h part = inr (text.items, h, refl)
 said_of taking s script probes left (Err refusal) h part = inl (ap (λ (r : Refusal). Err r) h, part)
 
--- of such a one all lines are obeyed, or memory was wanting, and the first ones were
+-- of such a one all lines are obeyed, or memory was lacking, and the first ones were
 pub said_so : (taking : Taking) (n : ℕ) (s : Debuggee) (script : List ℕ) (probes left : List Watch) (result : Result (Vec ℕ Global) Refusal)
     → n ≡ length probes → IsRight n script
     → MatchResult result (λ text. IsObeyed s script probes text.items left) (λ refusal. refusal ≡ refusals.Memory)

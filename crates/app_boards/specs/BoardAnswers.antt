@@ -1,7 +1,7 @@
 -- What may be answered of the run of a program on the board.
 use Rattle.std.specs.Prelude.{◌≡◌, ◌⊎◌, ℕ, List, [], Err}
 use Rattle.board_probes.specs.Probes.{Watch}
-use Rattle.board_run.specs.Running as board
+use Rattle.board_run.specs.BoardOutcomes as board
 use Rattle.joint_feed.specs.Stories.{Story}
 use Rattle.key_file.specs.Histories.{KeyHistory}
 use Rattle.app_words.specs.declared.refusal.Refusal.TheVariants.{Memory}
@@ -11,9 +11,9 @@ use Rattle.app_answers.specs.FileAnswers.{Answer}
 use Rattle.app_answers.specs.Leaving.{Left}
 use Rattle.app_boards.specs.BoardTexts.{AreLeftOnBoard, board_log, board_said, board_story}
 
--- the run of a program on the board is told: its log, or its trace, is said before the answer
-abbrev pub IsBoardTold : BoardCommand → Story → Answer → List Watch → Left → Type 0
-IsBoardTold wanted s answer probes left =
+-- the run of a program on the board is reported: its log, or its trace, is said before the answer
+abbrev pub IsBoardSaid : BoardCommand → Story → Answer → List Watch → Left → Type 0
+IsBoardSaid wanted s answer probes left =
     (run : board.Outcome) × board.IsOutcome s run × (left.log ≡ board_log wanted s run)
     × (answer ≡ board_said wanted run run.end) × AreLeftOnBoard wanted s run left.taking probes left.probes
 
@@ -21,4 +21,4 @@ IsBoardTold wanted s answer probes left =
 abbrev pub MayAnswerBoard : BoardRun → List ℕ → KeyHistory → Answer → List Watch → Left → Type 0
 MayAnswerBoard wanted image history answer probes left =
     ((answer ≡ Err Memory) × (left.log ≡ []) × (left.probes ≡ probes))
-    ⊎ IsBoardTold wanted.told (board_story wanted image history) answer probes left
+    ⊎ IsBoardSaid wanted.prints_what (board_story wanted image history) answer probes left

@@ -1,7 +1,7 @@
 -- `board`: what is said of the run of a program on the board, and how it leaves the probes that ride on it.
 use Rattle.std.specs.Prelude.{◌⊎◌, ℕ, List, [], Ok, Err, if◌then◌else◌}
 use Rattle.board_run.specs.Putting.{HaveLookedToBreak}
-use Rattle.board_run.specs.Running.{Outcome}
+use Rattle.board_run.specs.BoardOutcomes.{Outcome}
 use Rattle.board_run.specs.Texts.{log_text}
 use Rattle.board_run.specs.Tracing.{HaveTracedToBreak}
 use Rattle.story_run.specs.declared.ending.End.{End}
@@ -12,7 +12,7 @@ use Rattle.joint_feed.specs.Filled.{filled_story}
 use Rattle.joint_feed.specs.Stories.{Story}
 use Rattle.key_file.specs.Histories.{KeyHistory}
 use Rattle.mcs48_core.specs.StateText.{state_text_of}
-use Rattle.story_run.specs.Telling.{IsBrokenBehind}
+use Rattle.story_run.specs.Reports.{IsBrokenAfter}
 use Rattle.wire_trace.specs.Trace.{trace_to}
 use Rattle.app_words.specs.declared.refusal.Refusal.TheVariants as refusals
 use Rattle.app_words.specs.declared.words.BoardCommand.{BoardCommand}
@@ -54,5 +54,5 @@ abbrev pub AreLeftOnBoard : BoardCommand → Story → Outcome → Taking → Li
 AreLeftOnBoard wanted s run Whole probes left = HaveLookedAtAll s run.steps probes left
 AreLeftOnBoard wanted s run (CutOff before after) probes left =
     HaveLookedToLine wanted s before after probes left
-    ⊎ (IsBrokenBehind before after (board_log wanted s run) (text_said (board_said wanted run run.end))
+    ⊎ (IsBrokenAfter before after (board_log wanted s run) (text_said (board_said wanted run run.end))
     × HaveLookedAtAll s run.steps probes left)

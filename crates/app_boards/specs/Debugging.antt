@@ -3,9 +3,9 @@ use Rattle.std.specs.Prelude.{ℕ, List, None, Some, Ok, Err}
 use Rattle.std.specs.declared.option.Option.{Option}
 use Rattle.std.specs.declared.result.Result.{Result}
 use Rattle.first_fault.specs.FirstFault.{Fault}
-use Rattle.fw_debug.specs.Scripts.{number_of, script_of}
-use Rattle.fw_debug.specs.declared.rule.SessionFault.{SessionFault}
-use Rattle.fw_debug.specs.declared.rule.SessionFault.TheVariants.{Line}
+use Rattle.debugger.specs.Scripts.{number_of, script_of}
+use Rattle.debugger.specs.declared.rule.SessionFault.{SessionFault}
+use Rattle.debugger.specs.declared.rule.SessionFault.TheVariants.{Line}
 use Rattle.app_words.specs.declared.refusal.Refusal.{Refusal}
 use Rattle.app_words.specs.declared.refusal.Refusal.TheVariants.{Script}
 

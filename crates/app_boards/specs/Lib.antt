@@ -2,4 +2,4 @@ pub mod Debugging
 pub mod BoardTexts
 pub mod BoardAnswers
 pub mod SessionAnswers
-pub mod Telling
+pub mod BoardOfText

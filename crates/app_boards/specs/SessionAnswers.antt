@@ -2,8 +2,8 @@
 use Rattle.std.specs.Prelude.{◌≡◌, ◌⊎◌, ℕ, List, length, None, Some, Ok, Err}
 use Rattle.std.specs.declared.option.Option.{Option}
 use Rattle.board_probes.specs.Probes.{Watch}
-use Rattle.fw_debug.specs.Obeyed.{IsObeyed, IsObeyedInPart}
-use Rattle.fw_debug.specs.Sessions.{Debuggee}
+use Rattle.debugger.specs.Obeyed.{IsObeyed, IsObeyedInPart}
+use Rattle.debugger.specs.Sessions.{Debuggee}
 use Rattle.app_words.specs.declared.refusal.Refusal.TheVariants.{Script, Memory}
 use Rattle.app_answers.specs.FileAnswers.{Answer}
 use Rattle.app_answers.specs.Leaving.{Left}

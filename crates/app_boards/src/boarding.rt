@@ -5,15 +5,15 @@ ghost use Rattle.std.specs.Prelude.{◌≡◌, ◌≤◌, Err, length, map, Ok};
 ghost use Rattle.key_file.specs.Accepted.{IsAccepted};
 ghost use Rattle.story_run.specs.Gliding.{history_of};
 ghost use Rattle.app_answers.specs.Spoken.{IsSpoken};
-ghost use Rattle.app_boards.specs.BoardAnswers.{IsBoardTold};
-ghost use Rattle.app_boards.specs.Telling.{MayTellBoard};
+ghost use Rattle.app_boards.specs.BoardAnswers.{IsBoardSaid};
+ghost use Rattle.app_boards.specs.BoardOfText.{MaySayOfBoard};
 ghost use Rattle.app_words.specs.declared.kind.Kind.{Kind};
 ghost use Rattle.app_words.specs.Kinds.{limit_of};
 
 use app_answers::{Spoken, events_in, put_end};
 use app_words::{BoardCommand, BoardRun, Refusal};
 use board_probes::Probe;
-use board_run::{Board, End};
+use board_run::{End, ProgramRun};
 use io_edge::Sink;
 use key_file::Feed;
 use layout_reader::Layout;
@@ -23,7 +23,7 @@ use std::alloc::Global;
 /// Makes a run on the board and puts its log as it arises, and then, if the run is over, the state at its end if
 /// that is wanted. It takes no memory.
 fn put_log<F: Feed, K: Sink>(
-    board: Board<F>,
+    board: ProgramRun<F>,
     steps: bool,
     out: &mut K,
     probes: &mut Vec<Box<dyn Probe>>,
@@ -31,7 +31,7 @@ fn put_log<F: Feed, K: Sink>(
     requires accepted { IsAccepted (history_of board) }
     ensures says { let before = map (λ b. watch b) probes.old.items in
         let after = map (λ b. watch b) probes.new.items in
-        IsSpoken (λ answer taking log. IsBoardTold (BoardCommand.Log steps) board answer before
+        IsSpoken (λ answer taking log. IsBoardSaid (BoardCommand.Log steps) board answer before
         (record { probes = after; taking = taking; log = log }))
         (Ok result) (K.shown out.old) (K.shown out.new) }
 {
@@ -52,14 +52,14 @@ fn put_log<F: Feed, K: Sink>(
 
 /// Makes a run on the board and puts its two wires as they change. It takes no memory.
 fn put_trace<F: Feed, K: Sink>(
-    board: Board<F>,
+    board: ProgramRun<F>,
     out: &mut K,
     probes: &mut Vec<Box<dyn Probe>>,
 ) -> Spoken
     requires accepted { IsAccepted (history_of board) }
     ensures says { let before = map (λ b. watch b) probes.old.items in
         let after = map (λ b. watch b) probes.new.items in
-        IsSpoken (λ answer taking log. IsBoardTold BoardCommand.Trace board answer before
+        IsSpoken (λ answer taking log. IsBoardSaid BoardCommand.Trace board answer before
         (record { probes = after; taking = taking; log = log }))
         (Ok result) (K.shown out.old) (K.shown out.new) }
 {
@@ -74,7 +74,7 @@ fn put_trace<F: Feed, K: Sink>(
 
 /// Makes a run on the board and puts what is wanted of it as it arises. It takes no memory.
 fn put_board<F: Feed, K: Sink>(
-    board: Board<F>,
+    board: ProgramRun<F>,
     wanted: BoardCommand,
     out: &mut K,
     probes: &mut Vec<Box<dyn Probe>>,
@@ -82,7 +82,7 @@ fn put_board<F: Feed, K: Sink>(
     requires accepted { IsAccepted (history_of board) }
     ensures says { let before = map (λ b. watch b) probes.old.items in
         let after = map (λ b. watch b) probes.new.items in
-        IsSpoken (λ answer taking log. IsBoardTold wanted board answer before
+        IsSpoken (λ answer taking log. IsBoardSaid wanted board answer before
         (record { probes = after; taking = taking; log = log }))
         (Ok result) (K.shown out.old) (K.shown out.new) }
 {
@@ -106,14 +106,14 @@ pub fn run_board<K: Sink>(
     requires within { length text.now ≤ limit_of Kind.Keys }
     ensures says { let before = map (λ b. watch b) probes.old.items in
         let after = map (λ b. watch b) probes.new.items in
-        IsSpoken (λ answer taking log. MayTellBoard wanted image.now.bytes layout.now text.now answer before
+        IsSpoken (λ answer taking log. MaySayOfBoard wanted image.now.bytes layout.now text.now answer before
         (record { probes = after; taking = taking; log = log }))
         result (K.shown out.old) (K.shown out.new) }
     ensures unread { result ≡ Err Refusal.Read → ⊥ }
 {
     let feed = events_in(text, layout)?;
-    match Board::new(alloc, image, wanted.fill, feed) {
+    match ProgramRun::new(alloc, image, wanted.fill, feed) {
         Err(_) => Err(Refusal::Memory),
-        Ok(board) => Ok(put_board(board, wanted.told, out, probes)),
+        Ok(board) => Ok(put_board(board, wanted.prints_what, out, probes)),
     }
 }

@@ -2,9 +2,9 @@
 //! key history.
 
 ghost use Rattle.std.specs.Prelude.{◌≡◌, [], Err, length, map, MatchResult};
-ghost use Rattle.fw_debug.specs.Faults.{IsRight, IsVerdict};
-ghost use Rattle.fw_debug.specs.Obeyed.{IsObeyed, IsObeyedInPart};
-ghost use Rattle.fw_debug.specs.Scripts.{script_of};
+ghost use Rattle.debugger.specs.Faults.{IsRight, IsVerdict};
+ghost use Rattle.debugger.specs.Obeyed.{IsObeyed, IsObeyedInPart};
+ghost use Rattle.debugger.specs.Scripts.{script_of};
 ghost use Rattle.app_answers.specs.Answers.{answer_of};
 ghost use Rattle.app_answers.specs.Taking.{Taking};
 ghost use Rattle.app_boards.specs.Debugging.{script_refusal};
@@ -12,7 +12,7 @@ ghost use Rattle.app_boards.specs.SessionAnswers.{MayAnswerDebug};
 
 use app_words::Refusal;
 use board_probes::Probe;
-use fw_debug::{Debuggee, SessionFault, obey_script};
+use debugger::{Debuggee, SessionFault, obey_script};
 use std::alloc::Global;
 
 /// What the lines of a script that is right for these probes print in a session over the run of what is debugged.

@@ -2,4 +2,4 @@ pub mod RunPrintsExpected
 pub mod StrokesAreAccepted
 pub mod StartsAreLines
 pub mod RunsAreSaid
-pub mod LinesStandInText
+pub mod LinesAreInText

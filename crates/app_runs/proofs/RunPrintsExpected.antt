@@ -10,7 +10,7 @@ use Rattle.subsystem.specs.Agreement.{IsAsExpected}
 use Rattle.subsystem.specs.Starts.{AreStartsOf}
 use Rattle.board_probes.specs.Probes.{Watch}
 use Rattle.joint_feed.specs.Stories.{story}
-use Rattle.subsystem.specs.Running.{Outcome}
+use Rattle.subsystem.specs.LayoutOutcomes.{Outcome}
 use Rattle.app_words.specs.declared.words.RunCommand.TheVariants.{Expect}
 use Rattle.app_answers.specs.Leaving.{HaveLookedAtAll}
 use Rattle.app_runs.specs.RunTexts.{IsRunText, expected_text}

@@ -1,4 +1,4 @@
--- What `run`, `expect` and `sample` may say, behind files that were judged.
+-- What `run`, `expect` and `sample` may say, after files that were judged.
 use Rattle.std.proofs.Common.{◌≡◌, ◌≤◌, ℕ, Bool, List, [], Global, Ok, Err, inr, refl, ap, sym, subst}
 use Rattle.std.specs.Prelude.{OnErr, OnOk}
 use Rattle.std.specs.declared.result.Result.{Result}
@@ -13,10 +13,10 @@ use Rattle.key_file.specs.Histories.{KeyHistory}
 use Rattle.key_file.specs.KeyFile.{history_of}
 use Rattle.layout_reader.specs.Layouts.{IsKeyLayout, KeyLayout, us84}
 use Rattle.story_run.specs.declared.ending.Ending.TheVariants.{TickStart}
-use Rattle.story_run.specs.Running.{IsOverBehind}
+use Rattle.story_run.specs.Running.{IsOverAfter}
 use Rattle.subsystem.specs.Agreement.{RunsAsExpected}
 use Rattle.runs_agree.specs.Outcomes.{RunsComeToOutcomes}
-use Rattle.subsystem.specs.Running.{IsOutcome, Outcome}
+use Rattle.subsystem.specs.LayoutOutcomes.{IsOutcome, Outcome}
 use Rattle.app_words.specs.declared.refusal.Refusal.{Refusal}
 use Rattle.app_answers.specs.declared.spoken.Spoken.{Spoken}
 use Rattle.app_answers.specs.declared.spoken.Spoken.TheVariants.{Said}
@@ -30,8 +30,8 @@ use Rattle.app_runs.specs.RunTexts.{HaveLookedToCut, IsRunText, run_text}
 use Rattle.app_runs.specs.Sampling.{sample_history, sample_story, sample_text}
 use Rattle.app_answers.specs.Spoken.{IsSpoken, May, still_to_say}
 use Rattle.app_answers.specs.Taking.{Taking, Whole, CutOff}
-use Rattle.app_runs.specs.Telling.{MayTell, MayTellRun}
-use Rattle.app_answers.proofs.AreSpoken.{left_behind, left_so, unsaid_so, with_history}
+use Rattle.app_runs.specs.RunOfText.{MaySayOfText, MaySayOfRun}
+use Rattle.app_answers.proofs.AreSpoken.{left_after, left_so, unsaid_so, with_history}
 use Rattle.wire_trace.specs.Ending.{IsTraceBrokenOff, IsTraceSaid}
 use Rattle.wire_trace.specs.Trace.{trace_to}
 use Rattle.wires_heard.specs.Hearing.{HearsAll}
@@ -42,9 +42,9 @@ use Rattle.app_runs.proofs.StrokesAreAccepted.{sample_accepted}
 pub ran : (command : RunCommand) (layout : KeyLayout) (text : List ℕ) (history : KeyHistory)
     (answer : Answer) (probes : List Watch) (left : Left)
     → history_of layout text ≡ Ok history
-    → left.log ≡ [] → MayAnswerRun command layout history answer probes left → MayTell command layout text answer probes left
+    → left.log ≡ [] → MayAnswerRun command layout history answer probes left → MaySayOfText command layout text answer probes left
 ran command layout text history answer probes left is alone may =
-    with_history (MayTellRun command layout probes) (history_of layout text) history answer probes left is (may, alone)
+    with_history (MaySayOfRun command layout probes) (history_of layout text) history answer probes left is (may, alone)
 
 module _ (ticks steps : Bool) (layout : KeyLayout) (text : List ℕ) (history : KeyHistory) (is : history_of layout text ≡ Ok history) where
   module _ (law : RunsAsExpected) (sound : IsKeyLayout layout) (accepted : IsAcceptedFor layout history)
@@ -57,9 +57,9 @@ module _ (ticks steps : Bool) (layout : KeyLayout) (text : List ℕ) (history : 
     said_so = (outcome, law layout history run sound (lawful_for accepted) outcome, refl, tt)
 
     -- it is said whole
-    pub told_whole : HaveLookedAtAll s run.steps probes left
-        → MayTell (Log ticks steps) layout text (Ok (run_text ticks steps run)) probes (left_so left Whole)
-    told_whole looked =
+    pub reported_whole : HaveLookedAtAll s run.steps probes left
+        → MaySayOfText (Log ticks steps) layout text (Ok (run_text ticks steps run)) probes (left_so left Whole)
+    reported_whole looked =
         ran (Log ticks steps) layout text history (Ok (run_text ticks steps run)) probes (left_so left Whole) is refl
         (inr (
           run_text ticks steps run,
@@ -70,9 +70,9 @@ module _ (ticks steps : Bool) (layout : KeyLayout) (text : List ℕ) (history : 
         ))
 
     -- it is broken off
-    pub told_in_part : (x y : Shown) → HaveLookedToCut ticks steps s run x y probes left
-        → MayTell (Log ticks steps) layout text (Ok (run_text ticks steps run)) probes (left_so left (CutOff x y))
-    told_in_part x y looked =
+    pub reported_in_part : (x y : Shown) → HaveLookedToCut ticks steps s run x y probes left
+        → MaySayOfText (Log ticks steps) layout text (Ok (run_text ticks steps run)) probes (left_so left (CutOff x y))
+    reported_in_part x y looked =
         ran (Log ticks steps) layout text history (Ok (run_text ticks steps run)) probes (left_so left (CutOff x y)) is refl
         (inr (
           run_text ticks steps run,
@@ -89,12 +89,12 @@ module _ (ticks steps : Bool) (layout : KeyLayout) (text : List ℕ) (history : 
       → OnOk result ((run : Outcome) × IsOutcome s run × IsSaid x y (run_text ticks steps run) × HaveLookedAtAll s run.steps probes left)
       → OnErr result ((run : Outcome) × IsOutcome s run × IsBrokenOff x y (run_text ticks steps run)
       × HaveLookedToCut ticks steps s run x y probes left)
-      → IsSpoken (λ answer taking log. MayTell (Log ticks steps) layout text answer probes (left_behind left taking log))
+      → IsSpoken (λ answer taking log. MaySayOfText (Log ticks steps) layout text answer probes (left_after left taking log))
       (Ok (Said result)) x y
   streamed law sound accepted s this (Ok done) x y probes left h k =
-      (run_text ticks steps h.0, [], told_whole law sound accepted s this h.0 h.1 probes left h.3, h.2)
+      (run_text ticks steps h.0, [], reported_whole law sound accepted s this h.0 h.1 probes left h.3, h.2)
   streamed law sound accepted s this (Err fault) x y probes left h k =
-      (Ok (run_text ticks steps k.0), [], told_in_part law sound accepted s this k.0 k.1 probes left x y k.3, k.2)
+      (Ok (run_text ticks steps k.0), [], reported_in_part law sound accepted s this k.0 k.1 probes left x y k.3, k.2)
 
 -- a text that was said at the end, whole or not
 said_at_end : (may : May) (result : Result (Unit {0}) SinkFault) (text : List ℕ) (x y : Shown)
@@ -134,9 +134,9 @@ module _ (layout : KeyLayout) (text : List ℕ) (history : KeyHistory) (is : his
     abbrev s : Story
     s = story (image_of layout) history
 
-    trace_told : (k : ℕ) → IsOverBehind TickStart s k → (taking : Taking)
-        → MayTell Trace layout text (Ok (trace_to s k)) probes (left_so probes taking)
-    trace_told k over taking =
+    trace_reported : (k : ℕ) → IsOverAfter TickStart s k → (taking : Taking)
+        → MaySayOfText Trace layout text (Ok (trace_to s k)) probes (left_so probes taking)
+    trace_reported k over taking =
         let made = outcomes layout history k sound (lawful_for accepted) over in
         let run = made.0 in
         ran Trace layout text history (Ok (trace_to s k)) probes (left_so probes taking) is refl
@@ -144,28 +144,28 @@ module _ (layout : KeyLayout) (text : List ℕ) (history : KeyHistory) (is : his
 
     -- it is said whole
     pub traced : (done : Unit {0}) → IsTraceSaid s x y
-        → IsSpoken (λ answer taking log. MayTell Trace layout text answer probes (left_behind probes taking log)) (Ok (Said (Ok done))) x y
-    traced done h = (trace_to s h.steps, [], trace_told h.steps h.is_over Whole, h.said)
+        → IsSpoken (λ answer taking log. MaySayOfText Trace layout text answer probes (left_after probes taking log)) (Ok (Said (Ok done))) x y
+    traced done h = (trace_to s h.steps, [], trace_reported h.steps h.is_over Whole, h.said)
 
     -- it is broken off
     pub trace_stopped : (fault : SinkFault) → IsTraceBrokenOff s x y
-        → IsSpoken (λ answer taking log. MayTell Trace layout text answer probes (left_behind probes taking log))
+        → IsSpoken (λ answer taking log. MaySayOfText Trace layout text answer probes (left_after probes taking log))
         (Ok (Said (Err fault))) x y
-    trace_stopped fault h = (Ok (trace_to s h.steps), [], trace_told h.steps h.is_over (CutOff x y), h.broken)
+    trace_stopped fault h = (Ok (trace_to s h.steps), [], trace_reported h.steps h.is_over (CutOff x y), h.broken)
 
 -- `run` and `expect`, of a layout and a key file's text
-pub told_by : (c d : RunCommand) (layout : KeyLayout) (text : List ℕ) (probes left : List Watch)
+pub said_by_run : (c d : RunCommand) (layout : KeyLayout) (text : List ℕ) (probes left : List Watch)
     (result : Result Spoken Refusal) (x y : Shown) → c ≡ d
-    → IsSpoken (λ answer taking log. MayTell d layout text answer probes (left_behind left taking log)) result x y
-    → IsSpoken (λ answer taking log. MayTell c layout text answer probes (left_behind left taking log)) result x y
-told_by c d layout text probes left result x y is h =
-    subst (λ (k : RunCommand). IsSpoken (λ answer taking log. MayTell k layout text answer probes (left_behind left taking log)) result x y)
+    → IsSpoken (λ answer taking log. MaySayOfText d layout text answer probes (left_after left taking log)) result x y
+    → IsSpoken (λ answer taking log. MaySayOfText c layout text answer probes (left_after left taking log)) result x y
+said_by_run c d layout text probes left result x y is h =
+    subst (λ (k : RunCommand). IsSpoken (λ answer taking log. MaySayOfText k layout text answer probes (left_after left taking log)) result x y)
     (sym is) h
 
-pub told_unsaid : (c d : RunCommand) (layout : KeyLayout) (text : List ℕ) (probes left : List Watch)
+pub reported_unsaid : (c d : RunCommand) (layout : KeyLayout) (text : List ℕ) (probes left : List Watch)
     (said : Result (Vec ℕ Global) Refusal) (result : Result Spoken Refusal) (x : Shown) → c ≡ d
-    → result ≡ still_to_say said → ((taking : Taking) → MayTell d layout text (answer_of said) probes (left_so left taking))
-    → IsSpoken (λ answer taking log. MayTell c layout text answer probes (left_behind left taking log)) result x x
-told_unsaid c d layout text probes left said result x is so h =
-    told_by c d layout text probes left result x x is
-    (unsaid_so (λ answer taking log. MayTell d layout text answer probes (left_behind left taking log)) said result x so h)
+    → result ≡ still_to_say said → ((taking : Taking) → MaySayOfText d layout text (answer_of said) probes (left_so left taking))
+    → IsSpoken (λ answer taking log. MaySayOfText c layout text answer probes (left_after left taking log)) result x x
+reported_unsaid c d layout text probes left said result x is so h =
+    said_by_run c d layout text probes left result x x is
+    (unsaid_so (λ answer taking log. MaySayOfText d layout text answer probes (left_after left taking log)) said result x so h)

@@ -1,25 +1,25 @@
--- Lines of tick starts that are said one after another, and what is said of a run behind its log.
+-- Lines of tick starts that are said one after another, and what is said of a run after its log.
 use Rattle.std.proofs.Common.{◌≡◌, ◌<◌, ℕ, suc, ◌+◌, Bool, true, false, List, [], ◌∷◌, ◌++◌, length}
 use Rattle.std.proofs.Common.{drop, get_or, refl, ap, sym, subst, ◌∙◌, inl, inr, arith}
 use Rattle.std.specs.Prelude.{codes, decimal, if◌then◌else◌, Ok, Err, OnErr, OnOk}
 use Rattle.std.specs.declared.result.Result.{Result}
 use Rattle.std.proofs.lemmas.List.{append_assoc, drop_more}
 use Rattle.io_edge.specs.Said.{IsBrokenOff, IsSaid, Shown}
-use Rattle.io_edge.proofs.Pieces.{AreLines, EndsLine, broken_before, ends_behind, lines_behind, none_said, said_then_broken, said_then_said}
+use Rattle.io_edge.proofs.Pieces.{AreLines, EndsLine, broken_before, ends_afterwards, lines_after, none_said, said_then_broken, said_then_said}
 use Rattle.mcs48_core.specs.StateText.{state_text_of}
-use Rattle.story_run.specs.Telling.{IsBrokenBehind}
-use Rattle.subsystem.specs.Running.{Outcome}
+use Rattle.story_run.specs.Reports.{IsBrokenAfter}
+use Rattle.subsystem.specs.LayoutOutcomes.{Outcome}
 use Rattle.subsystem.specs.Texts.{log_text}
 use Rattle.subsystem.proofs.Lines.{are_lines}
-use Rattle.app_runs.specs.RunTexts.{behind_log, run_text, start_line, start_lines}
+use Rattle.app_runs.specs.RunTexts.{text_after_log, run_text, start_line, start_lines}
 
 ends : (number stamp : ℕ) → EndsLine (start_line number stamp)
-ends number stamp = ends_behind (codes "start " ++ decimal number ++ codes " " ++ decimal stamp) (codes "\n") ([], refl)
+ends number stamp = ends_afterwards (codes "start " ++ decimal number ++ codes " " ++ decimal stamp) (codes "\n") ([], refl)
 
 are_starts : (number : ℕ) (stamps : List ℕ) → AreLines (start_lines number stamps)
 are_starts number [] = inl refl
 are_starts number (stamp ∷ stamps) =
-    lines_behind (start_line number stamp) (start_lines (suc number) stamps) (inr (ends number stamp)) (are_starts (suc number) stamps)
+    lines_after (start_line number stamp) (start_lines (suc number) stamps) (inr (ends number stamp)) (are_starts (suc number) stamps)
 
 -- lines of a text were said, and the rest of it is left
 pub record IsSaidTo (x y : Shown) (text rest : List ℕ) : Type 0 where
@@ -32,7 +32,7 @@ pub none_yet : (x : Shown) (text : List ℕ) → IsSaidTo x x text text
 none_yet x text = record { front = []; lines = inl refl; said = none_said x; whole = refl }
 
 module _ (n : ℕ) (stamps : List ℕ) (stamp : ℕ) (more : n < length stamps) (at : stamp ≡ get_or stamps n 0) where
-  -- the next line, and those behind it
+  -- the next line, and those after it
   next_line : start_lines n (drop n stamps) ≡ start_line n stamp ++ start_lines (n + 1) (drop (n + 1) stamps)
   next_line =
       let later : suc n ≡ n + 1 = omega arith in
@@ -41,29 +41,29 @@ module _ (n : ℕ) (stamps : List ℕ) (stamp : ℕ) (more : n < length stamps) 
       ∙ ap (λ m. start_line n stamp ++ start_lines m (drop (n + 1) stamps)) later
 
   module _ (x y z : Shown) (text : List ℕ) (h : IsSaidTo x y text (start_lines n (drop n stamps))) where
-    behind : (h.front ++ start_line n stamp) ++ start_lines (n + 1) (drop (n + 1) stamps) ≡ text
-    behind =
+    afterwards : (h.front ++ start_line n stamp) ++ start_lines (n + 1) (drop (n + 1) stamps) ≡ text
+    afterwards =
         append_assoc h.front (start_line n stamp) (start_lines (n + 1) (drop (n + 1) stamps))
         ∙ ap (λ t. h.front ++ t) (sym next_line) ∙ h.whole
 
     front_lines : AreLines (h.front ++ start_line n stamp)
-    front_lines = lines_behind h.front (start_line n stamp) h.lines (inr (ends n stamp))
+    front_lines = lines_after h.front (start_line n stamp) h.lines (inr (ends n stamp))
 
     pub one_more : IsSaid y z (start_line n stamp) → IsSaidTo x z text (start_lines (n + 1) (drop (n + 1) stamps))
     one_more k = record {
       front = h.front ++ start_line n stamp;
       lines = front_lines;
       said = said_then_said x y z h.front (start_line n stamp) h.lines h.said k;
-      whole = behind;
+      whole = afterwards;
     }
 
     pub cut_off : IsBrokenOff y z (start_line n stamp) → IsBrokenOff x z text
     cut_off k =
-        subst (IsBrokenOff x z) behind
+        subst (IsBrokenOff x z) afterwards
         (broken_before x z (h.front ++ start_line n stamp) (start_lines (n + 1) (drop (n + 1) stamps)) front_lines
         (said_then_broken x y z h.front (start_line n stamp) h.lines h.said k))
 
--- the starts, where they are wanted
+-- the starts, if they are wanted
 ticks_lines : (wanted : Bool) (stamps : List ℕ) → AreLines (if wanted then start_lines 0 stamps else [])
 ticks_lines true stamps = are_starts 0 stamps
 ticks_lines false stamps = inl refl
@@ -71,7 +71,7 @@ ticks_lines false stamps = inl refl
 module _ (ticks steps : Bool) (run : Outcome) where
   both_lines : AreLines (log_text run.log ++ (if ticks then start_lines 0 run.starts else []))
   both_lines =
-      lines_behind (log_text run.log) (if ticks then start_lines 0 run.starts else []) (are_lines run.log) (ticks_lines ticks run.starts)
+      lines_after (log_text run.log) (if ticks then start_lines 0 run.starts else []) (are_lines run.log) (ticks_lines ticks run.starts)
 
   module _ (x a b z : Shown) where
     pub whole_run : IsSaid x a (log_text run.log) → IsSaid a b (if ticks then start_lines 0 run.starts else [])
@@ -89,16 +89,16 @@ module _ (ticks steps : Bool) (run : Outcome) where
   cut_in_starts x a z h k =
       broken_before x z _ _ both_lines (said_then_broken x a z (log_text run.log) _ (are_lines run.log) h k)
 
-  -- behind a log that was said whole
-  pub starts_behind_log : (x a z : Shown) → IsSaid x a (log_text run.log) → IsBrokenOff a z (if ticks then start_lines 0 run.starts else [])
-      → IsBrokenBehind x z (log_text run.log) (behind_log ticks steps run)
-  starts_behind_log x a z h k =
+  -- after a log that was said whole
+  pub starts_after_log : (x a z : Shown) → IsSaid x a (log_text run.log) → IsBrokenOff a z (if ticks then start_lines 0 run.starts else [])
+      → IsBrokenAfter x z (log_text run.log) (text_after_log ticks steps run)
+  starts_after_log x a z h k =
       record { between = a; said = h; broken = broken_before a z _ _ (ticks_lines ticks run.starts) k }
 
-  pub end_behind_log : (x a b z : Shown) → IsSaid x a (log_text run.log) → IsSaid a b (if ticks then start_lines 0 run.starts else [])
+  pub end_after_log : (x a b z : Shown) → IsSaid x a (log_text run.log) → IsSaid a b (if ticks then start_lines 0 run.starts else [])
       → IsBrokenOff b z (if steps then state_text_of run.end run.steps run.cycles else [])
-      → IsBrokenBehind x z (log_text run.log) (behind_log ticks steps run)
-  end_behind_log x a b z h k l =
+      → IsBrokenAfter x z (log_text run.log) (text_after_log ticks steps run)
+  end_after_log x a b z h k l =
       record { between = a; said = h; broken = said_then_broken a b z _ _ (ticks_lines ticks run.starts) k l }
 
   pub cut_in_log : (x z : Shown) → IsBrokenOff x z (log_text run.log) → IsBrokenOff x z (run_text ticks steps run)

@@ -5,9 +5,9 @@ use Rattle.std.specs.Prelude.{IsSome}
 use Rattle.std.specs.List.{flat_map, range_with_len}
 use Rattle.std.proofs.lemmas.Bool.{eqb-false}
 use Rattle.std.proofs.lemmas.List.FromFn.{map-range_with_len_more}
-use Rattle.board_lines.specs.declared.event.Edge.{Edge}
-use Rattle.board_lines.specs.declared.event.HostEvent.{HostEvent}
-use Rattle.board_lines.specs.declared.event.HostAct.TheVariants.{Take}
+use Rattle.board_terms.specs.declared.event.Edge.{Edge}
+use Rattle.board_terms.specs.declared.event.HostEvent.{HostEvent}
+use Rattle.board_terms.specs.declared.event.HostAct.TheVariants.{Take}
 use Rattle.key_file.specs.Accepted.{IsAcceptedFor}
 use Rattle.key_file.specs.Histories.{KeyHistory}
 use Rattle.layout_reader.specs.Layouts.{entry_at, sample_entry, us84}
@@ -100,4 +100,4 @@ edges_pushed k t u place xs ys zs was begins ends at first second =
 
 pub takes_pushed : (k t : ℕ) (xs ys : List HostEvent) → xs ≡ map stroke_take (range_with_len 0 k) → t ≡ stroke_start k + 14336
     → ys ≡ xs ++ record { stamp = t; act = Take } ∷ [] → ys ≡ map stroke_take (range_with_len 0 (k + 1))
-takes_pushed k t xs ys was stands more = more ∙ rw (was, stands) (sym (map-range_with_len_more stroke_take 0 k k (omega arith)))
+takes_pushed k t xs ys was in_its_place more = more ∙ rw (was, in_its_place) (sym (map-range_with_len_more stroke_take 0 k k (omega arith)))

@@ -1,7 +1,7 @@
 -- `run` and `expect` print in time what a key sends.
 use Rattle.std.specs.Prelude.{◌≡◌, ◌≤◌, ◌<◌, ℕ, suc, ◌+◌, ◌-◌, ◌*◌, ◌/◌, List, [], ◌∷◌, ◌++◌, length, Ok, Some, slice_get}
-use Rattle.board_lines.specs.Cadence.{listed}
-use Rattle.board_lines.specs.declared.event.Edge.{Edge}
+use Rattle.board_terms.specs.Cadence.{listed}
+use Rattle.board_terms.specs.declared.event.Edge.{Edge}
 use Rattle.board_probes.specs.Probes.{Watch}
 use Rattle.kbd_model.specs.Once.{waiting}
 use Rattle.key_file.specs.Histories.{KeyHistory}
@@ -9,9 +9,9 @@ use Rattle.layout_reader.specs.Layouts.{KeyLayout}
 use Rattle.link_model.specs.declared.line.LogLine.{LogLine}
 use Rattle.link_times.specs.Coming.{keyboard_at}
 use Rattle.link_times.specs.Flowing.{IsHostQuiet}
-use Rattle.link_times.specs.Latency.{StandsBehind, Strikes, put_out_in, read_stamp}
+use Rattle.link_times.specs.Latency.{IsListedAt, Strikes, put_out_in, read_stamp}
 use Rattle.pc_tables.specs.declared.item.Item.TheVariants.{Port}
-use Rattle.subsystem.specs.Running.{Outcome}
+use Rattle.subsystem.specs.LayoutOutcomes.{Outcome}
 use Rattle.subsystem.specs.Texts.{line_text}
 use Rattle.app_answers.specs.Leaving.{Left}
 use Rattle.app_runs.specs.RunAnswers.{MayAnswerRun}
@@ -29,8 +29,8 @@ EndsLine (x ∷ y ∷ ys) = EndsLine (y ∷ ys)
 pub record HasLine (text : List ℕ) (line : LogLine) : Type 0 where
   pub before : List ℕ
   pub begins : EndsLine before
-  pub behind : List ℕ
-  pub is : text ≡ before ++ (line_text line ++ behind)
+  pub afterwards : List ℕ
+  pub is : text ≡ before ++ (line_text line ++ afterwards)
 
 -- tick n of a run sees an edge, whose code waits at the next tick's start after so many bytes. What the controller puts
 -- out for byte i of it has its line, as a `port` with the tick in which INT 09h reads it; and it is read at most two ticks
@@ -38,7 +38,7 @@ pub record HasLine (text : List ℕ) (line : LogLine) : Type 0 where
 pub record IsPrintedInTime (layout : KeyLayout) (history : KeyHistory) (run : Outcome) (text : List ℕ) (n : ℕ)
     (edge : Edge) (code : List ℕ) : Type 0 where
   pub place : ℕ
-  pub stands : StandsBehind place code (waiting (keyboard_at layout history (listed run.starts) (suc n)))
+  pub in_its_place : IsListedAt place code (waiting (keyboard_at layout history (listed run.starts) (suc n)))
   pub prints : (i byte put : ℕ) → slice_get code i ≡ Some byte → i + place + suc n < length run.starts - 1
       → put_out_in layout history (listed run.starts) (i + place + suc n) byte ≡ Some put
       → HasLine text (record { tick = i + place + suc n; item = Port put })

@@ -1,5 +1,5 @@
 pub mod RunTexts
 pub mod Sampling
 pub mod RunAnswers
-pub mod Telling
+pub mod RunOfText
 pub mod InTime

@@ -3,18 +3,18 @@ use Rattle.std.specs.Prelude.{◌≡◌, ◌⊎◌, ℕ, List, Ok, Err}
 use Rattle.board_probes.specs.Probes.{Watch}
 use Rattle.key_file.specs.Histories.{KeyHistory}
 use Rattle.layout_reader.specs.Layouts.{KeyLayout}
-use Rattle.subsystem.specs.Running.{Outcome}
+use Rattle.subsystem.specs.LayoutOutcomes.{Outcome}
 use Rattle.app_words.specs.declared.refusal.Refusal.TheVariants.{Memory}
 use Rattle.app_words.specs.declared.words.RunCommand.{RunCommand}
 use Rattle.app_answers.specs.FileAnswers.{Answer}
 use Rattle.app_answers.specs.Leaving.{HaveLookedAtAll, Left}
-use Rattle.app_runs.specs.RunTexts.{AreLeft, AreLeftWanting, IsRunText}
+use Rattle.app_runs.specs.RunTexts.{AreLeft, AreLeftWithoutMemory, IsRunText}
 use Rattle.app_runs.specs.Sampling.{IsSampleText, sample_story}
 
 -- what may be answered of the run of a layout under a history, at which the probes look
 abbrev pub MayAnswerRun : RunCommand → KeyLayout → KeyHistory → Answer → List Watch → Left → Type 0
 MayAnswerRun command layout history answer probes left =
-    ((answer ≡ Err Memory) × AreLeftWanting command layout history probes left.probes)
+    ((answer ≡ Err Memory) × AreLeftWithoutMemory command layout history probes left.probes)
     ⊎ ((text : List ℕ) × (run : Outcome) × IsRunText command layout history text run × (answer ≡ Ok text)
     × AreLeft command layout history run left.taking probes left.probes)
 

@@ -9,11 +9,11 @@ use Rattle.key_file.specs.Histories.{KeyHistory}
 use Rattle.layout_reader.specs.Layouts.{KeyLayout}
 use Rattle.link_model.specs.Expected.{expected_log}
 use Rattle.mcs48_core.specs.StateText.{state_text_of}
-use Rattle.story_run.specs.Telling.{IsBrokenBehind}
+use Rattle.story_run.specs.Reports.{IsBrokenAfter}
 use Rattle.subsystem.specs.Agreement.{IsAsExpected}
 use Rattle.subsystem.specs.Looking.{HaveLookedAtSome}
 use Rattle.subsystem.specs.Putting.{HaveLookedToBreak}
-use Rattle.subsystem.specs.Running.{IsOutcome, Outcome}
+use Rattle.subsystem.specs.LayoutOutcomes.{IsOutcome, Outcome}
 use Rattle.subsystem.specs.Texts.{log_text}
 use Rattle.wire_trace.specs.Trace.{trace_to}
 use Rattle.wires_heard.specs.Hearing.{HearsAll}
@@ -68,8 +68,8 @@ abbrev pub HaveLooked : KeyLayout → KeyHistory → List Watch → List Watch �
 HaveLooked layout history probes left = HaveLookedAtSome (story (image_of layout) history) probes left
 
 -- what `run` says after the log
-abbrev pub behind_log : Bool → Bool → Outcome → List ℕ
-behind_log ticks steps run =
+abbrev pub text_after_log : Bool → Bool → Outcome → List ℕ
+text_after_log ticks steps run =
     (if ticks then start_lines 0 run.starts else [])
     ++ (if steps then state_text_of run.end run.steps run.cycles else [])
 
@@ -78,7 +78,7 @@ behind_log ticks steps run =
 abbrev pub HaveLookedToCut : Bool → Bool → Story → Outcome → Shown → Shown → List Watch → List Watch → Type 0
 HaveLookedToCut ticks steps s run before after probes left =
     HaveLookedToBreak s before after probes left
-    ⊎ (IsBrokenBehind before after (log_text run.log) (behind_log ticks steps run)
+    ⊎ (IsBrokenAfter before after (log_text run.log) (text_after_log ticks steps run)
     × HaveLookedAtAll s run.steps probes left)
 
 -- how the probes are left if the text is said, whole or up to a put that failed: `run` says its lines as they arise,
@@ -93,7 +93,7 @@ AreLeft Expect layout history run taking probes left =
 AreLeft Trace layout history run taking probes left = left ≡ probes
 
 -- how they are left if memory runs out: `run` and `trace` take all of it before the first step
-abbrev pub AreLeftWanting : RunCommand → KeyLayout → KeyHistory → List Watch → List Watch → Type 0
-AreLeftWanting (Log ticks steps) layout history probes left = left ≡ probes
-AreLeftWanting Expect layout history probes left = HaveLooked layout history probes left
-AreLeftWanting Trace layout history probes left = left ≡ probes
+abbrev pub AreLeftWithoutMemory : RunCommand → KeyLayout → KeyHistory → List Watch → List Watch → Type 0
+AreLeftWithoutMemory (Log ticks steps) layout history probes left = left ≡ probes
+AreLeftWithoutMemory Expect layout history probes left = HaveLooked layout history probes left
+AreLeftWithoutMemory Trace layout history probes left = left ≡ probes

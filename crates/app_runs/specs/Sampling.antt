@@ -1,15 +1,15 @@
 -- `sample`: a load of so many strokes of keys on the sample layout, and the line that is printed of its run.
 use Rattle.std.specs.Prelude.{◌≡◌, ℕ, ◌+◌, ◌-◌, ◌*◌, ◌%◌, true, false, List, [], ◌∷◌, ◌++◌, length, map, codes, decimal}
 use Rattle.std.specs.List.{flat_map, range_with_len}
-use Rattle.board_lines.specs.declared.event.Edge.{Edge}
-use Rattle.board_lines.specs.declared.event.HostEvent.{HostEvent}
+use Rattle.board_terms.specs.declared.event.Edge.{Edge}
+use Rattle.board_terms.specs.declared.event.HostEvent.{HostEvent}
 use Rattle.fw_compile.specs.Image.{image_of}
 use Rattle.joint_feed.specs.Stories.{Story, story}
 use Rattle.key_file.specs.Histories.{KeyHistory}
 use Rattle.layout_reader.specs.Layouts.{us84}
 use Rattle.subsystem.specs.Agreement.{IsAsExpected}
 use Rattle.subsystem.specs.Counts.{none_counted, with_lines}
-use Rattle.subsystem.specs.Running.{IsOutcome, Outcome}
+use Rattle.subsystem.specs.LayoutOutcomes.{IsOutcome, Outcome}
 use Rattle.subsystem.specs.declared.counts.Counts.{Counts}
 use Rattle.typed_log.specs.Typing.{first_up, stroke_start, take_of}
 

@@ -5,10 +5,10 @@
 #![tactic(auto)]
 
 mod latency;
+mod reporting;
 mod running;
 mod sampling;
 mod streaming;
-mod telling;
 mod tracing;
 
 pub use latency::keys_are_printed_in_time;

@@ -2,15 +2,15 @@
 
 ghost use Rattle.std.specs.Prelude.{◌≡◌, ◌≤◌, length, map, true, Err, Some};
 ghost use Rattle.app_answers.specs.Spoken.{IsSpoken};
-ghost use Rattle.app_runs.specs.Telling.{MayTell};
+ghost use Rattle.app_runs.specs.RunOfText.{MaySayOfText};
 ghost use Rattle.app_words.specs.declared.kind.Kind.{Kind};
 ghost use Rattle.app_words.specs.declared.words.Command.{Command};
 ghost use Rattle.app_words.specs.declared.words.PairCommand.{PairCommand};
 ghost use Rattle.app_words.specs.Kinds.{limit_of};
 ghost use Rattle.app_words.specs.Words.{leaves_probes};
 
+use crate::reporting::expected;
 use crate::streaming::stream;
-use crate::telling::expected;
 use crate::tracing::trace_wires;
 use app_answers::{Spoken, to_say};
 use app_words::{Refusal, RunCommand};
@@ -31,7 +31,7 @@ pub fn say_run<K: Sink>(
     requires within { length text.now ≤ limit_of Kind.Keys }
     ensures says { let before = map (λ b. watch b) probes.old.items in
         let after = map (λ b. watch b) probes.new.items in
-        IsSpoken (λ answer taking log. MayTell command layout.now text.now answer before
+        IsSpoken (λ answer taking log. MaySayOfText command layout.now text.now answer before
         (record { probes = after; taking = taking; log = log }))
         result (K.shown out.old) (K.shown out.new) }
     ensures untouched { leaves_probes (Some (Command.OverPair (PairCommand.OverRun command))) ≡ true

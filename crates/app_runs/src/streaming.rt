@@ -4,7 +4,7 @@
 ghost use Rattle.std.specs.Prelude.{◌≡◌, ◌≤◌, [], if◌then◌else◌, Err, length, map, OnErr, OnOk};
 ghost use Rattle.io_edge.specs.Said.{IsBrokenOff, IsSaid};
 ghost use Rattle.story_run.specs.Gliding.{history_of};
-ghost use Rattle.subsystem.specs.Running.{IsOutcome, Outcome};
+ghost use Rattle.subsystem.specs.LayoutOutcomes.{IsOutcome, Outcome};
 ghost use Rattle.key_file.specs.Accepted.{IsAccepted};
 ghost use Rattle.app_words.specs.declared.kind.Kind.{Kind};
 ghost use Rattle.app_words.specs.Kinds.{limit_of};
@@ -12,7 +12,7 @@ ghost use Rattle.app_words.specs.declared.words.RunCommand.{RunCommand};
 ghost use Rattle.app_answers.specs.Leaving.{HaveLookedAtAll};
 ghost use Rattle.app_runs.specs.RunTexts.{HaveLookedToCut, run_text, start_line, start_lines};
 ghost use Rattle.app_answers.specs.Spoken.{IsSpoken};
-ghost use Rattle.app_runs.specs.Telling.{MayTell};
+ghost use Rattle.app_runs.specs.RunOfText.{MaySayOfText};
 
 use app_answers::{Spoken, events_in, put_end};
 use app_words::Refusal;
@@ -48,7 +48,7 @@ fn put_starts<K: Sink>(out: &mut K, starts: &[u64]) -> Result<(), SinkFault>
     Ok(())
 }
 
-/// Puts a run's tick starts, where they are wanted.
+/// Puts a run's tick starts, if they are wanted.
 fn put_ticks<K: Sink>(out: &mut K, starts: &[u64], wanted: bool) -> Result<(), SinkFault>
     ensures said { OnOk result (IsSaid (K.shown out.old) (K.shown out.new)
         (if wanted then start_lines 0 starts.now else [])) }
@@ -61,7 +61,7 @@ fn put_ticks<K: Sink>(out: &mut K, starts: &[u64], wanted: bool) -> Result<(), S
     put_starts(out, starts)
 }
 
-/// Makes a run and puts its log as it arises, then its tick starts where they are wanted, and then the state at its end
+/// Makes a run and puts its log as it arises, then its tick starts if they are wanted, and then the state at its end
 /// if that is. It takes no memory.
 fn put_run<F: Feed, K: Sink>(
     engine: Engine<F>,
@@ -99,7 +99,7 @@ pub fn stream<K: Sink>(
     requires within { length text.now ≤ limit_of Kind.Keys }
     ensures says { let before = map (λ b. watch b) probes.old.items in
         let after = map (λ b. watch b) probes.new.items in
-        IsSpoken (λ answer taking log. MayTell (RunCommand.Log ticks steps) layout.now text.now answer before
+        IsSpoken (λ answer taking log. MaySayOfText (RunCommand.Log ticks steps) layout.now text.now answer before
         (record { probes = after; taking = taking; log = log }))
         result (K.shown out.old) (K.shown out.new) }
     ensures unread { result ≡ Err Refusal.Read → ⊥ }

@@ -6,7 +6,7 @@ ghost use Rattle.app_words.specs.declared.kind.Kind.{Kind};
 ghost use Rattle.app_words.specs.Kinds.{limit_of};
 ghost use Rattle.app_words.specs.declared.words.RunCommand.{RunCommand};
 ghost use Rattle.app_answers.specs.Spoken.{IsSpoken};
-ghost use Rattle.app_runs.specs.Telling.{MayTell};
+ghost use Rattle.app_runs.specs.RunOfText.{MaySayOfText};
 
 use app_answers::{Spoken, events_in};
 use app_words::Refusal;
@@ -27,7 +27,7 @@ pub fn trace_wires<K: Sink>(
 ) -> Result<Spoken, Refusal>
     requires within { length text.now ≤ limit_of Kind.Keys }
     ensures says { (probes : List Watch) →
-        IsSpoken (λ answer taking log. MayTell RunCommand.Trace layout.now text.now answer probes
+        IsSpoken (λ answer taking log. MaySayOfText RunCommand.Trace layout.now text.now answer probes
         (record { probes = probes; taking = taking; log = log }))
         result (K.shown out.old) (K.shown out.new) }
     ensures unread { result ≡ Err Refusal.Read → ⊥ }

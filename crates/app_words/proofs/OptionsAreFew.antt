@@ -1,4 +1,4 @@
--- Words behind a command's names that are no options.
+-- Words after a command's names that are no options.
 use Rattle.std.proofs.Common.{◌≡◌, ◌≤◌, ℕ, List, [], ◌∷◌, length, map, None, refl, arith}
 use Rattle.app_words.specs.Words.{board_options_of}
 

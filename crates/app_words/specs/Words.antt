@@ -102,28 +102,28 @@ run_of (first ∷ second ∷ options) =
     then option_map (λ command. OverPair (OverRun command)) (log_of options) else None
 run_of words = None
 
--- a run on the board, by what is told of it and by what a part holds at power-on
+-- a run on the board, by what is reported of it and by what a part holds at power-on
 abbrev pub on_board : BoardCommand → ℕ → BoardRun
-on_board told fill = record { told = told; fill = fill }
+on_board prints_what fill = record { prints_what = prints_what; fill = fill }
 
--- what is told of a run on the board, by `--steps` or `--trace`
-abbrev pub told_by : List ℕ → Option BoardCommand
-told_by option =
+-- what is reported of a run on the board, by `--steps` or `--trace`
+abbrev pub board_option : List ℕ → Option BoardCommand
+board_option option =
     if bytes_eq option (codes "--steps") then Some (board.Log true)
     else (if bytes_eq option (codes "--trace") then Some board.Trace else None)
 
 -- by one of them and `--fill` BYTE
 abbrev pub both_by : Option BoardCommand → Option ℕ → Option BoardRun
-both_by told fill = option_and_then (λ command. option_map (on_board command) fill) told
+both_by prints_what fill = option_and_then (λ command. option_map (on_board command) fill) prints_what
 
 -- the options of `board`: `--steps` or `--trace`, one of them at most, and `--fill` BYTE, in either order
 unfoldable pub board_options_of : List (List ℕ) → Option BoardRun
 board_options_of [] = both_by (Some (board.Log false)) (Some 0)
-board_options_of (option ∷ []) = both_by (told_by option) (Some 0)
+board_options_of (option ∷ []) = both_by (board_option option) (Some 0)
 board_options_of (option ∷ byte ∷ []) = both_by (Some (board.Log false)) (fill_by option byte)
 board_options_of (first ∷ second ∷ third ∷ []) =
-    if bytes_eq first (codes "--fill") then both_by (told_by third) (byte_of second)
-    else both_by (told_by first) (fill_by second third)
+    if bytes_eq first (codes "--fill") then both_by (board_option third) (byte_of second)
+    else both_by (board_option first) (fill_by second third)
 board_options_of words = None
 
 -- `board` NAME NAME NAME, and its options

@@ -2,7 +2,7 @@
 
 ghost use Rattle.std.specs.Prelude.{◌≡◌, codes, map, string_bytes};
 ghost use Rattle.std.specs.Str.{bytes_eq};
-ghost use Rattle.app_words.specs.Words.{are_both, board_options_of, both_by, fill_by, fill_of, log_of, told_by};
+ghost use Rattle.app_words.specs.Words.{are_both, board_options_of, both_by, fill_by, fill_of, log_of, board_option};
 
 use crate::bytes::read_byte;
 use crate::words::{BoardCommand, BoardRun, RunCommand};
@@ -90,9 +90,9 @@ pub(crate) fn read_probe_option(words: &[String]) -> Option<u8>
     }
 }
 
-/// What is told of a run on the board, by an option that says so.
-fn read_told(option: &str) -> Option<BoardCommand>
-    ensures { result ≡ told_by option.now }
+/// What is reported of a run on the board, by an option that says so.
+fn read_reported(option: &str) -> Option<BoardCommand>
+    ensures { result ≡ board_option option.now }
 {
     if is_steps(option) {
         return Some(BoardCommand::Log { steps: true });
@@ -104,16 +104,16 @@ fn read_told(option: &str) -> Option<BoardCommand>
 }
 
 /// A run on the board, if both parts of it were read.
-fn both(told: Option<BoardCommand>, fill: Option<u8>) -> Option<BoardRun>
-    ensures { result ≡ both_by told fill }
+fn both(prints_what: Option<BoardCommand>, fill: Option<u8>) -> Option<BoardRun>
+    ensures { result ≡ both_by prints_what fill }
 {
     Some(BoardRun {
-        told: told?,
+        prints_what: prints_what?,
         fill: fill?,
     })
 }
 
-/// The options of `board`: what is told, and what a part holds at power-on, in either order.
+/// The options of `board`: what is reported, and what a part holds at power-on, in either order.
 #[tactic(auto, unfolding(crate::specs::Words::board_options_of))]
 pub(crate) fn read_board_options(words: &[String]) -> Option<BoardRun>
     ensures { result ≡ board_options_of (map string_bytes words.now) }
@@ -121,10 +121,10 @@ pub(crate) fn read_board_options(words: &[String]) -> Option<BoardRun>
     let log = BoardCommand::Log { steps: false };
     match words {
         [] => both(Some(log), Some(0)),
-        [option] => both(read_told(option), Some(0)),
+        [option] => both(read_reported(option), Some(0)),
         [option, byte] => both(Some(log), read_fill(option, byte)),
-        [first, second, third] if is_fill(first) => both(read_told(third), read_byte(second)),
-        [first, second, third] => both(read_told(first), read_fill(second, third)),
+        [first, second, third] if is_fill(first) => both(read_reported(third), read_byte(second)),
+        [first, second, third] => both(read_reported(first), read_fill(second, third)),
         _ => None,
     }
 }

@@ -61,7 +61,7 @@ pub enum Refusal {
     },
     /// A step met a byte without an instruction.
     Stuck(Stuck),
-    /// Memory was wanting.
+    /// Memory ran out.
     Memory,
 }
 

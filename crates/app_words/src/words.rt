@@ -27,7 +27,7 @@ pub enum FileCommand {
     Compile,
 }
 
-/// What is told of a run.
+/// What is reported of a run.
 #[derive(Clone, Copy, Debug, PartialEq, Eq, Drop)]
 pub enum RunCommand {
     /// `run`: its log, then with `--ticks` its tick starts, and then with `--steps` the state at its end.
@@ -49,7 +49,7 @@ pub enum PairCommand {
     OverRun(RunCommand),
 }
 
-/// What is told of a run on the board.
+/// What is reported of a run on the board.
 #[derive(Clone, Copy, Debug, PartialEq, Eq, Drop)]
 pub enum BoardCommand {
     /// Its log, and then with `--steps` the state at its end.
@@ -58,10 +58,10 @@ pub enum BoardCommand {
     Trace,
 }
 
-/// A run on the board: what is told of it, and the byte that data memory, A and T hold at power-on.
+/// A run on the board: what is reported of it, and the byte that data memory, A and T hold at power-on.
 #[derive(Clone, Copy, Debug, PartialEq, Eq, Drop)]
 pub struct BoardRun {
-    pub told: BoardCommand,
+    pub prints_what: BoardCommand,
     pub fill: u8,
 }
 

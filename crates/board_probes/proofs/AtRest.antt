@@ -9,7 +9,7 @@ use Rattle.board_probes.specs.declared.tally.Arms.{Arms}
 use Rattle.board_probes.specs.Probes.{Sight, Watch, ear_after, line_kind, listening, looked, met_as}
 use Rattle.board_probes.specs.Resting.{has_level, rests, all_rest}
 use Rattle.board_probes.specs.Tallies.{noted}
-use Rattle.board_probes.specs.Transfers.{Ear, fall_at, falls_with, heard, is_behind, is_fall, sample, wires_at, with_fall}
+use Rattle.board_probes.specs.Transfers.{Ear, fall_at, falls_with, heard, is_later_than, is_fall, sample, wires_at, with_fall}
 
 abbrev ear_with : Option Sample → List Fall → Ear
 ear_with last falls = record { last = last; falls = falls }
@@ -24,7 +24,7 @@ level_is true clk e = e
 level_is false true e = absurd (cc e)
 level_is false false e = refl
 
--- a sample with the same clock as the last one is no fall, and behind it the next one is a fall as it were without it
+-- a sample with the same clock as the last one is no fall, and after it the next one is a fall as it were without it
 heard_less : (level : Bool) (s t : Sample) (ear : Ear)
     → (wires_at ear.last).clk ≡ level → s.lines.clk ≡ level → heard t (heard s ear) ≡ heard t ear
 heard_less level s t ear was is =
@@ -38,9 +38,9 @@ heard_less level s t ear was is =
 less : (a b : ℕ) → a < b → nat_lt a b ≡ true
 less a b l = grind (arith)
 
-later_behind : (c d : ℕ) (last : Option Sample) → c < d → is_behind c last ≡ true → is_behind d last ≡ true
-later_behind c d None l h = refl
-later_behind c d (Some s) l h = grind (arith)
+later_after : (c d : ℕ) (last : Option Sample) → c < d → is_later_than c last ≡ true → is_later_than d last ≡ true
+later_after c d None l h = refl
+later_after c d (Some s) l h = grind (arith)
 
 module _ (level : Bool) (s t : Sight) (later : s.cycle < t.cycle) (now : s.lines.clk ≡ level) where
   abbrev first : Sample
@@ -49,17 +49,17 @@ module _ (level : Bool) (s t : Sight) (later : s.cycle < t.cycle) (now : s.lines
   abbrev second : Sample
   second = sample t.cycle t.lines
 
-  behind_or_not : (ear : Ear) → (wires_at ear.last).clk ≡ level → (b : Bool) → is_behind s.cycle ear.last ≡ b
+  after_or_not : (ear : Ear) → (wires_at ear.last).clk ≡ level → (b : Bool) → is_later_than s.cycle ear.last ≡ b
       → ear_after t (cond b (heard first ear) ear) ≡ ear_after t ear
-  behind_or_not ear was false e = refl
-  behind_or_not ear was true e =
+  after_or_not ear was false e = refl
+  after_or_not ear was true e =
       ap (λ (b : Bool). cond b (heard second (heard first ear)) (heard first ear)) (less s.cycle t.cycle later)
       ∙ heard_less level first second ear was now
-      ∙ sym (ap (λ (b : Bool). cond b (heard second ear) ear) (later_behind s.cycle t.cycle ear.last later e))
+      ∙ sym (ap (λ (b : Bool). cond b (heard second ear) ear) (later_after s.cycle t.cycle ear.last later e))
 
   heard_again : (ear : Ear) (b : Bool) → (b ≡ true → (wires_at ear.last).clk ≡ level)
       → cond b (ear_after t (cond b (ear_after s ear) ear)) (cond b (ear_after s ear) ear) ≡ cond b (ear_after t ear) ear
-  heard_again ear true was = behind_or_not ear (was refl) (is_behind s.cycle ear.last) refl
+  heard_again ear true was = after_or_not ear (was refl) (is_later_than s.cycle ear.last) refl
   heard_again ear false was = refl
 
 -- where a probe listens

@@ -54,7 +54,7 @@ with_both a b ear mid w =
     same_counts w _ _ _ _ ear ear count (later_by w.counted.first a b) refl
 
 module _ (s : Story) (kind : ℕ) (arms : Option Arms) where
-  -- what is heard up to a step on the way, and then behind it
+  -- what is heard up to a step on the way, and then after it
   ear_both : (step m n : ℕ) (ear : Ear) → ear_from s kind step (m + n) ear ≡ ear_from s kind (step + m) n (ear_from s kind step m ear)
   ear_both step zero n ear =
       let d : 0 + n ≡ n = omega arith in
@@ -67,7 +67,7 @@ module _ (s : Story) (kind : ℕ) (arms : Option Arms) where
       ap (λ (k : ℕ). ear_from s kind step k ear) d ∙ ear_both (step + 1) m n next
       ∙ ap (λ (k : ℕ). ear_from s kind k n (ear_from s kind (step + 1) m next)) e
 
-  -- the steps up to one on the way, and those behind it
+  -- the steps up to one on the way, and those after it
   met_both : (step m n : ℕ) (ear : Ear)
       → met_from s kind arms step (m + n) ear
       ≡ met_from s kind arms step m ear ++ met_from s kind arms (step + m) n (ear_from s kind step m ear)
@@ -150,7 +150,7 @@ grown_from_none : (n : ℕ) → grown 0 n ≡ min n (2 ^ 64 - 1)
 grown_from_none zero = refl
 grown_from_none (suc n) = let e : 0 + suc n ≡ suc n = omega arith in ap (λ (k : ℕ). min k (2 ^ 64 - 1)) e
 
--- a probe that had counted nothing tells how many it met, and the first of them
+-- a probe that had counted nothing reports how many it met, and the first of them
 pub counts_from_none : CountsFromNone
 counts_from_none s k n watch none first = record {
   kind = refl;

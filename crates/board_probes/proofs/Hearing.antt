@@ -1,4 +1,4 @@
--- What is kept of samples is enough to tell each transfer.
+-- What is kept of samples is enough to know each transfer.
 use Rattle.std.proofs.Common.{cond, ◌≡◌, ℕ, ◌+◌, ◌-◌, Bool, true, false, List, [], ◌∷◌, ◌++◌, length, drop}
 use Rattle.std.proofs.Common.{Some, None, refl, ap, sym, ◌∙◌, arith, length-append, length-drop}
 use Rattle.std.specs.Prelude.{if◌then◌else◌}
@@ -7,7 +7,7 @@ use Rattle.std.proofs.lemmas.List.{append-nil, append_assoc, drop-append-le}
 use Rattle.std.proofs.Common.{drop-drop}
 use Rattle.board_probes.specs.declared.heard.Fall.{Fall}
 use Rattle.board_probes.specs.declared.heard.Sample.{Sample}
-use Rattle.board_probes.specs.Samples.{CompletesByFalls, KeepsElevenFalls, falls_among, falls_behind, heard_all, last_eleven, last_of}
+use Rattle.board_probes.specs.Samples.{CompletesByFalls, KeepsElevenFalls, falls_among, falls_after, heard_all, last_eleven, last_of}
 use Rattle.board_probes.specs.Transfers.{Ear, completed, fall_at, is_fall, transfer_by, wires_at, with_fall}
 
 abbrev ear_with : Option Sample → List Fall → Ear
@@ -32,24 +32,24 @@ one_sample o fs s true = one_more fs (fall_at s)
 one_sample o fs s false = ap last_eleven (sym (append-nil fs))
 
 all_heard : (samples : List Sample) (o : Option Sample) (fs : List Fall)
-    → heard_all samples (ear_with o (last_eleven fs)) ≡ ear_with (last_of o samples) (last_eleven (fs ++ falls_behind (wires_at o) samples))
+    → heard_all samples (ear_with o (last_eleven fs)) ≡ ear_with (last_of o samples) (last_eleven (fs ++ falls_after (wires_at o) samples))
 all_heard [] o fs = ap (λ (v : List Fall). ear_with o (last_eleven v)) (sym (append-nil fs))
 all_heard (s ∷ more) o fs =
     let here : List Fall = if is_fall (wires_at o) s.lines then fall_at s ∷ [] else [] in
     ap (λ (v : List Fall). heard_all more (ear_with (Some s) v)) (one_sample o fs s (is_fall (wires_at o) s.lines))
     ∙ all_heard more (Some s) (fs ++ here)
-    ∙ ap (λ (v : List Fall). ear_with (last_of (Some s) more) (last_eleven v)) (append_assoc fs here (falls_behind s.lines more))
+    ∙ ap (λ (v : List Fall). ear_with (last_of (Some s) more) (last_eleven v)) (append_assoc fs here (falls_after s.lines more))
 
 pub keeps_eleven_falls : KeepsElevenFalls
 keeps_eleven_falls samples = all_heard samples None []
 
 falls_both : (xs ys : List Sample) (o : Option Sample)
-    → falls_behind (wires_at o) (xs ++ ys) ≡ falls_behind (wires_at o) xs ++ falls_behind (wires_at (last_of o xs)) ys
+    → falls_after (wires_at o) (xs ++ ys) ≡ falls_after (wires_at o) xs ++ falls_after (wires_at (last_of o xs)) ys
 falls_both [] ys o = refl
 falls_both (s ∷ xs) ys o =
     let here : List Fall = if is_fall (wires_at o) s.lines then fall_at s ∷ [] else [] in
     ap (λ (v : List Fall). here ++ v) (falls_both xs ys (Some s))
-    ∙ sym (append_assoc here (falls_behind s.lines xs) (falls_behind (wires_at (last_of (Some s) xs)) ys))
+    ∙ sym (append_assoc here (falls_after s.lines xs) (falls_after (wires_at (last_of (Some s) xs)) ys))
 
 by_fall : (b : Bool) (fs all : List Fall) (s : Sample) → all ≡ fs ++ (cond b (fall_at s ∷ []) [] ++ [])
     → cond b (transfer_by (with_fall (fall_at s) (last_eleven fs))) None ≡ cond b (transfer_by (last_eleven all)) None

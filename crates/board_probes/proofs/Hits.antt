@@ -7,7 +7,7 @@ use Rattle.std.proofs.lemmas.List.{length-map}
 use Rattle.board_probes.specs.Probes.{Watch, Sight, meets, first_met, or_met}
 use Rattle.board_probes.proofs.Over.{read_map}
 
--- behind those that were changed the next one is as it was
+-- after those that were changed the next one is as it was
 read_seam : (f : Watch → Watch) (old : List Watch) (i : ℕ) (d : Watch) → get_or (map f (take i old) ++ drop i old) i d ≡ get_or old i d
 read_seam f old zero d = refl
 read_seam f [] (suc i) d = refl

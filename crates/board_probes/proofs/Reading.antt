@@ -2,8 +2,8 @@
 use Rattle.std.proofs.Common.{cond, ◌≡◌, ℕ, zero, suc, Bool, true, false, not, ◌&&◌, ◌==◌, List, []}
 use Rattle.std.proofs.Common.{◌∷◌, length, get_or, Some, None, refl, ap, sym, ◌∙◌, arith}
 use Rattle.std.specs.declared.option.Option.{Option}
-use Rattle.board_lines.specs.Bits.{is_odd, value}
-use Rattle.board_lines.specs.Frame.{byte_of, is_right}
+use Rattle.board_terms.specs.Bits.{is_odd, value}
+use Rattle.board_terms.specs.Frame.{byte_of, is_right}
 use Rattle.board_probes.specs.declared.heard.Fall.{Fall}
 use Rattle.board_probes.specs.declared.heard.Transfer.{Transfer}
 use Rattle.board_probes.specs.Transfers.{are_spaced, data_at, transfer_by, transfer_in}
@@ -17,15 +17,15 @@ abbrev pub levels : List Fall → ℕ → ℕ → List Bool
 levels falls k zero = []
 levels falls k (suc n) = level falls k ∷ levels falls (suc k) n
 
-levels_behind : (f : Fall) (fs : List Fall) (k n : ℕ) → levels (f ∷ fs) (suc k) n ≡ levels fs k n
-levels_behind f fs k zero = refl
-levels_behind f fs k (suc n) = ap (λ v. level fs k ∷ v) (levels_behind f fs (suc k) n)
+levels_after : (f : Fall) (fs : List Fall) (k n : ℕ) → levels (f ∷ fs) (suc k) n ≡ levels fs k n
+levels_after f fs k zero = refl
+levels_after f fs k (suc n) = ap (λ v. level fs k ∷ v) (levels_after f fs (suc k) n)
 
 all_levels : (fs : List Fall) (n : ℕ) → length fs ≡ n → data_at fs ≡ levels fs 0 n
 all_levels [] zero h = refl
 all_levels [] (suc n) h = absurd (omega (arith, h))
 all_levels (f ∷ fs) zero h = absurd (omega (arith, h))
-all_levels (f ∷ fs) (suc n) h = ap (λ v. f.dat ∷ v) (all_levels fs n (omega (arith, h)) ∙ sym (levels_behind f fs 0 n))
+all_levels (f ∷ fs) (suc n) h = ap (λ v. f.dat ∷ v) (all_levels fs n (omega (arith, h)) ∙ sym (levels_after f fs 0 n))
 
 by_byte : (host r : Bool) (v b : ℕ) (rest : Option Transfer) → cond r (Some v) None ≡ Some b
     → cond r (Some (record { from_host = host; byte = v })) rest ≡ Some (record { from_host = host; byte = b })

@@ -1,7 +1,7 @@
 -- What the code keeps of the last sample.
 use Rattle.std.specs.Prelude.{true, Some, None}
 use Rattle.std.specs.declared.option.Option.{Option}
-use Rattle.board_lines.specs.declared.lines.Lines.{Lines}
+use Rattle.board_terms.specs.declared.lines.Lines.{Lines}
 use Rattle.board_probes.specs.declared.heard.Kept.{Kept}
 use Rattle.board_probes.specs.declared.heard.Kept.TheVariants.{Silence, High, Whole}
 use Rattle.board_probes.specs.declared.heard.Sample.{Sample}

@@ -9,14 +9,14 @@ use Rattle.board_probes.specs.Probes.{Watch}
 abbrev pub LooksCount : Type 0
 LooksCount = (s : Story) (n : ℕ) (probes : List Watch) → looks s n probes ≡ map (counted_between s 0 n) probes
 
--- what is told by a probe that had counted nothing: how many of the steps between meet it, and the least of them
+-- what a probe that had counted nothing reports: how many of the steps between meet it, and the least of them
 pub record IsTally (s : Story) (k n : ℕ) (old new : Watch) : Type 0 where
   pub kind : new.kind ≡ old.kind
   pub arms : new.counted.arms ≡ old.counted.arms
   pub count : new.counted.count ≡ min (length (met_between s k n old)) (2 ^ 64 - 1)
   pub first : new.counted.first ≡ slice_get (met_between s k n old) 0
 
--- such a probe tells so
+-- such a probe reports so
 abbrev pub CountsFromNone : Type 0
 CountsFromNone = (s : Story) (k n : ℕ) (watch : Watch)
     → watch.counted.count ≡ 0 → watch.counted.first ≡ None → IsTally s k n watch (counted_between s k n watch)

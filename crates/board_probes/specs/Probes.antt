@@ -2,7 +2,7 @@
 use Rattle.std.specs.Prelude.{ℕ, suc, Bool, false, ◌==◌, ◌&&◌, nat_lt, List, [], ◌∷◌, slice_index}
 use Rattle.std.specs.Prelude.{Some, None, if◌then◌else◌}
 use Rattle.std.specs.declared.option.Option.{Option}
-use Rattle.board_lines.specs.declared.lines.Lines.{Lines}
+use Rattle.board_terms.specs.declared.lines.Lines.{Lines}
 use Rattle.joint_run.specs.Cycle.{outside_wires}
 use Rattle.joint_run.specs.Joint.{Beside, latch_of}
 use Rattle.joint_run.specs.Run.{World}
@@ -14,7 +14,7 @@ use Rattle.board_probes.specs.declared.heard.Transfer.{Transfer}
 use Rattle.board_probes.specs.declared.tally.Arms.{Arms}
 use Rattle.board_probes.specs.Tallies.{Counted, noted}
 use Rattle.board_probes.specs.Tallies as tally
-use Rattle.board_probes.specs.Transfers.{Ear, completed, heard, is_behind, sample, silence}
+use Rattle.board_probes.specs.Transfers.{Ear, completed, heard, is_later_than, sample, silence}
 
 -- a probe: its kind, its arms with what it counted, and what it heard of the wires
 pub record Watch : Type 0 where
@@ -66,12 +66,12 @@ met_if kind (Some arms) m = met_by kind arms m
 -- an ear hears a sample that is after its last one, and no other
 abbrev pub ear_after : Sight → Ear → Ear
 ear_after sight ear =
-    if is_behind sight.cycle ear.last then heard (sample sight.cycle sight.lines) ear else ear
+    if is_later_than sight.cycle ear.last then heard (sample sight.cycle sight.lines) ear else ear
 
 -- the transfer that it hears completed
 abbrev pub transfer_heard : Sight → Ear → Option Transfer
 transfer_heard sight ear =
-    if is_behind sight.cycle ear.last then completed (sample sight.cycle sight.lines) ear else None
+    if is_later_than sight.cycle ear.last then completed (sample sight.cycle sight.lines) ear else None
 
 -- whether a transfer is what arms wait for: their byte, from the keyboard if `a` is 0, from the host if it is 1
 abbrev pub is_awaited : Arms → Transfer → Bool

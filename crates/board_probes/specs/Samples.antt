@@ -1,20 +1,20 @@
 -- What is heard in a list of samples: its falls, and the transfer that its last sample completes.
 use Rattle.std.specs.Prelude.{◌≡◌, ◌-◌, List, [], ◌∷◌, ◌++◌, length, drop, Some, None, if◌then◌else◌}
 use Rattle.std.specs.declared.option.Option.{Option}
-use Rattle.board_lines.specs.declared.lines.Lines.{Lines}
+use Rattle.board_terms.specs.declared.lines.Lines.{Lines}
 use Rattle.board_probes.specs.declared.heard.Sample.{Sample}
 use Rattle.board_probes.specs.declared.heard.Fall.{Fall}
 use Rattle.board_probes.specs.Transfers.{Ear, completed, fall_at, heard, is_fall, silence, transfer_by, wires_at}
 
 -- the falls among samples, the first of which is after these wires
-abbrev pub falls_behind : Lines → List Sample → List Fall
-falls_behind before [] = []
-falls_behind before (s ∷ more) =
-    (if is_fall before s.lines then fall_at s ∷ [] else []) ++ falls_behind s.lines more
+abbrev pub falls_after : Lines → List Sample → List Fall
+falls_after before [] = []
+falls_after before (s ∷ more) =
+    (if is_fall before s.lines then fall_at s ∷ [] else []) ++ falls_after s.lines more
 
 -- the falls among all samples
 abbrev pub falls_among : List Sample → List Fall
-falls_among samples = falls_behind (wires_at None) samples
+falls_among samples = falls_after (wires_at None) samples
 
 -- the last eleven of them
 abbrev pub last_eleven : List Fall → List Fall

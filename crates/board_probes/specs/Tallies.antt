@@ -35,6 +35,6 @@ noted step met c = record {
 }
 
 -- there is a first step exactly if one was counted
-abbrev pub tells_first : ℕ → Option ℕ → Bool
-tells_first count None = count == 0
-tells_first count (Some first) = nat_lt 0 count
+abbrev pub first_fits : ℕ → Option ℕ → Bool
+first_fits count None = count == 0
+first_fits count (Some first) = nat_lt 0 count

@@ -2,8 +2,8 @@
 use Rattle.std.specs.Prelude.{ℕ, ◌+◌, ◌-◌, Bool, true, false, not, ◌==◌, ◌&&◌, nat_lt, List, [], ◌∷◌, ◌++◌, length, map}
 use Rattle.std.specs.Prelude.{take, drop, slice_index_or, Some, None, if◌then◌else◌}
 use Rattle.std.specs.declared.option.Option.{Option}
-use Rattle.board_lines.specs.declared.lines.Lines.{Lines}
-use Rattle.board_lines.specs.Bits.{value, is_odd}
+use Rattle.board_terms.specs.declared.lines.Lines.{Lines}
+use Rattle.board_terms.specs.Bits.{value, is_odd}
 use Rattle.board_probes.specs.declared.heard.Sample.{Sample}
 use Rattle.board_probes.specs.declared.heard.Fall.{Fall}
 use Rattle.board_probes.specs.declared.heard.Transfer.{Transfer}
@@ -26,13 +26,13 @@ abbrev pub fall_at : Sample → Fall
 fall_at s = record { cycle = s.cycle; dat = s.lines.dat }
 
 -- each fall is 32 cycles after the one before it
-abbrev pub are_spaced_behind : ℕ → List Fall → Bool
-are_spaced_behind cycle [] = true
-are_spaced_behind cycle (fall ∷ falls) = (fall.cycle == cycle + 32) && are_spaced_behind fall.cycle falls
+abbrev pub are_spaced_after : ℕ → List Fall → Bool
+are_spaced_after cycle [] = true
+are_spaced_after cycle (fall ∷ falls) = (fall.cycle == cycle + 32) && are_spaced_after fall.cycle falls
 
 abbrev pub are_spaced : List Fall → Bool
 are_spaced [] = true
-are_spaced (fall ∷ falls) = are_spaced_behind fall.cycle falls
+are_spaced (fall ∷ falls) = are_spaced_after fall.cycle falls
 
 -- the data at eleven falls, f0 to f10, is a byte from the keyboard: f0 is low, f10 high, and f1 to f9 have odd parity
 abbrev pub is_keyboards : List Bool → Bool
@@ -82,6 +82,6 @@ completed s ear =
     if is_fall (wires_at ear.last) s.lines then transfer_by (with_fall (fall_at s) ear.falls) else None
 
 -- a sample at this cycle is after the last one
-abbrev pub is_behind : ℕ → Option Sample → Bool
-is_behind cycle None = true
-is_behind cycle (Some s) = nat_lt s.cycle cycle
+abbrev pub is_later_than : ℕ → Option Sample → Bool
+is_later_than cycle None = true
+is_later_than cycle (Some s) = nat_lt s.cycle cycle

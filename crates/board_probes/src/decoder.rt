@@ -2,11 +2,11 @@
 
 ghost use Rattle.std.specs.Prelude.{◌≡◌, true, false};
 ghost use Rattle.board_probes.specs.Kept.{both_high};
-ghost use Rattle.board_probes.specs.Transfers.{completed, heard, is_behind, sample, silence, wires_at};
+ghost use Rattle.board_probes.specs.Transfers.{completed, heard, is_later_than, sample, silence, wires_at};
 
 use crate::heard::{Fall, Kept, Transfer, push_fall, transfer_by};
 use arrayvec::ArrayVec;
-use board_lines::Lines;
+use board_terms::Lines;
 use std::marker::Model;
 
 /// Both wires are high.
@@ -60,8 +60,8 @@ impl LineDecoder {
     }
 
     /// Whether a sample at this cycle is after the last one.
-    pub fn is_behind(&self, cycle: u64) -> bool
-        ensures behind { result ≡ is_behind cycle self.now.last }
+    pub fn is_later_than(&self, cycle: u64) -> bool
+        ensures afterwards { result ≡ is_later_than cycle self.now.last }
     {
         match self.last {
             Kept::Silence => true,
@@ -74,7 +74,7 @@ impl LineDecoder {
     /// it. Answers whether that was so; else nothing was heard. It is in line, since most samples are such.
     #[inline(always)]
     pub(crate) fn hear_high(&mut self, cycle: u64) -> bool
-        ensures rises { result ≡ true → is_behind cycle self.old.last ≡ true }
+        ensures rises { result ≡ true → is_later_than cycle self.old.last ≡ true }
         ensures heard { result ≡ true → self.new ≡ heard (sample cycle both_high) self.old }
         ensures nothing { result ≡ false → self.new ≡ self.old }
     {
@@ -93,7 +93,7 @@ impl LineDecoder {
     /// Hears the wires as they are after so many cycles, more than at the last sample. Answers the transfer that this
     /// sample completes; None exactly if it completes none.
     pub fn sample(&mut self, cycle: u64, line: Lines) -> Option<Transfer>
-        requires rises { is_behind cycle self.old.last ≡ true }
+        requires rises { is_later_than cycle self.old.last ≡ true }
         ensures transfer { result ≡ completed (sample cycle line) self.old }
         ensures heard { self.new ≡ heard (sample cycle line) self.old }
     {

@@ -2,10 +2,10 @@
 
 ghost use Rattle.std.specs.Prelude.{◌≡◌, Some};
 ghost use Rattle.board_probes.specs.Kept.{sample_kept};
-ghost use Rattle.board_probes.specs.Transfers.{are_spaced, are_spaced_behind, sample, transfer_by, with_fall};
+ghost use Rattle.board_probes.specs.Transfers.{are_spaced, are_spaced_after, sample, transfer_by, with_fall};
 
 use arrayvec::ArrayVec;
-use board_lines::{Frame, Lines, byte_of};
+use board_terms::{Frame, Lines, byte_of};
 
 /// A byte that passed over the wires, and whether the host sent it or the keyboard.
 #[derive(Clone, Copy, Debug, PartialEq, Eq, Drop)]
@@ -63,13 +63,13 @@ pub(crate) fn push_fall(falls: &mut ArrayVec<Fall, 11>, fall: Fall)
 }
 
 /// Whether each of these falls is 32 cycles after the one before it, the first after this cycle.
-fn are_spaced_behind(cycle: u64, falls: &[Fall]) -> bool
-    ensures { result ≡ are_spaced_behind cycle falls.now }
+fn are_spaced_after(cycle: u64, falls: &[Fall]) -> bool
+    ensures { result ≡ are_spaced_after cycle falls.now }
 {
     match falls {
         [] => true,
         [fall, rest @ ..] => {
-            fall.cycle >= cycle && fall.cycle - cycle == 32 && are_spaced_behind(fall.cycle, rest)
+            fall.cycle >= cycle && fall.cycle - cycle == 32 && are_spaced_after(fall.cycle, rest)
         }
     }
 }
@@ -80,13 +80,13 @@ fn are_spaced(falls: &[Fall]) -> bool
 {
     match falls {
         [] => true,
-        [fall, rest @ ..] => are_spaced_behind(fall.cycle, rest),
+        [fall, rest @ ..] => are_spaced_after(fall.cycle, rest),
     }
 }
 
 /// The transfer that these falls are, if there are eleven and they are one: the data wire at them is the keyboard's frame of
 /// a byte; or the host's, whose start bit is before its first fall, and in whose last bit the keyboard pulls data low.
-#[tactic(auto, unfolding(board_lines::specs::Frame::byte_of))]
+#[tactic(auto, unfolding(board_terms::specs::Frame::byte_of))]
 pub(crate) fn transfer_by(falls: &[Fall]) -> Option<Transfer>
     ensures { result ≡ transfer_by falls.now }
 {

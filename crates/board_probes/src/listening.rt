@@ -36,7 +36,7 @@ fn hear(decoder: &mut LineDecoder, joint: &Joint) -> Option<Transfer>
     ensures heard { decoder.new ≡ ear_after (sight_of joint.now) decoder.old }
 {
     let cycle = joint.cycle();
-    if decoder.is_behind(cycle) {
+    if decoder.is_later_than(cycle) {
         decoder.sample(cycle, joint.lines())
     } else {
         None

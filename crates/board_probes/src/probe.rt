@@ -3,7 +3,7 @@
 ghost use Rattle.std.specs.Prelude.{◌≡◌, true, map};
 ghost use Rattle.board_probes.specs.Probes.{Watch, meets, looked, armed, first_met, or_met, sight_of};
 ghost use Rattle.board_probes.specs.Resting.{rests};
-ghost use Rattle.board_probes.specs.Tallies.{tells_first};
+ghost use Rattle.board_probes.specs.Tallies.{first_fits};
 
 use crate::tally::Tally;
 use joint_run::Joint;
@@ -35,7 +35,7 @@ pub trait Probe: Drop {
     fn tell(&self) -> Tally
         ensures count { result.count ≡ (watch self.now).counted.count }
         ensures first { result.first ≡ (watch self.now).counted.first }
-        ensures none { tells_first result.count result.first ≡ true };
+        ensures none { first_fits result.count result.first ≡ true };
 }
 
 /// One of them looks.

@@ -1,7 +1,7 @@
 //! What a probe counts.
 
 ghost use Rattle.std.specs.Prelude.{◌≡◌, true, is_none};
-ghost use Rattle.board_probes.specs.Tallies.{tells_first, unarmed, armed, noted};
+ghost use Rattle.board_probes.specs.Tallies.{first_fits, unarmed, armed, noted};
 
 use std::marker::Model;
 
@@ -36,13 +36,13 @@ pub(crate) struct Counter {
 
 impl Model for Counter {
     ghost use Rattle.std.specs.Prelude.{◌≡◌, true};
-    ghost use Rattle.board_probes.specs.Tallies.{Counted, tells_first};
+    ghost use Rattle.board_probes.specs.Tallies.{Counted, first_fits};
 
     ghost Value = { Counted };
 
     ghost view = { λ c. record { arms = c.arms; count = c.tally.count; first = c.tally.first } };
 
-    ghost invariant = { λ c. tells_first c.tally.count c.tally.first ≡ true };
+    ghost invariant = { λ c. first_fits c.tally.count c.tally.first ≡ true };
 }
 
 impl Counter {
@@ -92,7 +92,7 @@ impl Counter {
     pub(crate) fn tally(&self) -> Tally
         ensures count { result.count ≡ self.now.count }
         ensures first { result.first ≡ self.now.first }
-        ensures none { tells_first result.count result.first ≡ true }
+        ensures none { first_fits result.count result.first ≡ true }
     {
         self.tally
     }

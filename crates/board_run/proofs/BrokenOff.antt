@@ -3,7 +3,7 @@ use Rattle.std.proofs.Common.{◌≡◌, ◌<◌, ℕ, suc, ◌+◌, List, ◌++
 use Rattle.std.proofs.Math.Seq.{drop-append_seam}
 use Rattle.std.specs.declared.option.Option.{Option}
 use Rattle.board_run.specs.Putting.{IsLogBrokenAt, IsLogBrokenOff}
-use Rattle.board_run.specs.Running.{IsOutcome, Outcome}
+use Rattle.board_run.specs.BoardOutcomes.{IsOutcome, Outcome}
 use Rattle.board_run.specs.Texts.{log_text}
 use Rattle.board_probes.specs.Probes.{Watch}
 use Rattle.host_turn.specs.declared.stamped.Stamped.{Stamped}
@@ -17,7 +17,7 @@ use Rattle.story_run.specs.Running.{log_at, logged, step_says}
 use Rattle.story_run.proofs.Said.{Said}
 use Rattle.story_run.proofs.Steps.{before as state_before, reached_by, step_said}
 use Rattle.story_run.proofs.Texts.{broken_in_all}
-use Rattle.board_run.proofs.ComesToEnd.{EndsBehind, ends_within}
+use Rattle.board_run.proofs.ComesToEnd.{EndsAfter, ends_within}
 use Rattle.board_run.proofs.Lines.{are_lines, log_text-append}
 
 module _ (s : Story) where
@@ -27,7 +27,7 @@ module _ (s : Story) where
   log_more k w v from to =
       let said : Said w.cycle v.cycle (log_of w.board) (log_of v.board) = step_said s k w v from to in
       let log : log_at s (suc k) ≡ log_at s k ++ said.more =
-      ap logged to ∙ said.behind ∙ ap (λ (o : Option (World Beside)). logged o ++ said.more) (sym from) in
+      ap logged to ∙ said.afterwards ∙ ap (λ (o : Option (World Beside)). logged o ++ said.more) (sym from) in
       let says : step_says s k ≡ said.more = ap (drop (length (log_at s k))) log ∙ drop-append_seam (log_at s k) said.more in
       ap log_text log ∙ log_text-append (log_at s k) said.more
       ∙ ap (λ (l : List Stamped). log_text (log_at s k) ++ log_text l) (sym says)
@@ -41,7 +41,7 @@ module _ (s : Story) where
 
   -- the run ends after the step whose telling broke off, or later
   pub ends_after : (broken : ℕ → Type 0) (first probes : List Watch) (h : BrokeOff Stamp s broken first probes)
-      → EndsBehind s (suc h.last)
+      → EndsAfter s (suc h.last)
   ends_after broken first probes h = ends_within s (4096 + s.stop) (suc h.last) h.led_to h.goes_on h.made (omega arith)
 
   pub log_broken_off : (before after : Shown) (first probes : List Watch)

@@ -1,7 +1,7 @@
 -- A run on the board comes to its end.
 use Rattle.std.proofs.Common.{◌≡◌, ◌≤◌, ℕ, zero, suc, ◌+◌, true, false, Some, None, refl, ap, sym, ◌∙◌, arith}
 use Rattle.std.proofs.lemmas.Bool.Decides.{nat_tests}
-use Rattle.board_run.specs.Running.{IsOutcome, Outcome}
+use Rattle.board_run.specs.BoardOutcomes.{IsOutcome, Outcome}
 use Rattle.joint_feed.specs.Stories.{Story, state_at}
 use Rattle.joint_run.specs.Joint.{Beside, joint_board, log_of}
 use Rattle.joint_run.specs.Run.{World, joint_step, step_on}
@@ -12,7 +12,7 @@ use Rattle.story_run.specs.Running.{EndsAt, GoesOnTo, IsStuckAt, is_over, place_
 use Rattle.story_run.proofs.Steps.{step_later}
 use Rattle.story_run.proofs.Stuck.{stuck_where_none}
 
--- what a run comes to that ends at a state
+-- the outcome of a run that ends at a state
 abbrev pub outcome_at : ℕ → World Beside → End → Outcome
 outcome_at k w end = record { log = log_of w.board; end = end; mcu = w.cpu; steps = k; cycles = w.cycle }
 
@@ -30,23 +30,23 @@ module _ (s : Story) where
       sym (ap (step_on (joint_board s.edges s.events) s.bytes) there) ∙ none in
       record { before_end = before; no_row = stuck_where_none s w step; none = none; at = refl }
 
-  -- a run that ends behind the first k steps at least
-  abbrev pub EndsBehind : ℕ → Type 0
-  EndsBehind k = (run : Outcome) × (k ≤ run.steps) × IsOutcome s run
+  -- a run that ends after the first k steps at least
+  abbrev pub EndsAfter : ℕ → Type 0
+  EndsAfter k = (run : Outcome) × (k ≤ run.steps) × IsOutcome s run
 
-  ends_here : (k : ℕ) (w : World Beside) (end : End) → GoesOnTo Stamp s k → state_at s k ≡ Some w → EndsAt Stamp s k w end → EndsBehind k
+  ends_here : (k : ℕ) (w : World Beside) (end : End) → GoesOnTo Stamp s k → state_at s k ≡ Some w → EndsAt Stamp s k w end → EndsAfter k
   ends_here k w end on there h = (outcome_at k w end, omega arith, comes_to k w end on there h)
 
   -- the run ends, since each step takes a cycle at least
   pub ends_within : (most k : ℕ) (w : World Beside) → GoesOnTo Stamp s k → state_at s k ≡ Some w → 4096 + s.stop ≤ w.cycle + most
-      → EndsBehind k
+      → EndsAfter k
   ends_within zero k w on there l =
       let over : is_over Stamp s w ≡ true = grind (arith, nat_tests, l) in
       ends_here k w Over on there over
   ends_within (suc most) k w on there l =
-      elim (is_over Stamp s w) as (λ b. is_over Stamp s w ≡ b → EndsBehind k) [
+      elim (is_over Stamp s w) as (λ b. is_over Stamp s w ≡ b → EndsAfter k) [
         | true ↦ λ over. ends_here k w Over on there over
-        | false ↦ λ before. elim (state_at s (suc k)) as (λ o. state_at s (suc k) ≡ o → EndsBehind k) [
+        | false ↦ λ before. elim (state_at s (suc k)) as (λ o. state_at s (suc k) ≡ o → EndsAfter k) [
           | None ↦ λ none. ends_here k w (Stuck (place_of s.bytes w.cpu)) on there (is_stuck k w there before none)
           | Some v ↦ λ next.
               let later = (step_later s k w v there next).0 in

@@ -3,7 +3,7 @@ use Rattle.std.proofs.Common.{◌≡◌, ◌≤◌, ◌<◌, ℕ, zero, suc, ◌
 use Rattle.std.proofs.lemmas.Bool.Decides.{nat_tests}
 use Rattle.std.specs.Prelude.{if◌then◌else◌}
 use Rattle.std.specs.declared.option.Option.{Option}
-use Rattle.board_run.specs.Running.{IsOutcome, Outcome}
+use Rattle.board_run.specs.BoardOutcomes.{IsOutcome, Outcome}
 use Rattle.joint_feed.specs.Stories.{Story, state_at}
 use Rattle.joint_run.specs.Joint.{Beside}
 use Rattle.joint_run.specs.Run.{World}
@@ -20,7 +20,7 @@ end_at s None next on = None
 end_at s (Some w) next on =
     if is_over Stamp s w then Some Over else (if is_none next then Some (Stuck (place_of s.bytes w.cpu)) else on)
 
--- the end of a run from the state behind so many steps on, if it comes within so many more
+-- the end of a run from the state after so many steps on, if it comes within so many more
 abbrev end_from : Story → ℕ → ℕ → Option End
 end_from s zero k = None
 end_from s (suc more) k = end_at s (state_at s k) (state_at s (suc k)) (end_from s more (suc k))
@@ -71,9 +71,9 @@ module _ (s : Story) where
         ∙ ap (λ (n : ℕ). end_at s (Some h.world) (state_at s (suc n)) on) last
         ∙ ends_here run.steps h.world run.end on h.ends
     ends_from (suc more) (suc d) k e l =
-        let behind : k < run.steps = omega (arith, e) in
-        let here = on_at s Stamp run.steps k h.goes_on behind in
-        let next = reached_by s run.steps k h.world h.reached behind in
+        let afterwards : k < run.steps = omega (arith, e) in
+        let here = on_at s Stamp run.steps k h.goes_on afterwards in
+        let next = reached_by s run.steps k h.world h.reached afterwards in
         let on = end_from s more (suc k) in
         ap (λ (o : Option (World Beside)). end_at s o (state_at s (suc k)) on) here.1
         ∙ goes_on_here here.0 next.0 (state_at s (suc k)) on here.2 next.1

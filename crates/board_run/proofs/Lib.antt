@@ -1,7 +1,7 @@
 pub mod Lines
 pub mod ComesToEnd
 pub mod BrokenOff
-pub mod ToldByStamp
+pub mod ReportedByStamp
 pub mod Traced
 pub mod Ends
 pub mod EndOf

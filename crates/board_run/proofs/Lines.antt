@@ -6,7 +6,7 @@ use Rattle.std.specs.Fmt.{decimal}
 use Rattle.std.proofs.lemmas.List.{append_assoc}
 use Rattle.board_run.specs.Texts.{line_text, log_text}
 use Rattle.host_turn.specs.declared.stamped.Stamped.{Stamped}
-use Rattle.io_edge.proofs.Pieces.{AreLines, EndsLine, lines_behind}
+use Rattle.io_edge.proofs.Pieces.{AreLines, EndsLine, lines_after}
 use Rattle.pc_tables.specs.Items.{line_of, text_of}
 use Rattle.story_run.specs.Running.{AreIn}
 
@@ -21,7 +21,7 @@ line_ends s =
 -- the text of a log is of whole lines
 pub are_lines : (log : List Stamped) → AreLines (log_text log)
 are_lines [] = inl refl
-are_lines (s ∷ log) = lines_behind (line_text s) (log_text log) (inr (line_ends s)) (are_lines log)
+are_lines (s ∷ log) = lines_after (line_text s) (log_text log) (inr (line_ends s)) (are_lines log)
 
 pub log_text-append : (a b : List Stamped) → log_text (a ++ b) ≡ log_text a ++ log_text b
 log_text-append [] b = refl

@@ -1,6 +1,6 @@
--- What a run comes to whose log went to a sink.
+-- The outcome of a run whose log went to a sink.
 use Rattle.board_run.specs.declared.ended.Ended.{Ended}
-use Rattle.board_run.specs.Running.{Outcome}
+use Rattle.board_run.specs.BoardOutcomes.{Outcome}
 use Rattle.joint_feed.specs.Stories.{Story}
 use Rattle.story_run.specs.Running.{log_at}
 

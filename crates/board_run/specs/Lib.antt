@@ -1,4 +1,4 @@
-pub mod Running
+pub mod BoardOutcomes
 pub mod Texts
 pub mod Ending
 pub mod Putting

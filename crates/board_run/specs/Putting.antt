@@ -1,6 +1,6 @@
 -- What is left of a run in which a put failed.
 use Rattle.std.specs.Prelude.{ℕ, List}
-use Rattle.board_run.specs.Running.{IsOutcome, Outcome}
+use Rattle.board_run.specs.BoardOutcomes.{IsOutcome, Outcome}
 use Rattle.board_run.specs.Texts.{log_text}
 use Rattle.board_probes.specs.Probes.{Watch}
 use Rattle.io_edge.specs.Said.{Shown}
@@ -10,7 +10,7 @@ use Rattle.story_run.specs.Broken.{IsTextBrokenOff}
 use Rattle.story_run.specs.Looking.{BrokeOff}
 use Rattle.story_run.specs.Looking as run
 use Rattle.story_run.specs.Running.{log_at, step_says}
-use Rattle.story_run.specs.Telling.{IsBrokenBehind}
+use Rattle.story_run.specs.Reports.{IsBrokenAfter}
 
 -- the text of the run's whole log is broken off
 abbrev pub IsLogBrokenOff : Story → Shown → Shown → Type 0
@@ -18,9 +18,9 @@ IsLogBrokenOff s before after = IsTextBrokenOff Outcome (IsOutcome s) (λ run. l
 
 -- it is broken off in what the step after the first k says
 abbrev pub IsLogBrokenAt : Story → Shown → Shown → ℕ → Type 0
-IsLogBrokenAt s before after k = IsBrokenBehind before after (log_text (log_at s k)) (log_text (step_says s k))
+IsLogBrokenAt s before after k = IsBrokenAfter before after (log_text (log_at s k)) (log_text (step_says s k))
 
--- and the probes have looked at the states up to the one that this step led to. Of a sink that doesn't tell what it
+-- and the probes have looked at the states up to the one that this step led to. Of a sink that doesn't show what it
 -- took the step may be any
 abbrev pub HaveLookedToBreak : Story → Shown → Shown → List Watch → List Watch → Type 0
 HaveLookedToBreak s before after first probes = BrokeOff Stamp s (IsLogBrokenAt s before after) first probes

@@ -1,6 +1,6 @@
 -- What is left of a trace on the board in which a put failed.
 use Rattle.std.specs.Prelude.{List, ◌⊎◌, ◌≡◌}
-use Rattle.board_run.specs.Running.{IsOutcome, Outcome}
+use Rattle.board_run.specs.BoardOutcomes.{IsOutcome, Outcome}
 use Rattle.board_probes.specs.Probes.{Watch}
 use Rattle.io_edge.specs.Said.{IsBrokenOff, IsSaid, Shown}
 use Rattle.joint_feed.specs.Stories.{Story}
@@ -17,10 +17,10 @@ IsTraceBrokenOff s before after = IsTextBrokenOff Outcome (IsOutcome s) (λ run.
 
 -- it is broken off after the header, in what a step adds, and the probes have looked at the states up to the one that
 -- this step led to
-pub record BrokeOffBehindHeader (s : Story) (before after : Shown) (first probes : List Watch) : Type 0 where
-  pub behind : Shown
-  pub said : IsSaid before behind header
-  pub broke : BrokeOff Stamp s (AreChangesBrokenAt s behind after) first probes
+pub record BrokeOffAfterHeader (s : Story) (before after : Shown) (first probes : List Watch) : Type 0 where
+  pub afterwards : Shown
+  pub said : IsSaid before afterwards header
+  pub broke : BrokeOff Stamp s (AreChangesBrokenAt s afterwards after) first probes
 
 -- or it is in the header, before the first step, and the probes have looked at nothing
 pub record BrokeOffInHeader (before after : Shown) (first probes : List Watch) : Type 0 where
@@ -29,4 +29,4 @@ pub record BrokeOffInHeader (before after : Shown) (first probes : List Watch) :
 
 abbrev pub HaveTracedToBreak : Story → Shown → Shown → List Watch → List Watch → Type 0
 HaveTracedToBreak s before after first probes =
-    BrokeOffInHeader before after first probes ⊎ BrokeOffBehindHeader s before after first probes
+    BrokeOffInHeader before after first probes ⊎ BrokeOffAfterHeader s before after first probes

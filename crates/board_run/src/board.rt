@@ -3,7 +3,7 @@
 ghost use Rattle.std.specs.Prelude.{◌≡◌, map, IfOk, OnErr};
 ghost use Rattle.board_run.specs.Ending.{ending};
 ghost use Rattle.board_run.specs.Putting.{HaveLookedAtSome, HaveLookedToBreak, IsLogBrokenOff};
-ghost use Rattle.board_run.specs.Running.{IsOutcome};
+ghost use Rattle.board_run.specs.BoardOutcomes.{IsOutcome};
 ghost use Rattle.board_run.specs.Texts.{log_text};
 ghost use Rattle.board_run.specs.Tracing.{HaveTracedToBreak, IsTraceBrokenOff};
 ghost use Rattle.board_probes.specs.Looks.{looks};
@@ -15,7 +15,7 @@ ghost use Rattle.story_run.specs.Gliding.{history_of};
 ghost use Rattle.wire_trace.specs.Trace.{trace_to};
 
 use crate::ended::Ended;
-use crate::telling::ByStamp;
+use crate::reporting::ByStamp;
 use board_probes::Probe;
 use int09::Bios;
 use io_edge::{Sink, SinkFault};
@@ -24,18 +24,18 @@ use key_file::Feed;
 use mcs48_isa::Image;
 use std::alloc::{AllocError, Global};
 use std::marker::Model;
-use story_run::{Ending, tell_run};
+use story_run::{Ending, make_run};
 use wire_trace::{Changes, put_header};
 
 /// The run of a program on the board under the history of a feed, at power-on, with all the memory that it takes. A
 /// clause sees what is run.
 #[derive(Drop)]
-pub struct Board<F: Feed> {
+pub struct ProgramRun<F: Feed> {
     feed: F,
     course: Course,
 }
 
-impl<F: Feed> Model for Board<F> {
+impl<F: Feed> Model for ProgramRun<F> {
     ghost use Rattle.joint_feed.specs.Filled.{run_of};
     ghost use Rattle.joint_feed.specs.Stories.{Story};
     ghost use Rattle.story_run.specs.declared.ending.Ending.TheVariants.{Stamp};
@@ -43,26 +43,26 @@ impl<F: Feed> Model for Board<F> {
 
     ghost Value = { Story };
 
-    ghost view = { λ b. run_of b.course (F.told b.feed).history };
+    ghost view = { λ b. run_of b.course (F.feeds b.feed).history };
 
-    ghost invariant = { λ b. IsReady Stamp (run_of b.course (F.told b.feed).history) (F.told b.feed) b.course };
+    ghost invariant = { λ b. IsReady Stamp (run_of b.course (F.feeds b.feed).history) (F.feeds b.feed) b.course };
 }
 
-impl<F: Feed> Board<F> {
+impl<F: Feed> ProgramRun<F> {
     /// The run of a program on the board, as it is, in a part whose data memory, A and T hold this byte at power-on, under
     /// the history of a feed of which nothing was taken and which is accepted. Takes all memory that the run takes, the
     /// buffer of INT 09h. If memory runs out the feed is given up.
-    pub fn new(alloc: Global, image: &Image, fill: u8, feed: F) -> Result<Board<F>, AllocError>
-        requires no_edge { (F.told feed).edges ≡ 0 }
-        requires no_host { (F.told feed).host ≡ 0 }
-        requires accepted { IsAccepted (F.told feed).history }
-        ensures board { IfOk result (λ board. board ≡ filled_story fill image.now.bytes (F.told feed).history) }
+    pub fn new(alloc: Global, image: &Image, fill: u8, feed: F) -> Result<ProgramRun<F>, AllocError>
+        requires no_edge { (F.feeds feed).edges ≡ 0 }
+        requires no_host { (F.feeds feed).host ≡ 0 }
+        requires accepted { IsAccepted (F.feeds feed).history }
+        ensures board { IfOk result (λ board. board ≡ filled_story fill image.now.bytes (F.feeds feed).history) }
         ensures accepted { IfOk result (λ board. IsAccepted (history_of board)) }
     {
         let bios = Bios::new(alloc)?;
         let mut feed = feed;
         let course = Course::begin_filled(image, bios, fill, &mut feed);
-        Ok(Board { feed, course })
+        Ok(ProgramRun { feed, course })
     }
 
     /// Makes the joint run from power-on to its end, which is before the first step that would begin at or after the
@@ -71,7 +71,7 @@ impl<F: Feed> Board<F> {
     /// put, whole and alone.
     ///
     /// On Ok the sink has taken the whole text of the log, its count of faults is as it was, and the probes have
-    /// looked at each state. A failure comes only if a put failed. A sink that tells what it took has the text of the
+    /// looked at each state. A failure comes only if a put failed. A sink that shows what it took has the text of the
     /// whole log up to that put, and the probes have looked at the states up to the one of the step that said the
     /// line.
     pub fn run_to<K: Sink>(
@@ -94,7 +94,7 @@ impl<F: Feed> Board<F> {
         let mut course = self.course;
         let fill = course.fill;
         let mut lines = ByStamp;
-        let end = tell_run::<F, K, SinkFault, ByStamp, 7>(
+        let end = make_run::<F, K, SinkFault, ByStamp, 7>(
             &mut course,
             &mut feed,
             fill,
@@ -137,7 +137,7 @@ impl<F: Feed> Board<F> {
         let fill = course.fill;
         put_header(out)?;
         let mut changes = Changes::new();
-        let end = tell_run::<F, K, SinkFault, Changes, 8>(
+        let end = make_run::<F, K, SinkFault, Changes, 8>(
             &mut course,
             &mut feed,
             fill,

@@ -1,4 +1,4 @@
-//! What a run on the board comes to.
+//! The outcome of a run on the board.
 
 ghost use Rattle.std.specs.Prelude.{◌≡◌};
 

@@ -2,11 +2,11 @@
 use Rattle.std.specs.Prelude.{ℕ, ◌+◌, Bool, true, false, List, Some, None}
 use Rattle.std.proofs.Common.{zero, suc}
 use Rattle.std.specs.declared.option.Option.{Option}
-use Rattle.board_lines.specs.declared.event.HostEvent.{HostEvent}
+use Rattle.board_terms.specs.declared.event.HostEvent.{HostEvent}
 use Rattle.host_turn.specs.Run.{Side, goes_on}
 use Rattle.ctl_link.specs.declared.link.Link.{Link}
 use Rattle.ctl_link.specs.declared.link.Link.TheVariants.{Free, Hold, Ask, Request, Busy}
-use Rattle.ctl_link.specs.declared.port.Port.{Port}
+use Rattle.ctl_link.specs.declared.port.LinkEnd.{LinkEnd}
 use Rattle.ctl_link.specs.Link.{begun, received, handed_over}
 use Rattle.byte_time.specs.declared.UnderWay.{UnderWay}
 use Rattle.byte_time.specs.declared.meeting.Meeting.{Meeting}
@@ -47,7 +47,7 @@ arriving None byte = Some byte
 arriving (Some bit) byte = None
 
 -- the keyboard's byte arrives if it is still under way
-abbrev pub arrived_in : ℕ → ℕ → Link UnderWay → Port UnderWay → Port UnderWay
+abbrev pub arrived_in : ℕ → ℕ → Link UnderWay → LinkEnd UnderWay → LinkEnd UnderWay
 arrived_in now byte Free p = p
 arrived_in now byte (Hold since) p = p
 arrived_in now byte (Ask asked since) p = p
@@ -55,7 +55,7 @@ arrived_in now byte (Request asked) p = p
 arrived_in now byte (Busy u) p = received now (arriving u.flip byte) p
 
 -- the controller, once that has come
-abbrev pub happened_at : ℕ → Event → Port UnderWay → Port UnderWay
+abbrev pub happened_at : ℕ → Event → LinkEnd UnderWay → LinkEnd UnderWay
 happened_at now Quiet p = p
 happened_at now (Begins true) p = begun of_keyboard p
 happened_at now (Begins false) p = record p { link = Busy for_keyboard }

@@ -40,7 +40,7 @@ command_of byte =
     else if nat_le 0xf0 byte then PulseOutput (byte % 16)
     else Unlisted
 
--- what is told of a byte taken, and the state after it
+-- what is reported of a byte taken, and the state after it
 pub record Taken : Type 0 where
   pub did : Did
   pub state : ControllerState

@@ -23,7 +23,7 @@ translation true mark byte =
 abbrev pub translates : ControllerState → Bool
 translates s = has_bit 0x40 s.command_byte
 
--- what a received byte comes to: one that came wrong is asked for again, or the controller gives up; a right one begins
+-- the outcome of a received byte: one that came wrong is asked for again, or the controller gives up; a right one begins
 -- a break, or a byte is put out
 abbrev pub received_as : ControllerState → ℕ → Bool → Received
 received_as s byte false = if asks_again s then Bad else GaveUp

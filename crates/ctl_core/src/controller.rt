@@ -275,7 +275,7 @@ impl Controller {
     pub fn take_input(&mut self) -> Option<Did>
         requires output_empty { self.old.output_full ≡ false }
         ensures some { IsSome result ↔ IsSome self.old.input }
-        ensures told { result ≡ option_map (λ t. t.did) (taken self.old) }
+        ensures reported { result ≡ option_map (λ t. t.did) (taken self.old) }
         ensures after { self.new ≡ after_taken self.old }
     {
         let Input { port, byte } = self.input.take()?;
@@ -288,7 +288,7 @@ impl Controller {
 
     /// A byte of port 60h, with the parameter that was awaited.
     fn pass(&mut self, awaited: Option<Parameter>, byte: u8) -> Did
-        ensures told { result ≡ (passed awaited byte self.old).did }
+        ensures reported { result ≡ (passed awaited byte self.old).did }
         ensures after { self.new ≡ (passed awaited byte self.old).state }
     {
         match awaited {
@@ -309,7 +309,7 @@ impl Controller {
 
     /// A command, once a wait for a parameter has ended.
     fn obey(&mut self, command: Command) -> Did
-        ensures told { result ≡ (commanded command self.old).did }
+        ensures reported { result ≡ (commanded command self.old).did }
         ensures after { self.new ≡ (commanded command self.old).state }
     {
         match command {

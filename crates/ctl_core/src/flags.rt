@@ -4,7 +4,7 @@ ghost use Rattle.std.specs.Prelude.{⊤, ◌≡◌, [], ◌∷◌, codes};
 
 use bitflags::{Flag, Flags, bitflag_items};
 
-/// The status, as a read of port 64h gives it. Bits 5 and 6, which tell time-outs, are never set.
+/// The status, as a read of port 64h gives it. Bits 5 and 6, which report time-outs, are never set.
 #[derive(Clone, Copy, PartialEq, Eq, Debug)]
 pub struct Status(u8);
 

@@ -7,13 +7,13 @@ use Rattle.ctl_core.specs.Controller.{is_disabled}
 use Rattle.ctl_core.specs.Commands.{Taken, taken}
 use Rattle.ctl_link.specs.declared.link.Link.{Link}
 use Rattle.ctl_link.specs.declared.link.Link.TheVariants.{Free, Hold, Ask, Request, Busy}
-use Rattle.ctl_link.specs.declared.port.Port.{Port}
+use Rattle.ctl_link.specs.declared.port.LinkEnd.{LinkEnd}
 use Rattle.ctl_link.specs.Link.{held_since, took_where, takes_input, link_after, is_busy, may_break, broken_off, settled}
 use Rattle.ctl_link.specs.Pulls.{pulled, KeepsPull, BeginsPull}
 use Rattle.ctl_link.proofs.Pulls.{keeps_pull}
 
 module _ {F : Type 0} (breaks : F → Bool) where
-  kept_by : (l : Link F) (a i : Bool) (now : ℕ) (p : Port F) → is_busy l ≡ false
+  kept_by : (l : Link F) (a i : Bool) (now : ℕ) (p : LinkEnd F) → is_busy l ≡ false
       → (if may_break breaks l && a && i then record p { link = Hold now } else p) ≡ p
   kept_by Free a i now p h = refl
   kept_by (Hold since) a i now p h = refl
@@ -22,7 +22,7 @@ module _ {F : Type 0} (breaks : F → Bool) where
   kept_by (Busy x) a i now p h = absurd cc
 
   -- a link without a byte under way stays as it is
-  pub unbroken : (now : ℕ) (p : Port F) → is_busy p.link ≡ false → broken_off breaks now p ≡ p
+  pub unbroken : (now : ℕ) (p : LinkEnd F) → is_busy p.link ≡ false → broken_off breaks now p ≡ p
   unbroken now p h = kept_by p.link (not p.awaits) (is_some p.core.input) now p h
 
   -- no byte is under way where the clock is pulled
@@ -33,23 +33,23 @@ module _ {F : Type 0} (breaks : F → Bool) where
   pulled_idle (Request byte) h e = refl
   pulled_idle (Busy x) h e = absurd cc
 
-  -- what is kept, or begun, behind the break was so before it
-  pub kept_behind : (now : ℕ) (p : Port F) (l : Link F) → KeepsPull now (broken_off breaks now p).link l → KeepsPull now p.link l
-  kept_behind now p l keeps since e early =
-      keeps since (ap (λ (q : Port F). pulled q.link) (unbroken now p (pulled_idle p.link since e)) ∙ e) early
+  -- what is kept, or begun, after the break was so before it
+  pub kept_after : (now : ℕ) (p : LinkEnd F) (l : Link F) → KeepsPull now (broken_off breaks now p).link l → KeepsPull now p.link l
+  kept_after now p l keeps since e early =
+      keeps since (ap (λ (q : LinkEnd F). pulled q.link) (unbroken now p (pulled_idle p.link since e)) ∙ e) early
 
-  pub begun_behind : (now : ℕ) (p : Port F) (l : Link F) → BeginsPull now (broken_off breaks now p).link l → BeginsPull now p.link l
-  begun_behind now p l begins e =
-      begins (ap (λ (q : Port F). q.link) (unbroken now p (ap is_busy e)) ∙ e)
+  pub begun_after : (now : ℕ) (p : LinkEnd F) (l : Link F) → BeginsPull now (broken_off breaks now p).link l → BeginsPull now p.link l
+  begun_after now p l begins e =
+      begins (ap (λ (q : LinkEnd F). q.link) (unbroken now p (ap is_busy e)) ∙ e)
 
-  took_busy : (now : ℕ) (awaits : Bool) (input : Option Taken) (p : Port F) (x : F) → p.link ≡ Busy x
+  took_busy : (now : ℕ) (awaits : Bool) (input : Option Taken) (p : LinkEnd F) (x : F) → p.link ≡ Busy x
       → (took_where now (held_since now awaits p.link) input p).port.link ≡ Busy x
   took_busy now awaits input p x e = ap (λ l. (took_where now (held_since now awaits l) input p).port.link) e ∙ e
 
   -- a byte under way is settled as it is
-  pub settles_busy : (now : ℕ) (p : Port F) (x : F) → p.link ≡ Busy x → (settled now p).port.link ≡ Busy x
+  pub settles_busy : (now : ℕ) (p : LinkEnd F) (x : F) → p.link ≡ Busy x → (settled now p).port.link ≡ Busy x
   settles_busy now p x e =
-      let t : Port F = (takes_input now p).port in
+      let t : LinkEnd F = (takes_input now p).port in
       ap (λ l. link_after now (t.core.output_full || is_disabled t.core) t.awaits l)
       (took_busy now p.awaits (if p.core.output_full then None else taken p.core) p x e)
 
@@ -57,14 +57,14 @@ module _ {F : Type 0} (breaks : F → Bool) where
   abbrev pub Stays : F → ℕ → Link F → Type 0
   Stays x now l = (l ≡ Busy x) ⊎ ((breaks x ≡ true) × (pulled l ≡ Some now))
 
-  by_rest : (o a i : Bool) (now : ℕ) (p : Port F) (x : F) → breaks x ≡ o → p.link ≡ Busy x
+  by_rest : (o a i : Bool) (now : ℕ) (p : LinkEnd F) (x : F) → breaks x ≡ o → p.link ≡ Busy x
       → Stays x now (settled now (if o && a && i then record p { link = Hold now } else p)).port.link
   by_rest true true true now p x is e = inr (is, keeps_pull F now (record p { link = Hold now }) now refl (omega arith))
   by_rest true true false now p x is e = inl (settles_busy now p x e)
   by_rest true false i now p x is e = inl (settles_busy now p x e)
   by_rest false a i now p x is e = inl (settles_busy now p x e)
 
-  pub breaks_or_not : (now : ℕ) (p : Port F) (x : F) → p.link ≡ Busy x → Stays x now (settled now (broken_off breaks now p)).port.link
+  pub breaks_or_not : (now : ℕ) (p : LinkEnd F) (x : F) → p.link ≡ Busy x → Stays x now (settled now (broken_off breaks now p)).port.link
   breaks_or_not now p x e =
       subst (λ l. Stays x now
       (settled now (if may_break breaks l && not p.awaits && is_some p.core.input then record p { link = Hold now } else p)).port.link)

@@ -16,7 +16,7 @@ use Rattle.ctl_core.specs.declared.controller.Did.{Did}
 use Rattle.ctl_core.specs.declared.controller.Did.TheVariants.{Nothing, ToKeyboard, Output, Pulse}
 use Rattle.ctl_link.specs.declared.link.Link.{Link}
 use Rattle.ctl_link.specs.declared.link.Link.TheVariants.{Free, Hold, Ask, Request, Busy}
-use Rattle.ctl_link.specs.declared.port.Port.{Port}
+use Rattle.ctl_link.specs.declared.port.LinkEnd.{LinkEnd}
 use Rattle.ctl_link.specs.Empty.{fits}
 use Rattle.ctl_link.specs.Link.{settled, asking, took_where, held_since, link_after}
 
@@ -78,18 +78,18 @@ module _ {F : Type 0} where
   alone now true off awaits (Request byte) h = absurd cc
   alone now true off awaits (Busy x) h = absurd cc
 
-  abbrev Fits : Port F → Type 0
+  abbrev Fits : LinkEnd F → Type 0
   Fits p = fits p.core.output_full p.link ≡ true
 
-  moved : ℕ → Port F → Port F
+  moved : ℕ → LinkEnd F → LinkEnd F
   moved now p = record p { link = link_after now (p.core.output_full || is_disabled p.core) p.awaits p.link }
 
-  nothing : (now : ℕ) (p : Port F) (since : Option ℕ) → Fits p → Fits (moved now (took_where now since None p).port)
+  nothing : (now : ℕ) (p : LinkEnd F) (since : Option ℕ) → Fits p → Fits (moved now (took_where now since None p).port)
   unfolding moved
   nothing now p None h = alone now p.core.output_full (is_disabled p.core) p.awaits p.link h
   nothing now p (Some since) h = alone now p.core.output_full (is_disabled p.core) p.awaits p.link h
 
-  settles : (now : ℕ) (p : Port F) (full : Bool) (i : Option Input) (l : Link F) (awaits : Bool)
+  settles : (now : ℕ) (p : LinkEnd F) (full : Bool) (i : Option Input) (l : Link F) (awaits : Bool)
       → p.core.output_full ≡ full → p.link ≡ l → p.awaits ≡ awaits → Fits p
       → Fits (moved now (took_where now (held_since now awaits l) (if full then None else taken_from i p.core) p).port)
   unfolding moved
@@ -113,7 +113,7 @@ module _ {F : Type 0} where
   settles now p false (Some i) (Busy x) awaits ef el ea h = alone now p.core.output_full (is_disabled p.core) p.awaits p.link h
 
   -- settling keeps it
-  pub keeps_empty : (now : ℕ) (p : Port F) → fits p.core.output_full p.link ≡ true
+  pub keeps_empty : (now : ℕ) (p : LinkEnd F) → fits p.core.output_full p.link ≡ true
       → fits (settled now p).port.core.output_full (settled now p).port.link ≡ true
   unfolding moved
   keeps_empty now p h = settles now p p.core.output_full p.core.input p.link p.awaits refl refl refl h

@@ -9,7 +9,7 @@ use Rattle.ctl_core.specs.declared.controller.Did.{Did}
 use Rattle.ctl_core.specs.declared.controller.Did.TheVariants.{Nothing, ToKeyboard, Output, Pulse}
 use Rattle.ctl_link.specs.declared.link.Link.{Link}
 use Rattle.ctl_link.specs.declared.link.Link.TheVariants.{Free, Hold, Ask, Request, Busy}
-use Rattle.ctl_link.specs.declared.port.Port.{Port}
+use Rattle.ctl_link.specs.declared.port.LinkEnd.{LinkEnd}
 use Rattle.ctl_link.specs.Link.{held_since, asking, took_where, takes_input, link_after, settled}
 use Rattle.ctl_link.specs.Pulls.{pulled, Begins, KeepsPull, BeginsPull}
 
@@ -35,7 +35,7 @@ module _ (F : Type 0) where
   asking_pulled since (Output byte) = refl
   asking_pulled since (Pulse lines) = refl
 
-  took_pulled : (now : ℕ) (awaits : Bool) (input : Option Taken) (p : Port F) (l : Link F) (h : ℕ) → pulled l ≡ Some h
+  took_pulled : (now : ℕ) (awaits : Bool) (input : Option Taken) (p : LinkEnd F) (l : Link F) (h : ℕ) → pulled l ≡ Some h
       → pulled (took_where now (held_since now awaits l) input (record p { link = l })).port.link ≡ Some h
   took_pulled now awaits input p Free h e = absurd cc
   took_pulled now awaits None p (Hold since) h e = e
@@ -55,9 +55,9 @@ module _ (F : Type 0) where
   after_pulled now stop awaits (Request byte) h e early = absurd cc
   after_pulled now stop awaits (Busy x) h e early = absurd cc
 
-  pub keeps_pull : (now : ℕ) (p : Port F) → KeepsPull now p.link (settled now p).port.link
+  pub keeps_pull : (now : ℕ) (p : LinkEnd F) → KeepsPull now p.link (settled now p).port.link
   keeps_pull now p h e early =
-      let t : Port F = (takes_input now p).port in
+      let t : LinkEnd F = (takes_input now p).port in
       after_pulled now (t.core.output_full || is_disabled t.core) t.awaits t.link h
       (took_pulled now p.awaits (if p.core.output_full then None else taken p.core) p p.link h e) (too_early now h early)
 
@@ -75,21 +75,21 @@ module _ (F : Type 0) where
   stop_begins now true = inr refl
   stop_begins now false = inl refl
 
-  settling_begins : (now : ℕ) (awaits : Bool) (input : Option Taken) (p : Port F) (stop : Bool) → p.awaits ≡ awaits
+  settling_begins : (now : ℕ) (awaits : Bool) (input : Option Taken) (p : LinkEnd F) (stop : Bool) → p.awaits ≡ awaits
       → Begins now (link_after now stop awaits (took_where now (held_since now awaits free) input (record p { link = Free })).port.link)
   settling_begins now true input p stop e = inl refl
   settling_begins now false None p stop e = stop_begins now stop
   settling_begins now false (Some t) p stop e = asking_begins now stop t.did
 
-  took_awaits : (now : ℕ) (since : Option ℕ) (input : Option Taken) (p : Port F) → (took_where now since input p).port.awaits ≡ p.awaits
+  took_awaits : (now : ℕ) (since : Option ℕ) (input : Option Taken) (p : LinkEnd F) → (took_where now since input p).port.awaits ≡ p.awaits
   took_awaits now None input p = refl
   took_awaits now (Some since) None p = refl
   took_awaits now (Some since) (Some t) p = refl
 
-  pub begins_pull : (now : ℕ) (p : Port F) → BeginsPull now p.link (settled now p).port.link
+  pub begins_pull : (now : ℕ) (p : LinkEnd F) → BeginsPull now p.link (settled now p).port.link
   begins_pull now p e =
       let input : Option Taken = if p.core.output_full then None else taken p.core in
-      let t : Port F = (takes_input now p).port in
+      let t : LinkEnd F = (takes_input now p).port in
       let same : t.link ≡ (took_where now (held_since now p.awaits free) input (record p { link = Free })).port.link =
       ap (λ l. (took_where now (held_since now p.awaits l) input (record p { link = l })).port.link) e in
       let stop : Bool = t.core.output_full || is_disabled t.core in

@@ -1,21 +1,21 @@
 -- Settling by its two parts keeps what settling keeps.
 use Rattle.std.proofs.Common.{◌≡◌, ℕ, ap, sym, ◌∙◌, subst}
-use Rattle.ctl_link.specs.declared.port.Port.{Port}
+use Rattle.ctl_link.specs.declared.port.LinkEnd.{LinkEnd}
 use Rattle.ctl_link.specs.Empty.{IsEmptyUnlessHeld}
 use Rattle.ctl_link.specs.Link.{settled, takes_input, moves_link}
 use Rattle.ctl_link.specs.Pulls.{KeepsPull, BeginsPull}
 use Rattle.ctl_link.proofs.Empty.{keeps_empty}
 use Rattle.ctl_link.proofs.Pulls.{keeps_pull, begins_pull}
 
-module _ (F : Type 0) (now : ℕ) (p q r : Port F) (took : q ≡ (takes_input now p).port) (moved : r ≡ moves_link now q) where
+module _ (F : Type 0) (now : ℕ) (p q r : LinkEnd F) (took : q ≡ (takes_input now p).port) (moved : r ≡ moves_link now q) where
   by_parts : r ≡ (settled now p).port
-  by_parts = moved ∙ ap (λ (x : Port F). moves_link now x) took
+  by_parts = moved ∙ ap (λ (x : LinkEnd F). moves_link now x) took
 
   pub empty_after : IsEmptyUnlessHeld p → IsEmptyUnlessHeld r
-  empty_after h = subst (λ (x : Port F). IsEmptyUnlessHeld x) (sym by_parts) (keeps_empty now p h)
+  empty_after h = subst (λ (x : LinkEnd F). IsEmptyUnlessHeld x) (sym by_parts) (keeps_empty now p h)
 
   pub pull_kept : KeepsPull now p.link r.link
-  pull_kept = subst (λ (x : Port F). KeepsPull now p.link x.link) (sym by_parts) (keeps_pull F now p)
+  pull_kept = subst (λ (x : LinkEnd F). KeepsPull now p.link x.link) (sym by_parts) (keeps_pull F now p)
 
   pub pull_begun : BeginsPull now p.link r.link
-  pull_begun = subst (λ (x : Port F). BeginsPull now p.link x.link) (sym by_parts) (begins_pull F now p)
+  pull_begun = subst (λ (x : LinkEnd F). BeginsPull now p.link x.link) (sym by_parts) (begins_pull F now p)

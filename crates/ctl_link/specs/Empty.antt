@@ -2,7 +2,7 @@
 use Rattle.std.specs.Prelude.{◌≡◌, Bool, true, false, not, ◌||◌}
 use Rattle.ctl_link.specs.declared.link.Link.{Link}
 use Rattle.ctl_link.specs.declared.link.Link.TheVariants.{Free, Hold, Ask, Request, Busy}
-use Rattle.ctl_link.specs.declared.port.Port.{Port}
+use Rattle.ctl_link.specs.declared.port.LinkEnd.{LinkEnd}
 
 -- whether the keyboard is held off, with no byte for it
 abbrev pub is_held : {F : Type 0} → Link F → Bool
@@ -16,5 +16,5 @@ is_held (Busy under_way) = false
 abbrev pub fits : {F : Type 0} → Bool → Link F → Bool
 fits full link = not full || is_held link
 
-abbrev pub IsEmptyUnlessHeld : {F : Type 0} → Port F → Type 0
+abbrev pub IsEmptyUnlessHeld : {F : Type 0} → LinkEnd F → Type 0
 IsEmptyUnlessHeld p = fits p.core.output_full p.link ≡ true

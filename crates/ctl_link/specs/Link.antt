@@ -7,11 +7,11 @@ use Rattle.ctl_core.specs.Translation.{after_received, after_wrong}
 use Rattle.ctl_core.specs.declared.controller.Did.{Did}
 use Rattle.ctl_core.specs.declared.controller.Did.TheVariants.{Nothing, ToKeyboard, Output, Pulse}
 use Rattle.ctl_link.specs.declared.link.Link.{Link}
-use Rattle.ctl_link.specs.declared.port.Port.{Port}
+use Rattle.ctl_link.specs.declared.port.LinkEnd.{LinkEnd}
 use Rattle.ctl_link.specs.declared.link.Link.TheVariants.{Free, Hold, Ask, Request, Busy}
 
 -- the controller at its start, with its link free
-abbrev pub port_at_start : (F : Type 0) → Port F
+abbrev pub port_at_start : (F : Type 0) → LinkEnd F
 port_at_start F = record { core = at_start; filled = 0; link = Free; awaits = false; flip = None }
 
 -- the cycle of the last filling, after something that was done while the output buffer was empty: now, if it is full
@@ -19,7 +19,7 @@ abbrev pub filled_by : ℕ → ControllerState → ℕ → ℕ
 filled_by now s before = if s.output_full then now else before
 
 -- a byte of the keyboard begins, and takes the flip that is pending; by it follows what is known of the byte
-abbrev pub begun : {F : Type 0} → (Option ℕ → F) → Port F → Port F
+abbrev pub begun : {F : Type 0} → (Option ℕ → F) → LinkEnd F → LinkEnd F
 begun first p = record p { link = Busy (first p.flip); flip = None }
 
 -- a byte of the keyboard is received if it came whole; one that came wrong is asked for again, or given up
@@ -29,22 +29,22 @@ core_after None s = after_wrong s
 
 -- the link after it, pulled from now on: by an ask for FE, the resend, if the byte is asked for again; else by a
 -- hold
-abbrev pub link_behind : {F : Type 0} → ℕ → Option ℕ → ControllerState → Link F
-link_behind now (Some byte) s = Hold now
-link_behind now None s = if asks_again s then Ask 0xfe now else Hold now
+abbrev pub next_link : {F : Type 0} → ℕ → Option ℕ → ControllerState → Link F
+next_link now (Some byte) s = Hold now
+next_link now None s = if asks_again s then Ask 0xfe now else Hold now
 
 -- a byte has come whole, or has come wrong: no reply is awaited any more
-abbrev pub received : {F : Type 0} → ℕ → Option ℕ → Port F → Port F
+abbrev pub received : {F : Type 0} → ℕ → Option ℕ → LinkEnd F → LinkEnd F
 received now byte p = record {
   core = core_after byte p.core;
   filled = filled_by now (core_after byte p.core) p.filled;
-  link = link_behind now byte p.core;
+  link = next_link now byte p.core;
   awaits = false;
   flip = p.flip;
 }
 
 -- a byte for the keyboard has gone whole: a reply is awaited
-abbrev pub handed_over : {F : Type 0} → Port F → Port F
+abbrev pub handed_over : {F : Type 0} → LinkEnd F → LinkEnd F
 handed_over p = record p { link = Free; awaits = true }
 
 -- since when the link is held, if the input may be taken; a free link is held from now on
@@ -62,13 +62,13 @@ asking since (ToKeyboard byte) link = Ask byte since
 asking since (Output byte) link = link
 asking since (Pulse lines) link = link
 
--- what a settling comes to: the state after it, and what the input taken did
+-- the outcome of a settling: the state after it, and what the input taken did
 pub record Settled (F : Type 0) : Type 0 where
-  pub port : Port F
+  pub port : LinkEnd F
   pub did : Did
 
 -- the input was taken, under a hold since then
-abbrev pub took : {F : Type 0} → ℕ → ℕ → Taken → Port F → Settled F
+abbrev pub took : {F : Type 0} → ℕ → ℕ → Taken → LinkEnd F → Settled F
 took now since t p = record {
   port = record {
     core = t.state;
@@ -81,14 +81,14 @@ took now since t p = record {
 }
 
 -- the input is taken if it may be, and there is one; else nothing changes
-abbrev pub took_where : {F : Type 0} → ℕ → Option ℕ → Option Taken → Port F → Settled F
+abbrev pub took_where : {F : Type 0} → ℕ → Option ℕ → Option Taken → LinkEnd F → Settled F
 took_where now None input p = record { port = p; did = Nothing }
 took_where now (Some since) None p = record { port = p; did = Nothing }
 took_where now (Some since) (Some t) p = took now since t p
 
 -- the input is taken if the output buffer is empty, the input buffer is full, and the link is held, or is free while
 -- no reply is awaited
-abbrev pub takes_input : {F : Type 0} → ℕ → Port F → Settled F
+abbrev pub takes_input : {F : Type 0} → ℕ → LinkEnd F → Settled F
 takes_input now p =
     took_where now (held_since now p.awaits p.link) (if p.core.output_full then None else taken p.core) p
 
@@ -103,7 +103,7 @@ link_after now stop awaits (Request byte) = Request byte
 link_after now stop awaits (Busy under_way) = Busy under_way
 
 -- the controller, its link changed so
-abbrev pub moves_link : {F : Type 0} → ℕ → Port F → Port F
+abbrev pub moves_link : {F : Type 0} → ℕ → LinkEnd F → LinkEnd F
 moves_link now p = record p { link = link_after now (p.core.output_full || is_disabled p.core) p.awaits p.link }
 
 -- whether a byte is under way that may still be broken off, by what is known of it
@@ -115,12 +115,12 @@ may_break breaks (Request byte) = false
 may_break breaks (Busy under_way) = breaks under_way
 
 -- a waiting input breaks it off, if no reply is awaited: the link is held from now on
-abbrev pub broken_off : {F : Type 0} → (F → Bool) → ℕ → Port F → Port F
+abbrev pub broken_off : {F : Type 0} → (F → Bool) → ℕ → LinkEnd F → LinkEnd F
 broken_off breaks now p =
     if may_break breaks p.link && not p.awaits && is_some p.core.input then record p { link = Hold now } else p
 
 -- what the controller does by itself at the end of a cycle: it takes its input, and then the link changes
-abbrev pub settled : {F : Type 0} → ℕ → Port F → Settled F
+abbrev pub settled : {F : Type 0} → ℕ → LinkEnd F → Settled F
 settled now p = record { port = moves_link now (takes_input now p).port; did = (takes_input now p).did }
 
 -- whether a byte is under way

@@ -15,4 +15,4 @@ mod port;
 
 pub use link::Link;
 pub use passing::Passing;
-pub use port::Port;
+pub use port::LinkEnd;

@@ -19,7 +19,7 @@ const RESEND: u8 = 0xfe;
 
 /// The controller with its link to the keyboard.
 #[derive(Drop)]
-pub struct Port<F> {
+pub struct LinkEnd<F> {
     /// The buffers, the command byte and the commands.
     pub core: Controller,
     /// The cycle in which the output buffer was last filled, 0 at first.
@@ -39,13 +39,13 @@ fn is_long(since: u64, now: u64) -> bool
     now >= LEAST_PULL && since <= now - LEAST_PULL
 }
 
-impl<F: Drop> Port<F> {
+impl<F: Drop> LinkEnd<F> {
     /// The controller at its start, with its link free and no reply awaited.
-    pub fn new() -> Port<F>
+    pub fn new() -> LinkEnd<F>
         ensures start { result ≡ port_at_start F }
         ensures empty { IsEmptyUnlessHeld result }
     {
-        Port {
+        LinkEnd {
             core: Controller::new(),
             filled: 0,
             link: Link::Free,
@@ -177,7 +177,7 @@ impl<F: Drop> Port<F> {
     }
 }
 
-impl<F: Passing + Drop> Port<F> {
+impl<F: Passing + Drop> LinkEnd<F> {
     /// A waiting input breaks off a byte under way in cycle `now`, if that may still be broken off and no reply is
     /// awaited: the link is held from this cycle on. Source: PC/AT Technical Reference, keyboard interface.
     pub fn break_off(&mut self, now: u64)

@@ -3,13 +3,13 @@ use Rattle.std.proofs.Common.{◌≡◌, ℕ, suc, zero, ◌+◌, ◌<◌, ◌�
 use Rattle.std.proofs.Common.{[], ◌∷◌, ◌++◌, length, refl, ap, sym, subst, ◌∙◌, ◌⊎◌, inl, inr, arith}
 use Rattle.std.specs.Prelude.{if◌then◌else◌, ◌==◌}
 use Rattle.std.specs.declared.option.Option.{Option}
-use Rattle.board_lines.specs.Frame.{byte_of}
+use Rattle.board_terms.specs.Frame.{byte_of}
 use Rattle.ctl_core.specs.Controller.{ControllerState, asks_again, is_disabled}
 use Rattle.ctl_core.specs.Commands.{Taken, taken}
 use Rattle.ctl_link.specs.declared.link.Link.{Link}
 use Rattle.ctl_link.specs.declared.link.Link.TheVariants.{Free, Hold, Ask, Request, Busy}
-use Rattle.ctl_link.specs.declared.port.Port.{Port}
-use Rattle.ctl_link.specs.Link.{received, link_behind, handed_over, held_since, took_where}
+use Rattle.ctl_link.specs.declared.port.LinkEnd.{LinkEnd}
+use Rattle.ctl_link.specs.Link.{received, next_link, handed_over, held_since, took_where}
 use Rattle.ctl_link.specs.Link.{takes_input, link_after, settled, broken_off, is_busy}
 use Rattle.ctl_link.specs.Pulls.{pulled, Begins}
 use Rattle.ctl_link.proofs.Pulls.{keeps_pull, begins_pull}
@@ -54,7 +54,7 @@ abbrev pub OrNow : ℕ → Link Wire → Type 0
 OrNow now l = (pulled l ≡ None) ⊎ (pulled l ≡ Some now)
 
 -- a look leaves a pull as it is
-pub look_keeps : (c : Bool) (now : ℕ) (dat : Bool) (p : Port Wire) (l : Link Wire) (h : ℕ) → pulled l ≡ Some h
+pub look_keeps : (c : Bool) (now : ℕ) (dat : Bool) (p : LinkEnd Wire) (l : Link Wire) (h : ℕ) → pulled l ≡ Some h
     → (if c then edge_at now dat l p else p) ≡ p
 look_keeps true now dat p Free h e = absurd cc
 look_keeps true now dat p (Hold since) h e = refl
@@ -64,20 +64,20 @@ look_keeps true now dat p (Busy wire) h e = absurd cc
 look_keeps false now dat p l h e = refl
 
 -- and begins none but now
-choice : (c : Bool) (now : ℕ) (x y : Port Wire) → OrNow now x.link → OrNow now y.link → OrNow now (if c then x else y).link
+choice : (c : Bool) (now : ℕ) (x y : LinkEnd Wire) → OrNow now x.link → OrNow now y.link → OrNow now (if c then x else y).link
 choice true now x y h g = h
 choice false now x y h g = g
 
--- behind the keyboard's byte the clock is pulled
-behind_pulled : (now : ℕ) (came : Option ℕ) (s : ControllerState) → pulled (link_behind {F = Wire} now came s) ≡ Some now
-behind_pulled now (Some byte) s = refl
-behind_pulled now None s = by_count (asks_again s)
+-- after the keyboard's byte the clock is pulled
+afterwards_pulled : (now : ℕ) (came : Option ℕ) (s : ControllerState) → pulled (next_link {F = Wire} now came s) ≡ Some now
+afterwards_pulled now (Some byte) s = refl
+afterwards_pulled now None s = by_count (asks_again s)
   where
     by_count : (c : Bool) → pulled (if c then ask 0xfe now else hold now) ≡ Some now
     by_count true = refl
     by_count false = refl
 
-edge_begins : (now : ℕ) (dat : Bool) (p : Port Wire) (l : Link Wire) → p.link ≡ l → pulled l ≡ None → OrNow now (edge_at now dat l p).link
+edge_begins : (now : ℕ) (dat : Bool) (p : LinkEnd Wire) (l : Link Wire) → p.link ≡ l → pulled l ≡ None → OrNow now (edge_at now dat l p).link
 edge_begins now dat p Free e h = inl refl
 edge_begins now dat p (Hold since) e h = absurd cc
 edge_begins now dat p (Ask byte since) e h = absurd cc
@@ -85,11 +85,11 @@ edge_begins now dat p (Request byte) e h = inl refl
 edge_begins now dat p (Busy (Recv flip bits)) e h =
     let came : Option ℕ = byte_of (turned flip (bits ++ dat ∷ [])) in
     choice (length bits == 10) now (received now came p) (record p { link = Busy (Recv flip (bits ++ dat ∷ [])) })
-    (inr (behind_pulled now came p.core)) (inl refl)
+    (inr (afterwards_pulled now came p.core)) (inl refl)
 edge_begins now dat p (Busy (Send byte edges)) e h =
     choice (edges == 10) now (handed_over p) (record p { link = Busy (Send byte (edges + 1)) }) (inl refl) (inl refl)
 
-pub look_begins : (c : Bool) (now : ℕ) (dat : Bool) (p : Port Wire) → pulled p.link ≡ None
+pub look_begins : (c : Bool) (now : ℕ) (dat : Bool) (p : LinkEnd Wire) → pulled p.link ≡ None
     → OrNow now (if c then edge_at now dat p.link p else p).link
 look_begins c now dat p h = choice c now (edge_at now dat p.link p) p (edge_begins now dat p p.link refl h) (inl h)
 
@@ -99,49 +99,49 @@ begun now l (inl e) = inl (ap (λ k. pulled k) e)
 begun now l (inr e) = inr e
 
 -- what the settling takes leaves a request and a byte under way
-took : ℕ → Port Wire → Port Wire
+took : ℕ → LinkEnd Wire → LinkEnd Wire
 took now p = (takes_input now p).port
 
-not_taken : (now : ℕ) (p : Port Wire) (l : Link Wire) → p.link ≡ l → held_since now p.awaits l ≡ None → (took now p).link ≡ l
+not_taken : (now : ℕ) (p : LinkEnd Wire) (l : Link Wire) → p.link ≡ l → held_since now p.awaits l ≡ None → (took now p).link ≡ l
 unfolding took
 not_taken now p l e none =
     let input : Option Taken = if p.core.output_full then None else taken p.core in
     ap (λ k. (took_where now (held_since now p.awaits k) input p).port.link) e
     ∙ ap (λ (s : Option ℕ). (took_where now s input p).port.link) none ∙ e
 
-settled_link : (now : ℕ) (p : Port Wire)
+settled_link : (now : ℕ) (p : LinkEnd Wire)
     → (settled now p).port.link
     ≡ link_after now ((took now p).core.output_full || is_disabled (took now p).core) (took now p).awaits (took now p).link
 unfolding took
 settled_link now p = refl
 
-settles_still : (now : ℕ) (p : Port Wire) (l : Link Wire) → p.link ≡ l → held_since now p.awaits l ≡ None
+settles_still : (now : ℕ) (p : LinkEnd Wire) (l : Link Wire) → p.link ≡ l → held_since now p.awaits l ≡ None
     → ((stop awaits : Bool) → link_after now stop awaits l ≡ l)
     → (settled now p).port.link ≡ l
 settles_still now p l e none fixed =
-    let q : Port Wire = took now p in
+    let q : LinkEnd Wire = took now p in
     settled_link now p ∙ ap (λ k. link_after now (q.core.output_full || is_disabled q.core) q.awaits k) (not_taken now p l e none)
     ∙ fixed (q.core.output_full || is_disabled q.core) q.awaits
 
 -- a link that isn't pulled, settled
-settles_none : (now : ℕ) (p : Port Wire) (l : Link Wire) → p.link ≡ l → pulled l ≡ None → OrNow now (settled now p).port.link
+settles_none : (now : ℕ) (p : LinkEnd Wire) (l : Link Wire) → p.link ≡ l → pulled l ≡ None → OrNow now (settled now p).port.link
 settles_none now p Free e h = begun now (settled now p).port.link (begins_pull Wire now p e)
 settles_none now p (Hold since) e h = absurd cc
 settles_none now p (Ask byte since) e h = absurd cc
 settles_none now p (Request byte) e h = inl (ap (λ k. pulled k) (settles_still now p (Request byte) e refl (λ stop awaits. refl)))
 settles_none now p (Busy wire) e h = inl (ap (λ k. pulled k) (settles_still now p (Busy wire) e refl (λ stop awaits. refl)))
 
-settles_once : (now : ℕ) (p : Port Wire) → OrNow now p.link → OrNow now (settled now p).port.link
+settles_once : (now : ℕ) (p : LinkEnd Wire) → OrNow now p.link → OrNow now (settled now p).port.link
 settles_once now p (inl h) = settles_none now p p.link refl h
 settles_once now p (inr h) = inr (keeps_pull Wire now p now h (omega arith))
 
-unbroken_once : (now : ℕ) (p : Port Wire) → is_busy p.link ≡ false → OrNow now p.link
+unbroken_once : (now : ℕ) (p : LinkEnd Wire) → is_busy p.link ≡ false → OrNow now p.link
     → OrNow now (settled now (broken_off is_breakable now p)).port.link
 unbroken_once now p idle h =
-    subst (λ (q : Port Wire). OrNow now (settled now q).port.link) (sym (unbroken is_breakable now p idle)) (settles_once now p h)
+    subst (λ (q : LinkEnd Wire). OrNow now (settled now q).port.link) (sym (unbroken is_breakable now p idle)) (settles_once now p h)
 
 -- the break of a byte under way, and the settling: a pull begins now, or none
-pub breaks_once : (now : ℕ) (p : Port Wire) (l : Link Wire) → p.link ≡ l → OrNow now l
+pub breaks_once : (now : ℕ) (p : LinkEnd Wire) (l : Link Wire) → p.link ≡ l → OrNow now l
     → OrNow now (settled now (broken_off is_breakable now p)).port.link
 breaks_once now p (Busy wire) e h =
     elim (breaks_or_not is_breakable now p wire e) [
@@ -187,8 +187,8 @@ cycle_keeps now since h w e soon =
     let same : port_looked now early.clock h.line early.port
     ≡ early.port = look_keeps (early.clock && not h.line.clk) now h.line.dat early.port early.port.link since held in
     let still : pulled late.port.link ≡ Some since = ap (λ k. pulled k) (calls_leave h.calls seen)
-    ∙ ap (λ (q : Port Wire). pulled q.link) same ∙ held in
-    ap (λ (q : Port Wire). pulled (settled now q).port.link)
+    ∙ ap (λ (q : LinkEnd Wire). pulled q.link) same ∙ held in
+    ap (λ (q : LinkEnd Wire). pulled (settled now q).port.link)
     (unbroken is_breakable now late.port (pulled_idle is_breakable late.port.link since still))
     ∙ keeps_pull Wire now late.port since still soon
 

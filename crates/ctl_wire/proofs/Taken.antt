@@ -1,4 +1,4 @@
--- A frame's last bit behind the others.
+-- A frame's last bit after the others.
 use Rattle.std.proofs.Common.{◌≡◌, ℕ, ◌≤◌, ◌<◌, Bool, List, [], ◌∷◌, ◌++◌, length, take, set, ap, sym, ◌∙◌, arith}
 use Rattle.std.proofs.lemmas.List.{take_all, length-take, length-set}
 use Rattle.std.proofs.Math.Seq.{take-suc-set}

@@ -1,9 +1,9 @@
 -- The controller with its wires, cycle by cycle.
 use Rattle.std.specs.Prelude.{ℕ, ◌+◌, Bool, true, false, not, ◌&&◌, Some, None, if◌then◌else◌}
 use Rattle.std.specs.declared.option.Option.{Option}
-use Rattle.board_lines.specs.declared.lines.Lines.{Lines}
+use Rattle.board_terms.specs.declared.lines.Lines.{Lines}
 use Rattle.ctl_core.specs.Controller.{ControllerState}
-use Rattle.ctl_link.specs.declared.port.Port.{Port}
+use Rattle.ctl_link.specs.declared.port.LinkEnd.{LinkEnd}
 use Rattle.ctl_link.specs.Link.{Settled, port_at_start, broken_off, settled}
 use Rattle.ctl_wire.specs.declared.wire.Wire.{Wire}
 use Rattle.ctl_wire.specs.Wire.{edge_at, is_breakable}
@@ -11,7 +11,7 @@ use Rattle.ctl_wire.specs.Wire.{edge_at, is_breakable}
 -- the controller with its link; the clock's level at its last look; the cycle of that look, or none; whether that look
 -- waits for its settling
 pub record WireState : Type 0 where
-  pub port : Port Wire
+  pub port : LinkEnd Wire
   pub clock : Bool
   pub cycle : Option ℕ
   pub waits : Bool
@@ -26,7 +26,7 @@ next_cycle None = 0
 next_cycle (Some cycle) = cycle + 1
 
 -- the controller after a look at the wires: the clock fell where it was high at the last look, and is low at this one
-abbrev pub port_looked : ℕ → Bool → Lines → Port Wire → Port Wire
+abbrev pub port_looked : ℕ → Bool → Lines → LinkEnd Wire → LinkEnd Wire
 port_looked now clock line p = if clock && not line.clk then edge_at now line.dat p.link p else p
 
 -- the look of a cycle

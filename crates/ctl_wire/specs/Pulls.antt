@@ -2,7 +2,7 @@
 -- does.
 use Rattle.std.specs.Prelude.{◌≡◌, ◌<◌, ℕ, Bool, true, false, List, [], ◌∷◌, is_some, if◌then◌else◌}
 use Rattle.std.proofs.Common.{zero, suc}
-use Rattle.board_lines.specs.declared.lines.Lines.{Lines}
+use Rattle.board_terms.specs.declared.lines.Lines.{Lines}
 use Rattle.ctl_core.specs.Controller.{written, emptied}
 use Rattle.ctl_core.specs.declared.port.Port.{Port as HostPort}
 use Rattle.ctl_wire.specs.Cycles.{WireState, looked, with_core, with_flip, settles}

@@ -2,11 +2,11 @@
 use Rattle.std.specs.Prelude.{ℕ, ◌+◌, ◌==◌, Bool, true, false, not, List, [], ◌∷◌, ◌++◌, length, set, nat_lt}
 use Rattle.std.specs.Prelude.{slice_index_or, Some, None, if◌then◌else◌}
 use Rattle.std.specs.declared.option.Option.{Option}
-use Rattle.board_lines.specs.declared.lines.Lines.{Lines}
-use Rattle.board_lines.specs.Frame.{frame_bits, byte_of}
+use Rattle.board_terms.specs.declared.lines.Lines.{Lines}
+use Rattle.board_terms.specs.Frame.{frame_bits, byte_of}
 use Rattle.ctl_link.specs.declared.link.Link.{Link}
 use Rattle.ctl_link.specs.declared.link.Link.TheVariants.{Free, Hold, Ask, Request, Busy}
-use Rattle.ctl_link.specs.declared.port.Port.{Port}
+use Rattle.ctl_link.specs.declared.port.LinkEnd.{LinkEnd}
 use Rattle.ctl_link.specs.Link.{begun, received, handed_over}
 use Rattle.ctl_wire.specs.declared.wire.Wire.{Wire}
 use Rattle.ctl_wire.specs.declared.wire.Wire.TheVariants.{Recv, Send}
@@ -17,7 +17,7 @@ turned None bits = bits
 turned (Some bit) bits = set bits bit (not (slice_index_or bits bit false))
 
 -- a falling edge while a byte is under way, with the level of the data wire: the eleventh ends the byte
-abbrev pub edge_in : ℕ → Bool → Wire → Port Wire → Port Wire
+abbrev pub edge_in : ℕ → Bool → Wire → LinkEnd Wire → LinkEnd Wire
 edge_in now dat (Recv flip bits) p =
     if length bits == 10 then received now (byte_of (turned flip (bits ++ dat ∷ []))) p
     else record p { link = Busy (Recv flip (bits ++ dat ∷ [])) }
@@ -26,7 +26,7 @@ edge_in now dat (Send byte edges) p =
 
 -- a falling edge: a free link begins to take the keyboard's byte, with the flip that is pending; one that requests
 -- begins to send its own; while the controller pulls the clock, edges are ignored
-abbrev pub edge_at : ℕ → Bool → Link Wire → Port Wire → Port Wire
+abbrev pub edge_at : ℕ → Bool → Link Wire → LinkEnd Wire → LinkEnd Wire
 edge_at now dat Free p = begun (λ flip. Recv flip (dat ∷ [])) p
 edge_at now dat (Hold since) p = p
 edge_at now dat (Ask byte since) p = p

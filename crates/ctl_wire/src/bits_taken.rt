@@ -2,7 +2,7 @@
 
 ghost use Rattle.std.specs.Prelude.{◌≡◌, ◌<◌, ◌≤◌, ◌==◌, [], ◌∷◌, ◌++◌, length};
 
-use board_lines::Frame;
+use board_terms::Frame;
 use std::marker::Model;
 
 /// The bits of a frame of the keyboard that have come so far, at most ten of the eleven. A clause sees them as a list,

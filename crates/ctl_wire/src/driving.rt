@@ -4,7 +4,7 @@ ghost use Rattle.std.specs.Prelude.{◌≡◌};
 ghost use Rattle.ctl_wire.specs.Wire.{drive, drive_in};
 
 use crate::wire::Wire;
-use board_lines::{Lines, frame_of};
+use board_terms::{Lines, frame_of};
 use ctl_link::Link;
 
 /// Both wires let go.

@@ -7,8 +7,8 @@ ghost use Rattle.ctl_wire.specs.Wire.{edge_at, turned};
 use crate::bits_taken::Bits;
 use crate::edges::Edges;
 use crate::wire::Wire;
-use board_lines::{Frame, byte_of};
-use ctl_link::{Link, Port};
+use board_terms::{Frame, byte_of};
+use ctl_link::{Link, LinkEnd};
 
 /// The frame as it comes to the controller: noise turns round the bit with this number, if any.
 fn turned(flip: Option<u8>, frame: Frame) -> Frame
@@ -25,7 +25,7 @@ fn turned(flip: Option<u8>, frame: Frame) -> Frame
 /// The clock falls in cycle `now`, with the data wire at this level. In a free link the keyboard's frame begins; in one
 /// that requests, the frame for the keyboard. A frame under way counts the edge and takes the bit, and the eleventh
 /// edge ends it: the byte is received, or handed over. While the controller pulls the clock, edges are ignored.
-pub fn fall(port: &mut Port<Wire>, now: u64, dat: bool)
+pub fn fall(port: &mut LinkEnd<Wire>, now: u64, dat: bool)
     requires empty { IsEmptyUnlessHeld port.old }
     ensures port { port.new ≡ edge_at now dat port.old.link port.old }
     ensures empty { IsEmptyUnlessHeld port.new }

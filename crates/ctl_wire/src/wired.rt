@@ -8,16 +8,16 @@ ghost use Rattle.ctl_wire.specs.Wire.{drive};
 use crate::driving::drive_of;
 use crate::falling::fall;
 use crate::wire::Wire;
-use board_lines::Lines;
+use board_terms::Lines;
 use ctl_core::{Controller, Did, InputFull, Port as HostPort};
-use ctl_link::Port;
+use ctl_link::LinkEnd;
 use std::marker::Model;
 
 /// The controller with its wires. In each cycle it looks at the wires, then the host may act, then it settles; the
 /// value keeps the cycle of its last look, and whether that look waits for its settling.
 #[derive(Drop)]
 pub struct CtlWire {
-    port: Port<Wire>,
+    port: LinkEnd<Wire>,
     clock: bool,
     cycle: Option<u64>,
     waits: bool,
@@ -40,14 +40,14 @@ impl CtlWire {
         ensures start { result ≡ at_start }
     {
         CtlWire {
-            port: Port::new(),
+            port: LinkEnd::new(),
             clock: true,
             cycle: None,
             waits: false,
         }
     }
 
-    /// The look of cycle `now` at the wires. The clock falls where it was high at the last look and is low at this one.
+    /// The look of cycle `now` at the wires. The clock falls if it was high at the last look and is low at this one.
     pub fn look(&mut self, now: u64, line: Lines)
         requires settled { self.old.waits ≡ false }
         requires cycle { now ≡ next_cycle self.old.cycle }

@@ -1,4 +1,4 @@
--- A run that goes on behind another: certificates that follow one another.
+-- A run that goes on after another: certificates that follow one another.
 use Rattle.std.proofs.Common.{◌≡◌, ◌≤◌, ◌<◌, ℕ, zero, suc, ◌+◌, ◌*◌, List, Some, None, refl, ap, ◌∙◌, subst, arith}
 use Rattle.std.proofs.Math.Nat.{mul-le-mul_left}
 use Rattle.std.specs.declared.option.Option.{Option}
@@ -38,7 +38,7 @@ later_some c (Some e) mid is =
     let s : record { cpu = e.cpu; cycles = c + e.cycles } ≡ mid = cc in
     (e, refl, ap (λ (x : Stepped). x.cpu) s, ap (λ (x : Stepped). x.cycles) s)
 
--- a step, and what goes on behind it
+-- a step, and what goes on after it
 step_on : (bytes : List ℕ) (n k : ℕ) (pins : ℕ → Pins) (mid : Stepped)
     → ((next e : Stepped) → run n bytes (λ i. pins (suc i)) next.cpu ≡ Some e
     → run (n + k) bytes (λ i. pins (suc i)) next.cpu

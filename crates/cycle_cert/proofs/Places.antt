@@ -1,4 +1,4 @@
--- Where the counter stands after a row: at one of the row's ways out, which the registers allow.
+-- Where the counter is after a row: at one of the row's ways out, which the registers allow.
 use Rattle.std.proofs.Common.{◌≡◌, ◌<◌, ℕ, ◌+◌, ◌*◌, ◌%◌, List, [], ◌∷◌, Bool, true, false, not}
 use Rattle.std.proofs.Common.{◌&&◌, ◌==◌, ltb, if◌then◌else◌, refl, ap, arith}
 use Rattle.std.proofs.lemmas.Bool.Decides.{nat_tests}

@@ -23,7 +23,7 @@ one_more_by : (k : Bool) (b : Bound) (x y o : Option Bound) → x ≡ or_else y 
 one_more_by true b x y o e = refl
 one_more_by false b x y o e = e
 
--- the bounds with one more entry behind the others
+-- the bounds with one more entry after the others
 one_more : (es : List Entry) (e : Entry) (p : ℕ)
     → bound_in (es ++ e ∷ []) p ≡ or_else (bound_in es p) (if e.place == p then Some e.bound else None)
 one_more [] e p = refl

@@ -6,7 +6,7 @@ use Rattle.cycle_cert.specs.declared.falling.Passage.{Passage}
 use Rattle.cycle_cert.specs.Bounds.{byte_values, cycles_at}
 use Rattle.cycle_cert.specs.Rows.{fits, values_after}
 
--- the values that a register can have if another one has this value: all, or that one where they are one register
+-- the values that a register can have if another one has this value: all, or that one if they are one register
 abbrev pub values_beside : ℕ → ℕ → ℕ → List ℕ
 values_beside other value register = if other == register then value ∷ [] else byte_values
 

@@ -10,7 +10,7 @@ use Rattle.cycle_cert.specs.Runs.{ArePins, IsPlain, ComesTo}
 use Rattle.cycle_cert.specs.Certificates.{Certificate, bound_in, Keeps}
 
 -- if the target of one certificate is a certified place of another, of the same program, a run from a place of the
--- first comes to the target of the second, within the bound and the greatest value of the second one
+-- first reaches the target of the second, within the bound and the greatest value of the second one
 abbrev pub FollowLaw : Type 0
 FollowLaw =
     (bytes : List ℕ) (first second : Certificate) → Keeps bytes first → Keeps bytes second

@@ -2,8 +2,8 @@
 use Rattle.std.proofs.Common.{◌≡◌, ℕ, zero, suc, false, get_or, refl, arith}
 use Rattle.std.specs.Prelude.{replicate}
 use Rattle.std.proofs.lemmas.List.Elements.{All-nil}
-use Rattle.board_lines.specs.Edges.{of_place}
-use Rattle.board_lines.specs.Matrix.{all_up}
+use Rattle.board_terms.specs.Edges.{of_place}
+use Rattle.board_terms.specs.Matrix.{all_up}
 use Rattle.edge_queue.specs.Calls.{after, handed}
 use Rattle.edge_queue.specs.Laws.{AreInCallersOrder, AreLawful, ReleasesFit}
 use Rattle.edge_queue.specs.Queue.{empty}

@@ -3,7 +3,7 @@ use Rattle.std.proofs.Common.{◌≡◌, ◌<◌, ℕ, ◌+◌, Bool, true, fals
 use Rattle.std.proofs.Common.{ap, sym, ◌∙◌, append_assoc}
 use Rattle.std.specs.Prelude.{nat_lt, if◌then◌else◌}
 use Rattle.std.proofs.lemmas.List.{append-nil, map-append}
-use Rattle.board_lines.specs.Laws.{ArePlaces}
+use Rattle.board_terms.specs.Laws.{ArePlaces}
 use Rattle.edge_queue.specs.Calls.{Call, ArePlaced, after, edge_of, handed, if_queued, if_taken, let_in}
 use Rattle.edge_queue.specs.Calls.Call.{Push, Take}
 use Rattle.edge_queue.specs.Laws.{key_of}

@@ -2,8 +2,8 @@
 use Rattle.std.proofs.Common.{◌≡◌, ◌≤◌, ℕ, ◌+◌, Bool, true, false, List, [], ◌∷◌, ◌++◌, Some, None, refl, subst, arith, ◌==◌}
 use Rattle.std.specs.Prelude.{nat_lt, if◌then◌else◌}
 use Rattle.std.proofs.lemmas.Bool.Decides.{nat_tests}
-use Rattle.board_lines.specs.declared.event.Edge.{Edge}
-use Rattle.board_lines.specs.Edges.{of_place, AreInOrder}
+use Rattle.board_terms.specs.declared.event.Edge.{Edge}
+use Rattle.board_terms.specs.Edges.{of_place, AreInOrder}
 use Rattle.key_file.specs.Accepted.{Dwells, IsFifthLater, IsThin}
 use Rattle.edge_queue.specs.Calls.{Call, handed, if_taken}
 use Rattle.edge_queue.specs.Calls.Call.{Push, Take}

@@ -6,8 +6,8 @@ use Rattle.std.proofs.lemmas.Bool.{eqb-true}
 use Rattle.std.proofs.lemmas.Bool.Decides.{nat_tests}
 use Rattle.std.proofs.lemmas.List.{append-nil, get_or-set_same, get_or-set_other, length-set, map-append}
 use Rattle.std.proofs.lemmas.List.Elements.{filter-append}
-use Rattle.board_lines.specs.declared.event.Edge.{Edge}
-use Rattle.board_lines.specs.Edges.{last_of, of_place}
+use Rattle.board_terms.specs.declared.event.Edge.{Edge}
+use Rattle.board_terms.specs.Edges.{last_of, of_place}
 use Rattle.key_file.specs.Accepted.{Alternates}
 use Rattle.edge_queue.specs.Calls.{Call, ArePlaced, edge_of, handed, if_taken}
 use Rattle.edge_queue.specs.Calls.Call.{Push, Take}

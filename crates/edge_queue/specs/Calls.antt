@@ -2,7 +2,7 @@
 use Rattle.std.specs.Prelude.{◌<◌, ℕ, List, [], ◌∷◌, ◌++◌, Some, None, Ok, Err}
 use Rattle.std.specs.declared.option.Option.{Option}
 use Rattle.std.specs.declared.result.Result.{Result}
-use Rattle.board_lines.specs.declared.event.Edge.{Edge}
+use Rattle.board_terms.specs.declared.event.Edge.{Edge}
 use Rattle.edge_queue.specs.Queue.{Queue, after_taken, answer_of, pushed, taken}
 use Rattle.edge_queue.specs.declared.queue.Pushed.{Pushed}
 use Rattle.edge_queue.specs.declared.refusal.NotQueued.{NotQueued}

@@ -1,6 +1,6 @@
 -- What is so of a queue, whatever calls are made.
 use Rattle.std.specs.Prelude.{◌≡◌, ◌≤◌, ◌<◌, ℕ, ◌+◌, Bool, true, false, List, [], ◌∷◌, ◌++◌, map, Ok}
-use Rattle.board_lines.specs.declared.event.Edge.{Edge}
+use Rattle.board_terms.specs.declared.event.Edge.{Edge}
 use Rattle.key_file.specs.Accepted.{IsLawful}
 use Rattle.edge_queue.specs.Calls.{Call, after, edge_of, handed, let_in, ArePlaced}
 use Rattle.edge_queue.specs.Queue.{all_released, answer_of, edge_at, empty, is_down, time_of}

@@ -3,7 +3,7 @@ use Rattle.std.specs.Prelude.{ℕ, zero, suc, ◌+◌, nat_lt, nat_le, Bool, fal
 use Rattle.std.specs.Prelude.{List, [], ◌∷◌, ◌++◌, length, take, slice_index_or, Some, None, Ok, Err}
 use Rattle.std.specs.declared.option.Option.{Option}
 use Rattle.std.specs.declared.result.Result.{Result}
-use Rattle.board_lines.specs.Matrix.{all_up, turned}
+use Rattle.board_terms.specs.Matrix.{all_up, turned}
 use Rattle.edge_queue.specs.declared.queue.EdgeQueue.{EdgeQueue}
 use Rattle.edge_queue.specs.declared.queue.Pushed.{Pushed}
 use Rattle.edge_queue.specs.declared.refusal.NotQueued.{NotQueued}

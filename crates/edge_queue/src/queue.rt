@@ -4,7 +4,7 @@ ghost use Rattle.std.specs.Prelude.{◌≡◌, ◌≤◌, ◌<◌, length};
 ghost use Rattle.edge_queue.specs.Queue.{all_released, answer_of, edge_at, empty, is_down, is_full, is_repeated, pushed, queue_of};
 
 use crate::refusal::NotQueued;
-use board_lines::Place;
+use board_terms::Place;
 
 /// How many edges can wait when a key goes down.
 const PRESSES: usize = 64;

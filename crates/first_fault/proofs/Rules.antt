@@ -9,7 +9,7 @@ passed : (rule : ℕ) (broken : Bool) (rest : Option ℕ) → broken ≡ false �
 passed rule false rest is = refl
 passed rule true rest is = absurd cc
 
--- the first rule that is broken behind rules that aren't
+-- the first rule that is broken after rules that aren't
 pub lowest : (rule : ℕ) (lower higher : List (Judgement ℕ)) → All IsKept lower
     → first_broken (lower ++ judge rule true ∷ higher) ≡ Some rule
 lowest rule [] higher kept = refl

@@ -42,7 +42,7 @@ abbrev pub at_item : {Rule X : Type 0} → ℕ → Result X Rule → Result X (F
 at_item number (Ok value) = Ok value
 at_item number (Err rule) = Err (record { item = number; rule = rule })
 
--- what items come to, the first of which has this number. `take` says what an item makes of what those before it came
+-- what items give, the first of which has this number. `take` says what an item makes of what those before it came
 -- to, or the first rule that it breaks; `finish` judges the end, which counts as one item more
 abbrev pub outcome_from : {Item Before Rule X : Type 0} → (Before → Item → Result Before Rule)
     → (Before → Result X Rule) → ℕ → Before → List Item → Result X (Fault Rule)

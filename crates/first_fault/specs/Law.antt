@@ -1,9 +1,9 @@
--- What the first fault is, as laws over numbers: items, rules and what items come to are numbers here.
+-- What the first fault is, as laws over numbers: items, rules and what items give are numbers here.
 use Rattle.std.specs.Prelude.{◌≡◌, ℕ, ◌+◌, false, true, List, [], ◌∷◌, ◌++◌, length, All, Ok, Err}
 use Rattle.std.specs.declared.result.Result.{Result}
 use Rattle.first_fault.specs.FirstFault.{Judgement, judge, first_broken, unless, and_then, outcome}
 
--- what items come to that are taken one after another, or the first rule that one of them breaks
+-- what items give that are taken one after another, or the first rule that one of them breaks
 abbrev pub taken : (ℕ → ℕ → Result ℕ ℕ) → ℕ → List ℕ → Result ℕ ℕ
 taken take before [] = Ok before
 taken take before (item ∷ more) = and_then (take before item) (λ after. taken take after more)

@@ -64,7 +64,7 @@ module _ (layout : KeyLayout) where
   fits5 : fn_place_at + 1 ≤ length four
   fits5 = omega (arith, long4)
 
-  -- from the image down to the kernel with the tables before a place, or behind one
+  -- from the image down to the kernel with the tables before a place, or after one
   past_fn_place : (p : ℕ) → p < 973 → slice_index (image_of layout) p ≡ slice_index four p
   past_fn_place p l = below_table fn_place_at (fn_byte layout ∷ []) four fits5 p l
 

@@ -31,7 +31,7 @@ module _ (at : ℕ) (table bytes : List ℕ) (fits : at + length table ≤ lengt
       get_or_append_left (take at bytes ++ table) (drop (at + length table) bytes) 0 (at + p) (omega (arith, front, l))
       ∙ get_or-append_right (take at bytes) table at (at + p) 0 taken (omega arith) ∙ ap (λ i. get_or table i 0) e
 
-  -- before it, and behind it
+  -- before it, and after it
   pub below_table : (p : ℕ) → p < at → slice_index (with_table at table bytes) p ≡ slice_index bytes p
   below_table p l =
       get_or_append_left (take at bytes ++ table) (drop (at + length table) bytes) 0 p (omega (arith, front, l))

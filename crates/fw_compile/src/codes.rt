@@ -5,7 +5,7 @@ ghost use Rattle.fw_compile.specs.Image.{code_byte, codes_of, fn_code_byte, fn_c
 ghost use Rattle.fw_compile.specs.Image.{fn_byte};
 ghost use Rattle.layout_reader.specs.Layouts.{is_make_only};
 
-use board_lines::Place;
+use board_terms::Place;
 use layout_reader::Layout;
 
 /// The code of the place with this number, 00 if it has none.

@@ -11,7 +11,7 @@ use Rattle.fw_logic.proofs.Block.{begin_at, memory, scratched}
 use Rattle.fw_logic.proofs.Kernel.{kernel_in}
 use Rattle.fw_logic.proofs.Memory.{memory_is}
 use Rattle.fw_logic.proofs.Path.{world_at}
-use Rattle.fw_logic.proofs.Clock.{IsFree}
+use Rattle.fw_logic.proofs.TimerParts.{IsFree}
 use Rattle.fw_logic.proofs.Short.{has_rows}
 use Rattle.fw_logic.specs.Blocks.{IsAt}
 use Rattle.joint_run.specs.Run.{Board, World}

@@ -2,7 +2,7 @@
 use Rattle.std.specs.Prelude.{◌≡◌, ◌≤◌, ◌<◌, ℕ, List, length, slice_index}
 use Rattle.mcs48_core.specs.Cpu.{Cpu}
 use Rattle.joint_run.specs.Run.{Board, after_cycles}
-use Rattle.fw_logic.proofs.Clock.{IsFree}
+use Rattle.fw_logic.proofs.TimerParts.{IsFree}
 use Rattle.mcs48_ranges.specs.Sizes.{IsFine}
 use Rattle.fw_logic.proofs.Path.{Stage}
 use Rattle.fw_logic.proofs.Block.{memory, scratched, Shape}

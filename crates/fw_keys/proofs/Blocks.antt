@@ -15,7 +15,7 @@ use Rattle.fw_logic.proofs.Blocks.{later}
 use Rattle.fw_logic.proofs.Fine.{calm_fine}
 use Rattle.fw_keys.proofs.Block.{Bytes, Ends, Safe, ShapeA}
 use Rattle.fw_logic.proofs.Block.{Shape, before, begin_at, memory, scratched}
-use Rattle.fw_logic.proofs.Clock.{IsFree}
+use Rattle.fw_logic.proofs.TimerParts.{IsFree}
 use Rattle.fw_logic.proofs.Leads.{HasRows, Leads}
 use Rattle.fw_logic.proofs.Path.{Code, Note, Path, Stage, world_at}
 use Rattle.mcs48_ranges.specs.Sizes.{IsByte, IsFine}
@@ -88,7 +88,7 @@ module _ (d : Board) (code : Code) (has : HasRows code) (small : All IsByte code
         each = first.each;
         free = first.free;
         order = first.order;
-        clock = first.clock;
+        timer_later = first.timer_later;
         over = first.over;
       })
       (λ e af free.
@@ -264,7 +264,7 @@ module _ (d : Board) (code : Code) (has : HasRows code) (small : All IsByte code
         each = h.each;
         free = h.free;
         order = h.order;
-        clock = h.clock;
+        timer_later = h.timer_later;
         over = h.over;
       }
 

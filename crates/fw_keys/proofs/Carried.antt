@@ -19,7 +19,7 @@ use Rattle.kbd_model.specs.Commands.{obeyed, obeyed_in, commanded}
 use Rattle.kbd_model.specs.Layers.{Layers, in_layer, layers_after, layered, all_layers_after}
 use Rattle.kbd_model.specs.Tick.{met, sent_byte, without_offered, tested_if, repeated, repeated_if, edge_if}
 use Rattle.kbd_model.specs.Tick.{edges_if, ended_at, is_scanning, is_inhibited, scanned, ticked}
-use Rattle.board_lines.specs.Matrix.{turned}
+use Rattle.board_terms.specs.Matrix.{turned}
 use Rattle.fw_keys.specs.Edges.{row_edges, column_edges, tick_edges}
 
 -- what repeats, and edges, at places below 96

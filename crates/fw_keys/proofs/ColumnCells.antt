@@ -1,4 +1,4 @@
--- The cells of a column: what it changes, where its bytes stand, and its time.
+-- The cells of a column: what it changes, where its bytes are, and its time.
 use Rattle.std.proofs.Common.{◌≡◌, ◌≤◌, ◌<◌, ℕ, suc, zero, ◌+◌, ◌*◌, ◌/◌, ◌%◌, List, Bool, false, not, ◌==◌}
 use Rattle.std.proofs.Common.{if◌then◌else◌, bit_and, bit_xor, refl, ap, sym, ◌∙◌, arith, slice_index}
 use Rattle.std.proofs.lemmas.Bool.Decides.{nat_tests}
@@ -87,7 +87,7 @@ kept_layers f u v w z c = grind (arith, nat_tests)
 abbrev pub right_once : ℕ → ℕ
 right_once a = 128 * digit (bit 0 a) + a / 2
 
--- the layers' cell of a column, by the place behind its last row
+-- the layers' cell of a column, by the place after its last row
 pub layers_cell : (c : ℕ) → c < 12 → (right_once (right_once (right_once (8 * c + 8))) + 79) % 256 ≡ 80 + c
 layers_cell = by_below 12 (λ c. (right_once (right_once (right_once (8 * c + 8))) + 79) % 256) (λ c. 80 + c) refl
 

@@ -39,9 +39,9 @@ begun bytes ch hd c f layers =
     put (put (put (put (put (put (put (laid f layers) 28 (ch c)) 25 (80 + c)) 31 (hd c)) 30 (8 * c)) 29 (layers c)) 24
     (only bytes c)) 27 8
 
--- behind its last row its layers go back
-abbrev pub behind : (ℕ → ℕ) → ℕ → (ℕ → ℕ) → ℕ → ℕ → ℕ → Patch → Wide
-behind hd c layers r0 r5 fn p = record {
+-- after its last row its layers go back
+abbrev pub afterwards : (ℕ → ℕ) → ℕ → (ℕ → ℕ) → ℕ → ℕ → ℕ → Patch → Wide
+afterwards hd c layers r0 r5 fn p = record {
   r0 = r0;
   r7 = hd c;
   r5 = r5;
@@ -103,13 +103,13 @@ module _ (d : Board) (bytes : List ℕ) (hk : HasKernel bytes) (small : All IsBy
       c < 12
       → Safe m FOOT (struck (begun bytes ch hd c f layers) p r5 fn) last → p.r6 ≡ 8 * c + 8
       → Leads d (kernel_in true bytes) x (begin_at d FOOT (struck (begun bytes ch hd c f layers) p r5 fn) last m board)
-      (Ends d x m board MORE 15 (Just (spread f (behind hd c layers (49 + c) r5 fn p)) last))
+      (Ends d x m board MORE 15 (Just (spread f (afterwards hd c layers (49 + c) r5 fn p)) last))
   ends c x m board f layers ring last p r5 fn l safe r6 =
-      let w0 : ℕ → ℕ = wide f (behind hd c layers (only bytes c) r5 fn p) in
+      let w0 : ℕ → ℕ = wide f (afterwards hd c layers (only bytes c) r5 fn p) in
       leaf d (kernel_in true bytes) (has_rows true bytes hk) small low
-      (Just (spread f (behind hd c layers (49 + c) r5 fn p)) last)
+      (Just (spread f (afterwards hd c layers (49 + c) r5 fn p)) last)
       (Until 1229 ∷ Acc (80 + c) ∷ Run 3 ∷ Ram (memory (laid w0 (put layers c r5)) last) ∷ Until 1235 ∷ Acc
-      (49 + c) ∷ Until MORE ∷ []) FOOT MORE 15 (spread f (behind hd c layers (49 + c) r5 fn p)) last x m m board
+      (49 + c) ∷ Until MORE ∷ []) FOOT MORE 15 (spread f (afterwards hd c layers (49 + c) r5 fn p)) last x m m board
       (struck (begun bytes ch hd c f layers) p r5 fn) last safe.0 (λ a. (refl, refl)) (
         ap (λ v. (right_once (right_once (right_once v)) + 79) % 256) r6 ∙ layers_cell c l,
         (

@@ -19,7 +19,7 @@ use Rattle.fw_logic.proofs.Path.{Acc, Go, Run}
 use Rattle.fw_logic.proofs.Short.{has_rows}
 use Rattle.mcs48_ranges.specs.Sizes.{IsByte}
 use Rattle.joint_run.specs.Run.{Board}
-use Rattle.fw_keys.proofs.ColumnPath.{Column, only, begun, behind, begins, ends, goal_place, asks}
+use Rattle.fw_keys.proofs.ColumnPath.{Column, only, begun, afterwards, begins, ends, goal_place, asks}
 use Rattle.fw_keys.proofs.ColumnCells.{Wide, cell_at, column_sum, columns_time, decks_of}
 use Rattle.fw_keys.proofs.ColumnCells.{kept_wide}
 use Rattle.fw_keys.proofs.ColumnCells.{only_at, rows_part, spread, sums, unmoved}
@@ -104,10 +104,10 @@ module _ (d : Board) (bytes : List ℕ) (hk : HasKernel bytes) (alike : IsSilent
       (Ends d x2 m2 board2 MORE 15 (AfterColumns c 1 f layers ring))) (sym q.is.now)
       (λ safe3.
       recast d (kernel_in true bytes) (has_rows true bytes hk) small low x2 m2 board2 MORE 15 15
-      (Just (spread f (behind hd c layers (49 + c) q.r5 q.fn q.p)) last) (AfterColumns c 1 f layers ring)
+      (Just (spread f (afterwards hd c layers (49 + c) q.r5 q.fn q.p)) last) (AfterColumns c 1 f layers ring)
       (begin_at d FOOT (struck g1 q.p q.r5 q.fn) last m2 board2) (omega arith)
       (λ a g2 rg h.
-      let w : Wide = behind hd c layers (49 + c) q.r5 q.fn q.p in
+      let w : Wide = afterwards hd c layers (49 + c) q.r5 q.fn q.p in
       record {
         cells = spread f w;
         same = ap (λ t. memory t rg) h.0;

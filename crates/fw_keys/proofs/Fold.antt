@@ -3,7 +3,7 @@ use Rattle.std.specs.Prelude.{ℕ, zero, suc, ◌+◌, ◌*◌, ◌^◌, ◌==�
 use Rattle.std.specs.Prelude.{List, [], ◌∷◌, Some, None, bit_and, bit_xor}
 use Rattle.std.specs.declared.option.Option.{Option}
 use Rattle.bits.specs.Bits.{bit}
-use Rattle.board_lines.specs.Matrix.{turned}
+use Rattle.board_terms.specs.Matrix.{turned}
 use Rattle.fw_logic.proofs.Block.{put}
 use Rattle.kbd_model.specs.declared.state.Repeat.{Repeat}
 use Rattle.kbd_model.specs.Codes.{Keys, make, release}

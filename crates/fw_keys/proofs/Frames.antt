@@ -7,7 +7,7 @@ use Rattle.fw_kernel.specs.declared.labels.TheConstants.{DONE, SCAN, TESTED, SEN
 use Rattle.fw_kernel.specs.Places.{HasKernel}
 use Rattle.joint_run.specs.Run.{Board, after_cycles}
 use Rattle.mcs48_ranges.specs.Sizes.{IsByte, IsFine}
-use Rattle.fw_logic.proofs.Clock.{IsFree}
+use Rattle.fw_logic.proofs.TimerParts.{IsFree}
 use Rattle.fw_logic.proofs.Path.{Stage}
 use Rattle.fw_logic.proofs.Leads.{Leads}
 use Rattle.fw_logic.proofs.Block.{memory, scratched, begin_at}
@@ -48,8 +48,8 @@ module _ (d : Board) (bytes : List ℕ) (hk : HasKernel bytes) (alike : IsSilent
   cells r4 r5 = headed_by d bytes hk alike small low held y m board f ring r4 r5
 
   -- offsets from the head's end as offsets from the tick's third instruction
-  abbrev pub behind : Stage d.State → Stage d.State
-  behind e = record { cpu = e.cpu; board = e.board; off = 231 + e.off }
+  abbrev pub afterwards : Stage d.State → Stage d.State
+  afterwards e = record { cpu = e.cpu; board = e.board; off = 231 + e.off }
 
   -- what a tick needs of a frame: it ends at a place in time, with the keyboard's cells, what the columns showed, the
   -- way back and the ring as they were, F1 clear, and port 1 as it was; R says of the cells what the registers have,
@@ -63,7 +63,7 @@ module _ (d : Board) (bytes : List ℕ) (hk : HasKernel bytes) (alike : IsSilent
     pub stack : (now 8 ≡ g 8) × (now 9 ≡ g 9)
     pub short : e.off ≤ max
     pub registers : R now
-    pub facts : F (behind e)
+    pub facts : F (afterwards e)
 
   -- a frame, from the head's end: what is offered is in R4, or R5 is 0
   abbrev pub FrameLaw : ℕ → ℕ → (Stage d.State → Type 0) → (ℕ → ℕ → (ℕ → ℕ) → Type 0) → Type 0
@@ -130,7 +130,7 @@ module _ (d : Board) (bytes : List ℕ) (hk : HasKernel bytes) (alike : IsSilent
 
     from_frame : (r4 r5 : ℕ) → offered_in r4 r5 ≡ offer (kbd_of held f ring) → (e : Stage d.State)
         → Framed to max F (R r4 r5) (cells r4 r5) e → IsFree e.cpu → IsFine e.cpu
-        → Leads d (kernel_in true bytes) (y + 231) e (λ e2. Goal (behind e2))
+        → Leads d (kernel_in true bytes) (y + 231) e (λ e2. Goal (afterwards e2))
     from_frame r4 r5 offers e a free fine =
         let ch = changes_now d bytes hk alike small low held y m board f ring in
         let hd = downs_now d bytes hk alike small low held y m board f ring in
@@ -157,7 +157,7 @@ module _ (d : Board) (bytes : List ℕ) (hk : HasKernel bytes) (alike : IsSilent
         from_stage d (kernel_in true bytes) (has_rows true bytes hk) small low (y + 231) to n now ring e
         (Ends d x (record e.cpu { f0 = on }) e.board DONE (most + (56 + (2 + edges_most ch)))
         (Over d bytes hk alike small low held e.cpu.f1 ch hd (step now) (lifts now) ring))
-        (λ e2. Goal (behind e2)) a.cpu
+        (λ e2. Goal (afterwards e2)) a.cpu
         (λ e2 b.
         let is : e2.cpu ≡ scratched (record lights { f0 = on; f1 = false; p2 = e.cpu.p2 }) DONE (memory b.now b.ring)
         e2.cpu =
@@ -168,7 +168,7 @@ module _ (d : Board) (bytes : List ℕ) (hk : HasKernel bytes) (alike : IsSilent
         record {
           now = b.now;
           last = b.ring;
-          from = behind e;
+          from = afterwards e;
           n = e2.off;
           cpu = is
               ∙ sym (ap (λ (c : Cpu). scratched (record lights { f0 = c.f0; f1 = c.f1; p2 = c.p2 }) DONE
@@ -212,16 +212,16 @@ module _ (d : Board) (bytes : List ℕ) (hk : HasKernel bytes) (alike : IsSilent
         a.cpu free af.1 in
         let R' = Framed to max F (R a.r4 a.r5) g0 in
         from_stage d (kernel_in true bytes) (has_rows true bytes hk) small low y TESTED lights g0 ring e
-        (λ e2. Goal (behind e2)) Goal a.cpu
+        (λ e2. Goal (afterwards e2)) Goal a.cpu
         (λ e2 b. subst (λ o. Goal (record { cpu = e2.cpu; board = e2.board; off = o + e2.off })) (sym a.off) b)
-        (subst (λ z. Leads d (kernel_in true bytes) z begin (λ e2. Goal (behind e2))) at
+        (subst (λ z. Leads d (kernel_in true bytes) z begin (λ e2. Goal (afterwards e2))) at
         (chain d (kernel_in true bytes) (has_rows true bytes hk) (y + 231) (λ e2. R' e2 × IsFine e2.cpu)
-        (λ e2. Goal (behind e2)) begin
+        (λ e2. Goal (afterwards e2)) begin
         (fine_end d (kernel_in true bytes) (has_rows true bytes hk) small low (y + 231) begin R' safe'.1
         (frame e.cpu e.board a.r4 a.r5 a.cpu a.board_now a.offers safe'))
         (λ e2 bf free2. from_frame a.r4 a.r5 a.offers e2 bf.0 free2 bf.1))))
 
-  -- what the registers hold behind a sent frame, a received one, a cut one
+  -- what the registers hold after a sent frame, a received one, a cut one
   abbrev pub IsSent : ℕ → ℕ → (ℕ → ℕ) → Type 0
   IsSent r4 r5 g = (g 28 ≡ r4) × ((r5 == 0) ≡ false)
 

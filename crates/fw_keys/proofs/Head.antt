@@ -17,7 +17,7 @@ use Rattle.fw_keys.proofs.Block.{Bytes}
 use Rattle.fw_keys.specs.State.{kbd_of, made}
 use Rattle.fw_logic.proofs.Block.{memory, put, scratched}
 use Rattle.bits.proofs.Every.{by_byte, tests_by}
-use Rattle.fw_logic.proofs.Clock.{IsFree}
+use Rattle.fw_logic.proofs.TimerParts.{IsFree}
 use Rattle.fw_logic.proofs.Kernel.{kernel_in}
 use Rattle.fw_logic.proofs.Leads.{Leads}
 use Rattle.fw_logic.proofs.Path.{Acc, Go, Note, Path, Stage, Until}
@@ -28,7 +28,7 @@ use Rattle.kbd_model.specs.Keyboard.{offer}
 use Rattle.kbd_model.specs.Queue.{first_of}
 use Rattle.fw_keys.proofs.Bytes.{or_none, twice}
 
--- the keys of column c that are down: it is read 13 + 16 c cycles behind
+-- the keys of column c that are down: it is read 13 + 16 c cycles after
 abbrev pub shown : (d : Board) → ℕ → ℕ → d.State → ℕ → ℕ
 shown d y p2 board c = 255 - (d.pins (32 + c) p2 (y + (13 + 16 * c))
     (after_cycles (13 + 16 * c) 0 (λ o. d.cycle p2 (y + o)) board)).bus
@@ -77,14 +77,14 @@ module _ (d : Board) (bytes : List ℕ) (hk : HasKernel bytes) (small : All IsBy
     abbrev pub look : ℕ → ℕ
     look = shown d y m.p2 board
 
-    -- behind the timer's write
+    -- after the timer's write
     abbrev pub started : Stage d.State
     started = begin_at d 10 f ring m board
 
     abbrev pub shone : Cpu
     shone = record m { p1 = 44; p2 = 255 - f LIGHTS }
 
-    -- the board at the head's end: the lights are put in the cycle 229 behind
+    -- the board at the head's end: the lights are put in the cycle 229 after
     abbrev pub board_lit : d.State
     board_lit = after_cycles 2 229 (λ o. d.cycle (255 - f LIGHTS) (y + o)) (after_cycles 229 0 (λ o. d.cycle m.p2 (y + o)) board)
 

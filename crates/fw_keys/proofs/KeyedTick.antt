@@ -12,7 +12,7 @@ use Rattle.kbd_model.specs.Layers.{Layers}
 use Rattle.kbd_model.specs.Tick.{tested_if}
 use Rattle.kbd_model.specs.declared.meeting.Meeting.{Meeting}
 
--- a look without an effect, to the place behind it
+-- a look without an effect, to the place after it
 abbrev pub passed : ℕ → Cpu → Bool → Cpu → Cpu
 passed place m b e = record m { pc = place; t = e.t; pre = e.pre; tf = e.tf; rq = e.rq; last_t1 = e.last_t1 }
 

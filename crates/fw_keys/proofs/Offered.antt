@@ -1,6 +1,6 @@
 -- What the offer says of the byte that is sent, as the law of step 1 wants it.
 use Rattle.kbd_model.specs.Laws.{whole}
-use Rattle.kbd_model.proofs.CodesAreWhole.{IsWhole, code_behind}
+use Rattle.kbd_model.proofs.CodesAreWhole.{IsWhole, code_after}
 use Rattle.std.proofs.Common.{Bool}
 use Rattle.std.proofs.Common.{◌≡◌, ◌<◌, ℕ, suc, zero, ◌+◌, ◌%◌, List, length, true, false, not, ◌==◌, Some}
 use Rattle.std.proofs.Common.{None, refl, ap, sym, ◌∙◌, arith, slice_index}
@@ -37,7 +37,7 @@ first_of_law held f ring b is e64 e65 some = by (f 66 % 128) refl some
     by zero e l = absurd (omega (arith, l))
     by (suc n) e l = is_first held f ring b n is e64 e65 e
 
--- and where it is the F0 of a break its code stands behind it
+-- and where it is the F0 of a break its code is after it
 pub code_law : (held : List Bool) (f : ℕ → ℕ) (ring : List ℕ) (b : ℕ) → offer (kbd_of held f ring) ≡ Some b
     → IsWhole (queue_of f ring) → (f 64 == 0) ≡ true → (f 65 == 0) ≡ true → 0 < f 66 % 128 → b ≡ 240 → f 68 ≡ 0
     → 1 < f 66 % 128
@@ -51,7 +51,7 @@ code_law held f ring b is codes e64 e65 some f0 none = by (f 66 % 128) refl some
         let test : (g 0 == 240) ≡ true = ap (λ v. v == 240) first in
         let fresh : whole false (made g (suc n)) ≡ true = ap (λ s. whole (not (s == 0)) (made g (suc n))) (sym none)
         ∙ ap (λ c. whole (not (f 68 == 0)) (made g c)) (sym e) ∙ codes in
-        let long : 1 < length (made g (suc n)) = code_behind (g 0) (made (λ i. g (suc i)) n) test fresh in
+        let long : 1 < length (made g (suc n)) = code_after (g 0) (made (λ i. g (suc i)) n) test fresh in
         let size : length (made g (suc n)) ≡ suc n = made-length g (suc n) in
         omega (arith, long, size, e)
 

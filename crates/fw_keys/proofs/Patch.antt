@@ -50,7 +50,7 @@ pub record Struck (held : List Bool) (step : Deck → Deck) (f : ℕ → ℕ) (r
   pub more : f 66 % 128 ≤ p.count % 128
   pub cell : IsFnCell fn
 
--- after a row's edge R3, R6 stand and R4 has the turned changes
+-- after a row's edge R3, R6 are and R4 has the turned changes
 pub record AfterEdge (held : List Bool) (step : Deck → Deck) (a : ℕ) (f : ℕ → ℕ) (ring : List ℕ) (g : ℕ → ℕ)
     (r : List ℕ) : Type 0 where
   pub p : Patch

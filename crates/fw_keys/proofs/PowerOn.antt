@@ -20,7 +20,7 @@ use Rattle.fw_keys.proofs.Begun.{started_is}
 module _ (d : Board) (bytes : List ℕ) (small : All IsByte bytes)
     (low : (p1 p2 c : ℕ) (s : d.State) → (d.pins p1 p2 c s).bus < 256) (board : d.State) (from : World d.State)
     (fine : IsFine from.cpu) (h : Comes d TICK bytes from (IsFirst d bytes board)) where
-  -- what stands at the first tick start
+  -- what is at the first tick start
   from_first : Comes d TICK bytes from (λ w. IsFirst d bytes board w × FromPowerOn bytes w.cpu)
   from_first =
       let a = h.goal in
@@ -70,7 +70,7 @@ module _ (d : Board) (bytes : List ℕ) (hk : HasKernel bytes) (small : All IsBy
         sp = omega arith;
       }
 
-  -- the first tick start, with what stands beside the processor there
+  -- the first tick start, with what is beside the processor there
   pub first_started : Comes d TICK bytes (power_on d m board) (λ w. IsFirst d bytes board w × FromPowerOn bytes w.cpu)
   first_started =
       from_first d bytes small low board (power_on d m board) reset_fine (first_start d bytes hk m fine.long board)

@@ -5,15 +5,15 @@ use Rattle.std.proofs.lemmas.List.{get_or-set_same, get_or-set_other}
 use Rattle.fw_logic.proofs.Block.{before, memory}
 use Rattle.fw_keys.specs.State.{made}
 
-pub set-behind : (f : ℕ → ℕ) (from n : ℕ) (ring : List ℕ) (j v : ℕ) → slice_set (before f from n ring) (n + j) v
+pub set-afterwards : (f : ℕ → ℕ) (from n : ℕ) (ring : List ℕ) (j v : ℕ) → slice_set (before f from n ring) (n + j) v
     ≡ before f from n (slice_set ring j v)
-set-behind f from zero ring j v = rw zero-add refl
-set-behind f from (suc n) ring j v = let e : suc n + j ≡ suc (n + j) = omega arith in
-    rw e (ap (λ t. f from ∷ t) (set-behind f (from + 1) n ring j v))
+set-afterwards f from zero ring j v = rw zero-add refl
+set-afterwards f from (suc n) ring j v = let e : suc n + j ≡ suc (n + j) = omega arith in
+    rw e (ap (λ t. f from ∷ t) (set-afterwards f (from + 1) n ring j v))
 
 pub ring-set : (f : ℕ → ℕ) (ring : List ℕ) (j v : ℕ) → j < 16 → slice_set (memory f ring) ((112 + j) % 128) v
     ≡ memory f (slice_set ring j v)
-ring-set f ring j v l = let e : (112 + j) % 128 ≡ 112 + j = omega arith in rw e (set-behind f 0 112 ring j v)
+ring-set f ring j v l = let e : (112 + j) % 128 ≡ 112 + j = omega arith in rw e (set-afterwards f 0 112 ring j v)
 
 pub made-same : (g h : ℕ → ℕ) (n : ℕ) → ((i : ℕ) → i < n → g i ≡ h i) → made g n ≡ made h n
 made-same g h zero e = refl
@@ -29,7 +29,7 @@ pub made-length : (g : ℕ → ℕ) (n : ℕ) → length (made g n) ≡ n
 made-length g zero = refl
 made-length g (suc n) = ap suc (made-length (λ i. g (suc i)) n)
 
--- a byte behind the last one
+-- a byte after the last one
 pub appended : (ring : List ℕ) (h n v : ℕ) → length ring ≡ 16 → n < 16
     → made (λ i. slice_index (slice_set ring ((h + n) % 16) v) ((h + i) % 16)) (suc n)
     ≡ made (λ i. slice_index ring ((h + i) % 16)) n ++ (v ∷ [])
@@ -42,7 +42,7 @@ appended ring h n v size l =
     get_or-set_other ring ((h + n) % 16) ((h + i) % 16) v 0 ne) in
     made-more g n ∙ rw (last, front) refl
 
--- two bytes behind the last one
+-- two bytes after the last one
 pub appended2 : (ring : List ℕ) (h n v w : ℕ) → length ring ≡ 16 → n < 15
     → made (λ i. slice_index (slice_set (slice_set ring ((h + n) % 16) v) ((h + suc n) % 16) w) ((h + i) % 16))
     (suc (suc n)) ≡ made (λ i. slice_index ring ((h + i) % 16)) n ++ (v ∷ w ∷ [])

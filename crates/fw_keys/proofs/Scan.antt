@@ -50,7 +50,7 @@ after keys changed down l = all_layers_after keys.is_fn (tick_edges changed down
 abbrev pub edges_most : (ℕ → ℕ) → ℕ
 edges_most ch = 9 * 12 + 93 * changed_columns ch 0 12 + 62 * all_edges ch 0 12
 
--- the cells behind the columns show the layers
+-- the cells after the columns show the layers
 spread_layers : (f : ℕ → ℕ) (w : Wide) → layers_of (spread f w) ≡ layers_by (not (w.fn == 0)) w.bytes
 spread_layers f w = ap (λ p. record { fn_down = not (w.fn == 0); pressed_in = p })
     (held_same (λ c. spread f w (80 + c)) w.bytes (λ c l. laid_at (wide f w) w.bytes c l))

@@ -241,7 +241,7 @@ module _ (d : Board) (bytes : List ℕ) (hk : HasKernel bytes) (alike : IsSilent
         (fit l range fine).1
         (work l range))
 
-    -- so the run comes to the next start, by the service's end
+    -- so the run reaches the next start, by the service's end
     abbrev in_range : IsInRange b
     in_range = record { t = fine.t; pre = fine.pre }
 

@@ -20,7 +20,7 @@ use Rattle.mcs48_ranges.specs.Sizes.{IsByte}
 use Rattle.joint_run.specs.Run.{Board}
 use Rattle.kbd_model.specs.Tick.{tested_if}
 
--- a look without an effect, to the place behind it
+-- a look without an effect, to the place after it
 abbrev passed : ℕ → Cpu → Bool → Cpu → Cpu
 passed place m b e = record m { pc = place; t = e.t; pre = e.pre; tf = e.tf; rq = e.rq; last_t1 = e.last_t1 }
 

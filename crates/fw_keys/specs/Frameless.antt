@@ -70,7 +70,7 @@ clock_now d w = (levels_in d (w.cycle + 232) 44 (latch_now d w) (in_tick d w 232
 abbrev pub data_now : (d : Board) → World d.State → Bool
 data_now d w = (levels_in d (w.cycle + 232) 44 (latch_now d w) (in_tick d w 232) 26).t1
 
--- data is looked at again at offset 286 where it was low at 258
+-- data is looked at again at offset 286 if it was low at 258
 abbrev pub data_again : (d : Board) → World d.State → Bool
 data_again d w = (levels_in d (w.cycle + 232) 44 (latch_now d w) (in_tick d w 232) 54).t1
 

@@ -9,7 +9,7 @@ use Rattle.fw_kernel.specs.Places.{HasKernel}
 use Rattle.fw_kernel.specs.declared.labels.TheConstants.{S_CELL, S_STOP, SCAN}
 use Rattle.fw_logic.proofs.Block.{memory, put, scratched, begin_at, At}
 use Rattle.fw_logic.proofs.Blocks.{straight}
-use Rattle.fw_logic.proofs.Clock.{IsFree}
+use Rattle.fw_logic.proofs.TimerParts.{IsFree}
 use Rattle.fw_logic.proofs.Kernel.{kernel_in}
 use Rattle.fw_logic.proofs.Leads.{Leads}
 use Rattle.fw_logic.proofs.Path.{Stage, Until, Go, Acc, Ram}
@@ -17,7 +17,7 @@ use Rattle.fw_logic.proofs.Short.{has_rows}
 use Rattle.fw_logic.proofs.Sound.{sound}
 use Rattle.joint_run.specs.Run.{Board, after_cycles}
 
--- R1, R3 and R6 behind a cell: R1 is the latch that was put, R6 is turned through the carry
+-- R1, R3 and R6 after a cell: R1 is the latch that was put, R6 is turned through the carry
 abbrev pub turned : (ℕ → ℕ) → Bool → ℕ → ℕ → ℕ → ℕ
 turned f c v n = put (put (put f 30 (128 * digit c + f 30 / 2)) 25 v) 27 n
 
@@ -54,8 +54,8 @@ module _ (d : Board) (bytes : List ℕ) (has : HasKernel bytes) (y : ℕ) (m : C
   abbrev pub board_risen : ℕ → d.State
   board_risen n = after_cycles n 16 (λ o. d.cycle (f 25) (y + o)) (after_cycles 16 0 (λ o. d.cycle (fallen m) (y + o)) board)
 
-  abbrev pub board_behind : ℕ → d.State
-  board_behind v = after_cycles 11 21 (λ o. d.cycle v (y + o)) (board_risen 5)
+  abbrev pub board_after : ℕ → d.State
+  board_after v = after_cycles 11 21 (λ o. d.cycle v (y + o)) (board_risen 5)
 
   -- the clock wire at the cell's looks, 18 and 28 cycles into it; at the second the latch is that with the next bit
   abbrev pub clock_seen : Bool
@@ -67,7 +67,7 @@ module _ (d : Board) (bytes : List ℕ) (has : HasKernel bytes) (y : ℕ) (m : C
   abbrev pub Celled : ℕ → ℕ → ℕ → Stage d.State → Type 0
   Celled v n place e =
       (e.cpu ≡ scratched (record m { p2 = v }) place (memory (turned f m.c v n) ring) e.cpu) × (e.cpu.c ≡ true)
-      × (e.off ≡ 32) × (e.board ≡ board_behind v)
+      × (e.off ≡ 32) × (e.board ≡ board_after v)
 
   -- where the clock is low at a look both wires are released: 24 or 34 cycles in all
   abbrev pub board_cut : d.State

@@ -9,7 +9,7 @@ use Rattle.fw_kernel.specs.Places.{HasKernel}
 use Rattle.fw_kernel.specs.declared.labels.TheConstants.{SEND, S_CELL, S_STOP, SCAN}
 use Rattle.fw_logic.proofs.Block.{memory, put, scratched, begin_at, At}
 use Rattle.fw_logic.proofs.Blocks.{from_stage}
-use Rattle.fw_logic.proofs.Clock.{IsFree}
+use Rattle.fw_logic.proofs.TimerParts.{IsFree}
 use Rattle.fw_logic.proofs.Kernel.{kernel_in}
 use Rattle.fw_logic.proofs.Leads.{Leads}
 use Rattle.fw_logic.proofs.Path.{Stage}
@@ -24,7 +24,7 @@ use Rattle.fw_link.proofs.Sending.{InFrame, sending, left_at, next_is, look, hig
 use Rattle.fw_link.proofs.Wired.{IsReleased, both_high, releases, puts, spans, ticks_alike}
 use Rattle.joint_run.specs.Run.{Board, after_cycles}
 
--- the latch of a frame that is cut, before the cut and behind it
+-- the latch of a frame that is cut, before the cut and after it
 pub as_sent : (v byte look o : ℕ) → o < look + 2 → cut_latch v byte look o ≡ sent_latch v byte o
 as_sent v byte look o l = let a : nat_lt o (look + 2) ≡ true = grind (arith, nat_tests, l) in rw a refl
 
@@ -153,7 +153,7 @@ module _ (d : Board) (bytes : List ℕ) (has : HasKernel bytes) (x : ℕ) (m : C
     abbrev next : ℕ
     next = wired v true (frame_bit byte (suc q.k))
 
-    -- the processor behind it, whose latch is released
+    -- the processor after it, whose latch is released
     cpu_is : (u : ℕ) (e : Stage d.State) → u ≡ v
         → e.cpu ≡ scratched (record t.cpu { p2 = u }) SCAN (memory (half_turned d bytes has (x + t.off) t.cpu t.board g ring next) ring) e.cpu
         → e.cpu ≡ scratched m SCAN (memory (sending f v byte (suc k) (suc n) (in_quarters byte)) ring) e.cpu
@@ -196,9 +196,9 @@ module _ (d : Board) (bytes : List ℕ) (has : HasKernel bytes) (x : ℕ) (m : C
         (look_is d bytes has x m board f ring v byte released small q.k (x + t.off) t.cpu.p2 r t.cpu.p1 t.board one y put2
         refl q.board_now ∙ ap (λ i. is_high (46 + 32 * i)) is ∙ low))
 
-    cut_behind_bit : is_high (46 + 32 * k) ≡ true → is_high (56 + 32 * k) ≡ false
+    cut_after_bit : is_high (46 + 32 * k) ≡ true → is_high (56 + 32 * k) ≡ false
         → Leads d (kernel_in true bytes) x t (Cut (56 + 32 * k) (suc k, suc n, in_quarters byte))
-    cut_behind_bit high low =
+    cut_after_bit high low =
         let u = bit_or next 3 in
         let again : u ≡ v = releases (frame_bit byte (suc q.k)) v released in
         let o : t.off ≡ 28 + 32 * q.k = q.off in
@@ -279,5 +279,5 @@ module _ (d : Board) (bytes : List ℕ) (has : HasKernel bytes) (x : ℕ) (m : C
           (in_cell k few look (omega (arith, e)) high left count
           (λ t q free.
           subst (λ o. Leads d (kernel_in true bytes) x t (Cut o (suc k, suc left, in_quarters byte))) (sym e)
-          (cut_behind_bit k left count out t q free
+          (cut_after_bit k left count out t q free
           (high (46 + 32 * k) (inr (inr (k, few, inl refl))) (omega (arith, e))) (ap is_high (sym e) ∙ low))))

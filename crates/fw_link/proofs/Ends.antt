@@ -4,13 +4,13 @@ use Rattle.std.proofs.Common.{not, bit_and, bit_or, bit_xor, refl, ap, ◌∙◌
 use Rattle.mcs48_core.specs.Cpu.{Cpu}
 use Rattle.bits.specs.Bits.{bit}
 use Rattle.mcs48_core.specs.Status.{digit}
-use Rattle.board_lines.specs.Frame.{parity_of}
+use Rattle.board_terms.specs.Frame.{parity_of}
 use Rattle.fw_kernel.specs.Places.{HasKernel}
 use Rattle.fw_kernel.specs.declared.labels.TheConstants.{SEND, S_CELL, S_STOP, SENT, SCAN}
 use Rattle.fw_logic.proofs.Block.{memory, put, scratched, begin_at, At}
 use Rattle.fw_logic.proofs.Blocks.{straight}
 use Rattle.bits.proofs.Every.{by_byte}
-use Rattle.fw_logic.proofs.Clock.{IsFree}
+use Rattle.fw_logic.proofs.TimerParts.{IsFree}
 use Rattle.fw_logic.proofs.Kernel.{kernel_in}
 use Rattle.fw_logic.proofs.Leads.{Leads}
 use Rattle.fw_logic.proofs.Path.{Stage, Run, Until, Go, Acc}
@@ -47,7 +47,7 @@ module _ (d : Board) (bytes : List ℕ) (has : HasKernel bytes) (y : ℕ) (m : C
   abbrev pub lit_low : Cpu
   lit_low = record m { p2 = f 26 }
 
-  -- the board so many cycles behind the start bit
+  -- the board so many cycles after the start bit
   abbrev pub board_started : ℕ → d.State
   board_started n = after_cycles n 10 (λ o. d.cycle (f 26) (y + o)) (after_cycles 10 0 (λ o. d.cycle m.p2 (y + o)) board)
 

@@ -3,12 +3,12 @@ use Rattle.std.proofs.Common.{◌≡◌, ◌≤◌, ◌<◌, ℕ, suc, ◌+◌, 
 use Rattle.std.proofs.Common.{bit_and, bit_or, refl, ap, sym, ◌∙◌, subst, inl, inr, arith}
 use Rattle.std.proofs.lemmas.Bool.Decides.{nat_tests}
 use Rattle.mcs48_core.specs.Cpu.{Cpu}
-use Rattle.board_lines.specs.Frame.{parity_of}
+use Rattle.board_terms.specs.Frame.{parity_of}
 use Rattle.fw_kernel.specs.Places.{HasKernel}
 use Rattle.fw_kernel.specs.declared.labels.TheConstants.{SEND, S_CELL, S_STOP, SENT}
 use Rattle.fw_logic.proofs.Block.{memory, put, scratched, begin_at, At}
 use Rattle.fw_logic.proofs.Blocks.{from_stage}
-use Rattle.fw_logic.proofs.Clock.{IsFree}
+use Rattle.fw_logic.proofs.TimerParts.{IsFree}
 use Rattle.fw_logic.proofs.Kernel.{kernel_in}
 use Rattle.fw_logic.proofs.Laws.{counts_down}
 use Rattle.fw_logic.proofs.Leads.{Leads}

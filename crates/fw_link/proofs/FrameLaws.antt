@@ -3,16 +3,16 @@ use Rattle.std.proofs.Common.{◌≡◌, ◌<◌, ℕ, ◌+◌, ◌-◌, ◌*◌
 use Rattle.std.proofs.Common.{slice_index}
 use Rattle.std.proofs.Common.{refl, ap, sym, ◌∙◌, subst, arith}
 use Rattle.mcs48_core.specs.Cpu.{Cpu}
-use Rattle.board_lines.specs.declared.event.Edge.{Edge}
-use Rattle.board_lines.specs.declared.event.HostEvent.{HostEvent}
-use Rattle.board_lines.specs.declared.lines.Lines.{Lines}
+use Rattle.board_terms.specs.declared.event.Edge.{Edge}
+use Rattle.board_terms.specs.declared.event.HostEvent.{HostEvent}
+use Rattle.board_terms.specs.declared.lines.Lines.{Lines}
 use Rattle.ctl_wire.specs.Wire.{drive}
 use Rattle.fw_kernel.specs.Places.{HasKernel}
 use Rattle.fw_kernel.specs.declared.labels.TheConstants.{TICK, SEND, SENT, SCAN, GOT, COMMAND}
 use Rattle.fw_logic.proofs.Block.{memory, scratched, begin_at, At}
 use Rattle.fw_logic.proofs.BlockLaws.{cells_of, others_are, from_world, at_end}
 use Rattle.fw_logic.proofs.Cells.{cell}
-use Rattle.fw_logic.proofs.Clock.{IsFree}
+use Rattle.fw_logic.proofs.TimerParts.{IsFree}
 use Rattle.fw_logic.proofs.Kernel.{kernel_in}
 use Rattle.fw_logic.proofs.Leads.{Leads}
 use Rattle.fw_logic.proofs.Memory.{memory_is}
@@ -79,7 +79,7 @@ module _ (bytes : List ℕ) (has : HasKernel bytes) (edges : List Edge) (events 
   abbrev u : World Beside
   u = under to w
 
-  -- the board so many cycles on, over a latch; and what stands beside the processor then
+  -- the board so many cycles on, over a latch; and what is beside the processor then
   abbrev out : (ℕ → ℕ) → ℕ → d.State
   out latch n = driven d w.cycle latch n 0 w.board
 
@@ -116,7 +116,7 @@ module _ (bytes : List ℕ) (has : HasKernel bytes) (edges : List Edge) (events 
         ∙ ap (λ r. slice_index r i) (sym (memory_is m.ram long));
   }
 
-  -- the looks are told from the state's cycle
+  -- the looks are reported from the state's cycle
   abbrev lets : ℕ → ℕ → Bool
   lets c o = (drive (board_cycles events lines o c (to w.board).pc).side.port.link).clk
 
@@ -256,7 +256,7 @@ got_law bytes has edges events start byte w h small lines drives asks link clock
     (got_over bytes has edges events (watch edges events w latch) (beneath edges events w latch)
     (watch_over edges events w latch) start byte (watched w) lines h small drives asks link clock)
 
--- the look in the first cell, by what stands at the first edge
+-- the look in the first cell, by what is at the first edge
 look_from_edge : (events : List HostEvent) (lines : ℕ → Lines) (start : ℕ) (w : World Beside) → w.cycle ≡ 260 + start
     → is_let events lines w 46 ≡ lets_from events lines start (at_edge events lines w) 0
 look_from_edge events lines start w at =

@@ -2,17 +2,17 @@
 -- its parity is right.
 use Rattle.std.proofs.Common.{false, ◌≡◌, ◌≤◌, ◌<◌, ℕ, ◌+◌, ◌*◌, List, Bool, true, ◌&&◌, refl, ap, ◌∙◌, arith}
 use Rattle.mcs48_core.specs.Cpu.{Cpu}
-use Rattle.board_lines.specs.Bits.{value}
-use Rattle.board_lines.specs.declared.event.Edge.{Edge}
-use Rattle.board_lines.specs.declared.event.HostEvent.{HostEvent}
-use Rattle.board_lines.specs.declared.lines.Lines.{Lines}
+use Rattle.board_terms.specs.Bits.{value}
+use Rattle.board_terms.specs.declared.event.Edge.{Edge}
+use Rattle.board_terms.specs.declared.event.HostEvent.{HostEvent}
+use Rattle.board_terms.specs.declared.lines.Lines.{Lines}
 use Rattle.ctl_link.specs.declared.link.Link.TheVariants.{Request}
 use Rattle.ctl_wire.specs.Wire.{drive}
 use Rattle.fw_kernel.specs.Places.{HasKernel}
 use Rattle.fw_kernel.specs.declared.labels.TheConstants.{GOT, COMMAND}
 use Rattle.fw_logic.proofs.Block.{memory, scratched, begin_at, At}
 use Rattle.bits.proofs.Every.{by_byte, tests_by}
-use Rattle.fw_logic.proofs.Clock.{IsFree}
+use Rattle.fw_logic.proofs.TimerParts.{IsFree}
 use Rattle.fw_logic.proofs.Kernel.{kernel_in}
 use Rattle.fw_logic.proofs.Leads.{Leads}
 use Rattle.fw_logic.proofs.Short.{has_rows}

@@ -1,9 +1,9 @@
--- The looks of a sent frame, told from the tick's look at the clock, from that at data and from the first edge; and
+-- The looks of a sent frame, reported from the tick's look at the clock, from that at data and from the first edge; and
 -- what the link is there.
 use Rattle.std.proofs.Common.{◌≡◌, ◌≤◌, ◌<◌, ℕ, ◌+◌, ◌*◌, List, Bool, true, false, Some, refl, ap, sym}
 use Rattle.std.proofs.Common.{◌∙◌, subst, inl, inr, arith}
-use Rattle.board_lines.specs.declared.event.HostEvent.{HostEvent}
-use Rattle.board_lines.specs.declared.lines.Lines.{Lines}
+use Rattle.board_terms.specs.declared.event.HostEvent.{HostEvent}
+use Rattle.board_terms.specs.declared.lines.Lines.{Lines}
 use Rattle.ctl_link.specs.Pulls.{pulled}
 use Rattle.ctl_link.specs.declared.link.Link.{Link}
 use Rattle.ctl_link.specs.declared.link.Link.TheVariants.{Free, Hold, Ask, Request, Busy}
@@ -39,7 +39,7 @@ from_data events lines start b =
 abbrev pub lets_at : List HostEvent → (ℕ → Lines) → ℕ → Pc → ℕ → Bool
 lets_at events lines start b look = (drive (board_cycles events lines (4 + look) (256 + start) b).side.port.link).clk
 
--- the same by the cycles behind the first edge
+-- the same by the cycles after the first edge
 pub as_cycle : (events : List HostEvent) (lines : ℕ → Lines) (start : ℕ) (b : Pc) (look n : ℕ) → look ≡ 28 + n
     → lets_at events lines start b look ≡ leaves_cycle events lines start b n
 as_cycle events lines start b look n e =
@@ -55,11 +55,11 @@ module _ (events : List HostEvent) (lines : ℕ → Lines) (start : ℕ) where
   lets_from c k = (drive (board_cycles events lines (32 * k + 18) (288 + start) c).side.port.link).clk
 
   -- by that at the look at data
-  abbrev lets_behind : Pc → ℕ → Bool
-  lets_behind b k = (drive (board_cycles events lines (28 + 32 * k + 18) (260 + start) b).side.port.link).clk
+  abbrev lets_after : Pc → ℕ → Bool
+  lets_after b k = (drive (board_cycles events lines (28 + 32 * k + 18) (260 + start) b).side.port.link).clk
 
   -- these are one
-  pub from_edge : (b : Pc) (k : ℕ) → lets_behind b k ≡ lets_from (board_cycles events lines 28 (260 + start) b) k
+  pub from_edge : (b : Pc) (k : ℕ) → lets_after b k ≡ lets_from (board_cycles events lines 28 (260 + start) b) k
   from_edge b k =
       let p : 28 + (260 + start) ≡ 288 + start = omega arith in
       ap (λ (c : Pc). (drive c.side.port.link).clk)
@@ -67,7 +67,7 @@ module _ (events : List HostEvent) (lines : ℕ → Lines) (start : ℕ) where
       ∙ ap (λ c. board_cycles events lines (32 * k + 18) c (board_cycles events lines 28 (260 + start) b)) p)
 
   pub from_look : (b : Pc) (k : ℕ)
-      → lets_behind (board_cycles events lines 4 (256 + start) b) k ≡ leaves_clock events lines start b k
+      → lets_after (board_cycles events lines 4 (256 + start) b) k ≡ leaves_clock events lines start b k
   from_look b k =
       from_edge (board_cycles events lines 4 (256 + start) b) k
       ∙ ap (λ c. lets_from c k) (sym (from_data events lines start b))

@@ -2,9 +2,9 @@
 use Rattle.std.proofs.Common.{◌≡◌, ◌≤◌, ◌<◌, ℕ, suc, zero, ◌+◌, ◌-◌, List, Bool, true, false, nat_lt, refl, ap}
 use Rattle.std.proofs.Common.{sym, ◌∙◌, arith}
 use Rattle.std.proofs.lemmas.Bool.Decides.{nat_tests}
-use Rattle.board_lines.specs.declared.event.Edge.{Edge}
-use Rattle.board_lines.specs.declared.event.HostEvent.{HostEvent}
-use Rattle.board_lines.specs.declared.lines.Lines.{Lines}
+use Rattle.board_terms.specs.declared.event.Edge.{Edge}
+use Rattle.board_terms.specs.declared.event.HostEvent.{HostEvent}
+use Rattle.board_terms.specs.declared.lines.Lines.{Lines}
 use Rattle.fw_link.specs.Latch.{IsLook, frame_bit, sent_latch, cut_latch, cut_after, received_latch}
 use Rattle.fw_link.proofs.Latches.{in_tick}
 use Rattle.fw_link.proofs.Board.{one_cycle}
@@ -72,7 +72,7 @@ lit_wires edges events lines n y v s is =
     (λ c. record { pc = board_cycles events lines n c (board_cycle events y (lines y) said); shown = lights_of v }) next
 
 module _ (latch : ℕ → ℕ) (v start length : ℕ) where
-  -- before the frame, in it, and behind it
+  -- before the frame, in it, and after it
   pub before_frame : (o : ℕ) → o < 260 + start → in_tick latch v start length o ≡ v
   before_frame o l = let a : nat_lt o (260 + start) ≡ true = grind (arith, nat_tests, l) in rw a refl
 
@@ -83,16 +83,16 @@ module _ (latch : ℕ → ℕ) (v start length : ℕ) where
       let i : 260 + start + o - (260 + start) ≡ o = omega arith in
       rw (a, b, i) refl
 
-  pub behind_frame : (o : ℕ) → 260 + start + length ≤ o → in_tick latch v start length o ≡ v
-  behind_frame o l =
+  pub after_frame : (o : ℕ) → 260 + start + length ≤ o → in_tick latch v start length o ≡ v
+  after_frame o l =
       let a : nat_lt o (260 + start) ≡ false = grind (arith, nat_tests, l) in
       let b : nat_lt o (260 + start + length) ≡ false = grind (arith, nat_tests, l) in
       rw (a, b) refl
 
--- where a frame is cut both wires are released from two cycles behind the look on
-pub cut_behind : (v start byte look o : ℕ) → 262 + look + start ≤ o
+-- where a frame is cut both wires are released from two cycles after the look on
+pub cut_afterwards : (v start byte look o : ℕ) → 262 + look + start ≤ o
     → in_tick (cut_latch v byte look) v start (cut_after look) o ≡ v
-cut_behind v start byte look o a = by_case (nat_lt o (266 + look + start)) refl
+cut_afterwards v start byte look o a = by_case (nat_lt o (266 + look + start)) refl
   where
     by_case : (c : Bool) → nat_lt o (266 + look + start) ≡ c
         → in_tick (cut_latch v byte look) v start (cut_after look) o ≡ v
@@ -105,15 +105,15 @@ cut_behind v start byte look o a = by_case (nat_lt o (266 + look + start)) refl
         ∙ in_frame (cut_latch v byte look) v start (cut_after look) (look + 2 + i) short ∙ as_cut v byte look i
     by_case false e =
         let l : 266 + look + start ≤ o = grind (arith, nat_tests, e) in
-        behind_frame (cut_latch v byte look) v start (cut_after look) o (omega (arith, l))
+        after_frame (cut_latch v byte look) v start (cut_after look) o (omega (arith, l))
 
 module _ (v start : ℕ) (released : IsReleased v) where
   -- the lines of a tick with a frame
   abbrev pub lines_of : (ℕ → ℕ) → ℕ → ℕ → Lines
   lines_of latch length o = latch_of (in_tick latch v start length o)
 
-  up_behind : (latch : ℕ → ℕ) (length to : ℕ) → IsUp (lines_of latch length) (260 + start + length) to
-  up_behind latch length to o a b = ap (λ q. (latch_of q).clk) (behind_frame latch v start length o a) ∙ released.clock
+  up_after : (latch : ℕ → ℕ) (length to : ℕ) → IsUp (lines_of latch length) (260 + start + length) to
+  up_after latch length to o a b = ap (λ q. (latch_of q).clk) (after_frame latch v start length o a) ∙ released.clock
 
   up_before : (latch : ℕ → ℕ) (length : ℕ) → IsUp (lines_of latch length) (260 + start) (288 + start)
       → IsUp (lines_of latch length) (256 + start) (288 + start)
@@ -140,7 +140,7 @@ module _ (v start : ℕ) (released : IsReleased v) where
         up_before (sent_latch v byte) 368 (sent_before lines start v released byte drives),
         sent_is_frame lines start v released byte drives,
         sent_ends lines start v released byte drives rest
-            (λ o a b. up_behind (sent_latch v byte) 368 (609 + rest + start) o (omega (arith, a, p)) b),
+            (λ o a b. up_after (sent_latch v byte) 368 (609 + rest + start) o (omega (arith, a, p)) b),
       )
 
   -- one that receives
@@ -154,7 +154,7 @@ module _ (v start : ℕ) (released : IsReleased v) where
         up_before (received_latch v) 366 (received_before lines start v released drives),
         received_is_frame lines start v released drives,
         received_ends lines start v released drives rest
-            (λ o a b. up_behind (received_latch v) 366 (609 + rest + start) o (omega (arith, a)) b),
+            (λ o a b. up_after (received_latch v) 366 (609 + rest + start) o (omega (arith, a)) b),
       )
 
   -- and one that is cut, from the look on
@@ -174,4 +174,4 @@ module _ (v start : ℕ) (released : IsReleased v) where
           ∙ look_up v byte released look at i l
       by_case false e =
           let l : 262 + look + start ≤ o = grind (arith, nat_tests, e) in
-          ap (λ q. (latch_of q).clk) (cut_behind v start byte look o l) ∙ released.clock
+          ap (λ q. (latch_of q).clk) (cut_afterwards v start byte look o l) ∙ released.clock

@@ -1,8 +1,8 @@
 -- Boards above the joint run's board: they show what it shows, and a cycle of theirs makes a cycle of it. What else
 -- they note is theirs.
 use Rattle.std.proofs.Common.{◌≡◌, ℕ, suc, zero, ◌+◌, List, refl, ap, ◌∙◌}
-use Rattle.board_lines.specs.declared.event.Edge.{Edge}
-use Rattle.board_lines.specs.declared.event.HostEvent.{HostEvent}
+use Rattle.board_terms.specs.declared.event.Edge.{Edge}
+use Rattle.board_terms.specs.declared.event.HostEvent.{HostEvent}
 use Rattle.joint_run.specs.Joint.{Beside, joint_pins, joint_cycle, joint_board}
 use Rattle.joint_run.specs.Run.{Board, World, after_cycles}
 use Rattle.fw_link.proofs.Latches.{driven}

@@ -5,13 +5,13 @@ use Rattle.std.proofs.Common.{bit_and, bit_or, refl, ap}
 use Rattle.mcs48_core.specs.Cpu.{Cpu}
 use Rattle.bits.specs.Bits.{bit}
 use Rattle.mcs48_core.specs.Status.{digit}
-use Rattle.board_lines.specs.Frame.{parity_of}
+use Rattle.board_terms.specs.Frame.{parity_of}
 use Rattle.fw_kernel.specs.Places.{HasKernel}
 use Rattle.fw_kernel.specs.declared.labels.TheConstants.{GOT, R_CELL, R_PARITY, R_STOP, R_ACK, COMMAND, SCAN}
 use Rattle.fw_logic.proofs.Block.{memory, put, scratched, begin_at, At}
 use Rattle.fw_logic.proofs.Blocks.{straight}
 use Rattle.bits.proofs.Every.{by_byte}
-use Rattle.fw_logic.proofs.Clock.{IsFree}
+use Rattle.fw_logic.proofs.TimerParts.{IsFree}
 use Rattle.fw_logic.proofs.Kernel.{kernel_in}
 use Rattle.fw_logic.proofs.Leads.{Leads}
 use Rattle.fw_logic.proofs.Path.{Stage, Until, Go, Acc, Ram, Fork}
@@ -50,8 +50,8 @@ weighed false false = refl
 
 module _ (d : Board) (bytes : List ℕ) (has : HasKernel bytes) (y : ℕ) (m : Cpu) (board : d.State) (f : ℕ → ℕ)
     (ring : List ℕ) where
-  abbrev pub board_behind_bit : d.State
-  board_behind_bit = after_cycles 16 16 (λ o. d.cycle (risen m) (y + o)) (after_cycles 16 0 (λ o. d.cycle (fallen m) (y + o)) board)
+  abbrev pub board_after_bit : d.State
+  board_after_bit = after_cycles 16 16 (λ o. d.cycle (risen m) (y + o)) (after_cycles 16 0 (λ o. d.cycle (fallen m) (y + o)) board)
 
   -- the data wire at the cell's look
   abbrev pub bit_seen : Bool
@@ -86,7 +86,7 @@ module _ (d : Board) (bytes : List ℕ) (has : HasKernel bytes) (y : ℕ) (m : C
   abbrev pub TakesBit : ℕ → ℕ → Stage d.State → Type 0
   TakesBit n place e =
       (e.cpu ≡ scratched (record m { p2 = (risen m) }) place (memory (put (put f 24 0) 27 n) ring) e.cpu)
-      × (e.cpu.a ≡ m.a / 2 + 128 * digit bit_seen) × (e.off ≡ 32) × (e.board ≡ board_behind_bit)
+      × (e.cpu.a ≡ m.a / 2 + 128 * digit bit_seen) × (e.off ≡ 32) × (e.board ≡ board_after_bit)
 
   pub takes_bit : (n : ℕ) → IsFree m → m.a < 256 → f 27 ≡ suc n → n < 255 → (more : Bool) → not (n == 0) ≡ more
       → Leads d (kernel_in true bytes) y (begin_at d R_CELL f ring m board)
@@ -141,12 +141,12 @@ module _ (d : Board) (bytes : List ℕ) (has : HasKernel bytes) (y : ℕ) (m : C
 
   pub takes_parity : IsFree m → m.a < 256
       → Leads d (kernel_in true bytes) y (begin_at d R_PARITY f ring m board)
-      (At d (record m { p2 = (risen m) }) R_STOP with_parity ring 32 board_behind_bit)
+      (At d (record m { p2 = (risen m) }) R_STOP with_parity ring 32 board_after_bit)
   takes_parity free small =
       straight d (kernel_in true bytes) (has_rows true bytes has)
       (Until 296 ∷ Acc (255 * digit (not (parity_of m.a))) ∷ Until 302 ∷ Fork 308
       (looked 308 (λ a b. if b then 255 - a else a)) ∷ Acc (255 * digit (is_parity bit_seen m.a)) ∷ Until R_STOP ∷ [])
-      y m R_PARITY R_STOP 32 f with_parity ring (record m { p2 = (risen m) }) board board_behind_bit free
+      y m R_PARITY R_STOP 32 f with_parity ring (record m { p2 = (risen m) }) board board_after_bit free
       (odd_is m.a small, (refl, (refl, refl, refl, λ e. (weighed bit_seen (parity_of m.a), (refl, refl, refl)))))
 
   -- the stop bit: read, without an effect; then data falls

@@ -4,12 +4,12 @@ use Rattle.std.proofs.Common.{bit_and, bit_or, refl, ap, sym, ◌∙◌, subst, 
 use Rattle.std.proofs.lemmas.Bool.Decides.{nat_tests}
 use Rattle.mcs48_core.specs.Cpu.{Cpu}
 use Rattle.mcs48_core.specs.Status.{digit}
-use Rattle.board_lines.specs.Bits.{value}
+use Rattle.board_terms.specs.Bits.{value}
 use Rattle.fw_kernel.specs.Places.{HasKernel}
 use Rattle.fw_kernel.specs.declared.labels.TheConstants.{GOT, R_PARITY, R_STOP, R_ACK, COMMAND}
 use Rattle.fw_logic.proofs.Block.{memory, put, scratched, begin_at, At}
 use Rattle.fw_logic.proofs.Blocks.{from_stage}
-use Rattle.fw_logic.proofs.Clock.{IsFree}
+use Rattle.fw_logic.proofs.TimerParts.{IsFree}
 use Rattle.fw_logic.proofs.Kernel.{kernel_in}
 use Rattle.fw_logic.proofs.Laws.{counts_down}
 use Rattle.fw_logic.proofs.Leads.{Leads}
@@ -20,13 +20,13 @@ use Rattle.fw_link.specs.Latch.{wired, received_latch}
 use Rattle.fw_link.proofs.Latches.{driven}
 use Rattle.fw_link.proofs.Ends.{in_quarters}
 use Rattle.fw_link.proofs.Receive.{awaits, Awaits, seen_again, is_parity, takes_parity, with_parity, takes_stop, acks}
-use Rattle.fw_link.proofs.Receive.{board_behind_bit, board_pulled, board_acked}
+use Rattle.fw_link.proofs.Receive.{board_after_bit, board_pulled, board_acked}
 use Rattle.fw_link.proofs.Taking.{taken, taken_is, taken_small, read_bits, InBits, one_bit, bit_read, risen_is}
 use Rattle.fw_link.proofs.Taking.{cell_span, last_span, look_is, in_cell, before_cells}
 use Rattle.fw_link.proofs.Wired.{IsReleased, both_high, falls, restores, spans}
 use Rattle.joint_run.specs.Run.{Board, after_cycles}
 
--- the registers behind a received frame: R4 is the byte, R5 is 255 where its parity was right and else 0
+-- the registers after a received frame: R4 is the byte, R5 is 255 where its parity was right and else 0
 abbrev pub got_cells : (ℕ → ℕ) → ℕ → Bool → ℕ → ℕ
 got_cells cells byte right = put (put (put (put (put cells 24 0) 27 0) 28 byte) 25 (in_quarters byte)) 29 (255 * digit right)
 
@@ -111,7 +111,7 @@ module _ (outside : Board) (bytes : List ℕ) (has : HasKernel bytes) (start : �
       from_stage outside (kernel_in true bytes) (has_rows true bytes has) start R_PARITY begun counted ring stage
       (At outside (record stage.cpu { p2 = let_go }) R_STOP
       (with_parity outside bytes has (start + stage.off) stage.cpu stage.board counted ring) ring 32
-      (board_behind_bit outside bytes has (start + stage.off) stage.cpu stage.board counted ring))
+      (board_after_bit outside bytes has (start + stage.off) stage.cpu stage.board counted ring))
       (At outside begun R_STOP got ring (28 + 32 * 9) (at_offset (28 + 32 * 9))) held.cpu
       (λ end arrives. record {
         cpu =

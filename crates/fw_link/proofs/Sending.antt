@@ -5,13 +5,13 @@ use Rattle.std.proofs.lemmas.Bool.Decides.{nat_tests}
 use Rattle.mcs48_core.specs.Cpu.{Cpu}
 use Rattle.bits.specs.Bits.{bit}
 use Rattle.mcs48_core.specs.Status.{digit}
-use Rattle.board_lines.specs.Frame.{parity_of}
+use Rattle.board_terms.specs.Frame.{parity_of}
 use Rattle.fw_kernel.specs.Places.{HasKernel}
 use Rattle.fw_kernel.specs.declared.labels.TheConstants.{S_CELL, S_STOP}
 use Rattle.fw_logic.proofs.Block.{memory, put, scratched}
 use Rattle.fw_logic.proofs.Blocks.{from_stage}
 use Rattle.bits.proofs.Every.{pair_tests}
-use Rattle.fw_logic.proofs.Clock.{IsFree}
+use Rattle.fw_logic.proofs.TimerParts.{IsFree}
 use Rattle.fw_logic.proofs.Kernel.{kernel_in}
 use Rattle.fw_logic.proofs.Leads.{Leads}
 use Rattle.fw_logic.proofs.Path.{Stage}
@@ -105,12 +105,12 @@ module _ (d : Board) (bytes : List ℕ) (has : HasKernel bytes) (x : ℕ) (m : C
       board (omega (arith, e))
       (λ i l. cell_next v byte k i (omega (arith, l, short)) ∙ sym next) (high_span 5 k y w r s few e is up b ∙ ap board_in p)
 
-  behind_span : (k y w r u : ℕ) (s : d.State) → y ≡ x + (28 + 32 * k) → w ≡ wired v true (frame_bit byte k)
+  after_span : (k y w r u : ℕ) (s : d.State) → y ≡ x + (28 + 32 * k) → w ≡ wired v true (frame_bit byte k)
       → r ≡ wired v true (frame_bit byte k) → u ≡ wired v true (frame_bit byte (suc k)) → s ≡ board_in (28 + 32 * k)
       → after_cycles 11 21 (λ o. d.cycle u (y + o))
       (after_cycles 5 16 (λ o. d.cycle r (y + o)) (after_cycles 16 0 (λ o. d.cycle (bit_and w 254) (y + o)) s))
       ≡ board_in (28 + 32 * suc k)
-  behind_span k y w r u s e is up next b =
+  after_span k y w r u s e is up next b =
       let q : 28 + 32 * k + 21 + 11 ≡ 28 + 32 * suc k = omega arith in
       put_span 11 k y w r u s (omega arith) e is up next b ∙ ap board_in q
 
@@ -187,7 +187,7 @@ module _ (d : Board) (bytes : List ℕ) (has : HasKernel bytes) (x : ℕ) (m : C
             (memory (turned g z u n) ring) e.cpu) h.carry;
         carry = q.1;
         off = (let t : e.off ≡ 32 = q.2 in omega (arith, t, o));
-        board_now = q.3 ∙ behind_span k (x + s.off) s.cpu.p2 r u s.board y w refl refl h.board_now;
+        board_now = q.3 ∙ after_span k (x + s.off) s.cpu.p2 r u s.board y w refl refl h.board_now;
       })
       (cell d bytes has (x + s.off) s.cpu s.board g ring (frame_bit byte (suc k)) u n free refl (omega (arith, c))
       bit_now

@@ -3,14 +3,14 @@
 use Rattle.std.proofs.Common.{◌≡◌, ◌≤◌, ◌<◌, ℕ, ◌+◌, List, Bool, true, false, ◌&&◌, ◌==◌}
 use Rattle.std.proofs.Common.{bit_and, ap, sym, ◌∙◌, arith}
 use Rattle.mcs48_core.specs.Cpu.{Cpu}
-use Rattle.board_lines.specs.declared.event.Edge.{Edge}
-use Rattle.board_lines.specs.declared.event.HostEvent.{HostEvent}
-use Rattle.board_lines.specs.declared.lines.Lines.{Lines}
+use Rattle.board_terms.specs.declared.event.Edge.{Edge}
+use Rattle.board_terms.specs.declared.event.HostEvent.{HostEvent}
+use Rattle.board_terms.specs.declared.lines.Lines.{Lines}
 use Rattle.ctl_wire.specs.Wire.{drive}
 use Rattle.fw_kernel.specs.Places.{HasKernel}
 use Rattle.fw_kernel.specs.declared.labels.TheConstants.{SEND, SENT}
 use Rattle.fw_logic.proofs.Block.{begin_at, At}
-use Rattle.fw_logic.proofs.Clock.{IsFree}
+use Rattle.fw_logic.proofs.TimerParts.{IsFree}
 use Rattle.fw_logic.proofs.Kernel.{kernel_in}
 use Rattle.fw_logic.proofs.Leads.{Leads}
 use Rattle.fw_link.specs.Latch.{IsLook, sent_latch, cut_latch, cut_after}
@@ -34,7 +34,7 @@ module _ (edges : List Edge) (events : List HostEvent) (d : Board) (to : d.State
     (shown : lights_of v ≡ (to s).shown) (out : m.p2 ≡ v) (data_low : f 26 ≡ bit_and v 253) (ready : f 30 ≡ byte)
     (offered : f 28 ≡ byte)
     (some : (f 29 == 0) ≡ false) where
-  -- the PC's side after so many cycles of the frame, and what stands beside the processor then
+  -- the PC's side after so many cycles of the frame, and what is beside the processor then
   abbrev pub pc_in : ℕ → Pc
   pc_in n = board_cycles events lines n (260 + start) (to s).pc
 

@@ -1,4 +1,4 @@
--- What a received frame is told by: the bits that were read, the board under its latch, and its data cells.
+-- What a received frame is reported by: the bits that were read, the board under its latch, and its data cells.
 use Rattle.std.proofs.Common.{◌||◌, ◌≡◌, ◌≤◌, ◌<◌, ℕ, suc, zero, ◌+◌, ◌-◌, ◌*◌, ◌/◌, ◌%◌, List, [], ◌∷◌, Bool, true}
 use Rattle.std.proofs.Common.{false, not, ◌==◌, nat_le, nat_lt, if◌then◌else◌}
 use Rattle.std.proofs.Common.{bit_and, bit_or, refl, ap, sym, ◌∙◌, subst, arith}
@@ -6,12 +6,12 @@ use Rattle.std.proofs.lemmas.Bool.Decides.{nat_tests}
 use Rattle.mcs48_core.specs.Cpu.{Cpu}
 use Rattle.mcs48_core.specs.Status.{digit}
 use Rattle.mcs48_ranges.proofs.Parts.{digit_small}
-use Rattle.board_lines.specs.Bits.{value}
+use Rattle.board_terms.specs.Bits.{value}
 use Rattle.fw_kernel.specs.Places.{HasKernel}
 use Rattle.fw_kernel.specs.declared.labels.TheConstants.{R_CELL, R_PARITY}
 use Rattle.fw_logic.proofs.Block.{memory, put, scratched}
 use Rattle.fw_logic.proofs.Blocks.{from_stage}
-use Rattle.fw_logic.proofs.Clock.{IsFree}
+use Rattle.fw_logic.proofs.TimerParts.{IsFree}
 use Rattle.fw_logic.proofs.Kernel.{kernel_in}
 use Rattle.fw_logic.proofs.Leads.{Leads}
 use Rattle.fw_logic.proofs.Path.{Stage}
@@ -22,7 +22,7 @@ use Rattle.fw_link.proofs.Receive.{takes_bit, TakesBit}
 use Rattle.fw_link.proofs.Wired.{IsReleased, both_high, rises, spans}
 use Rattle.joint_run.specs.Run.{Board, after_cycles}
 
--- A behind k data bits
+-- A after k data bits
 abbrev pub taken : (ℕ → Bool) → ℕ → ℕ → ℕ
 taken wire a zero = a
 taken wire a (suc k) = taken wire a k / 2 + 128 * digit (wire k)

@@ -2,7 +2,7 @@
 use Rattle.std.proofs.Common.{◌≡◌, ◌≤◌, ◌<◌, ℕ, ◌+◌, ◌-◌, Bool, true, false, nat_lt, if◌then◌else◌, refl, ap, sym}
 use Rattle.std.proofs.Common.{◌∙◌, arith}
 use Rattle.std.proofs.lemmas.Bool.Decides.{nat_tests}
-use Rattle.board_lines.specs.declared.lines.Lines.{Lines}
+use Rattle.board_terms.specs.declared.lines.Lines.{Lines}
 use Rattle.fw_link.specs.Latch.{Frame, NoFrame, SentFrame, CutFrame, ReceivedFrame, frame_latch, frame_cycles}
 use Rattle.fw_link.specs.Latch.{tick_latch, cut_after}
 use Rattle.fw_link.proofs.Latches.{in_tick}
@@ -62,9 +62,9 @@ module _ (old v : ℕ) (frame : Frame) where
       let o : 260 + i - 260 ≡ i = omega arith in
       rw (a, b, c, o) refl
 
-  -- and behind it
-  pub behind : (i : ℕ) → latch (260 + frame_cycles frame + i) ≡ v
-  behind i =
+  -- and after it
+  pub afterwards : (i : ℕ) → latch (260 + frame_cycles frame + i) ≡ v
+  afterwards i =
       let a : nat_lt (260 + length + i) 232 ≡ false = grind (arith, nat_tests) in
       let b : nat_lt (260 + length + i) 260 ≡ false = grind (arith, nat_tests) in
       let c : nat_lt (260 + length + i) (260 + length) ≡ false = grind (arith, nat_tests) in

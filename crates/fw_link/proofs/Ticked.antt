@@ -3,8 +3,8 @@ use Rattle.std.proofs.Common.{◌≡◌, ◌≤◌, ◌<◌, ℕ, suc, ◌+◌, 
 use Rattle.std.proofs.Common.{ap, sym, ◌∙◌, arith}
 use Rattle.std.specs.declared.option.Option.{Option}
 use Rattle.std.proofs.lemmas.Bool.Decides.{nat_tests}
-use Rattle.board_lines.specs.declared.event.HostEvent.{HostEvent}
-use Rattle.board_lines.specs.declared.lines.Lines.{Lines}
+use Rattle.board_terms.specs.declared.event.HostEvent.{HostEvent}
+use Rattle.board_terms.specs.declared.lines.Lines.{Lines}
 use Rattle.byte_time.specs.ByteTime.{meeting_in}
 use Rattle.byte_time.specs.declared.meeting.Meeting.{Meeting}
 use Rattle.byte_time.specs.declared.meeting.Meeting.TheVariants.{Got, Sent, Cut}
@@ -13,7 +13,7 @@ use Rattle.ctl_wire.specs.Wire.{drive}
 use Rattle.ctl_link.specs.declared.link.Link.TheVariants.{Free, Request}
 use Rattle.fw_link.specs.Latch.{IsLook, frame_bit, sent_latch, cut_latch, cut_after, received_latch}
 use Rattle.fw_link.proofs.Cut.{as_sent}
-use Rattle.fw_link.proofs.Outside.{before_frame, in_frame, lines_of, sent_lines, received_lines, cut_lines, cut_behind}
+use Rattle.fw_link.proofs.Outside.{before_frame, in_frame, lines_of, sent_lines, received_lines, cut_lines, cut_afterwards}
 use Rattle.fw_link.proofs.Wired.{IsReleased}
 use Rattle.fw_link.proofs.Wires.{look_within}
 use Rattle.fw_link.proofs.Lets.{lets_at}
@@ -82,7 +82,7 @@ module _ (v start byte : ℕ) (released : IsReleased v) where
           ∙ (sent_lines v start released byte 0).0 o a u
       by_case false e =
           let l : 262 + look + start ≤ o = grind (arith, nat_tests, e) in
-          ap (λ q. (latch_of q).clk) (cut_behind v start byte look o l) ∙ released.clock
+          ap (λ q. (latch_of q).clk) (cut_afterwards v start byte look o l) ∙ released.clock
 
 module _ (events : List HostEvent) (v start : ℕ) (released : IsReleased v) (rest k : ℕ) (b : Pc)
     (all : k ≡ 353 + rest) where

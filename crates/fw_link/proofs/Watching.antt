@@ -1,4 +1,4 @@
--- A board that watches the latch of port 2: where it has seen no other than it was told to wait for, the run beneath it
+-- A board that watches the latch of port 2: where it has seen no other than it was reported to wait for, the run beneath it
 -- has driven just that.
 use Rattle.std.proofs.Common.{◌≡◌, ◌≤◌, ◌<◌, ℕ, suc, zero, ◌+◌, List, Bool, true, false, ◌&&◌, ◌==◌, Some, None}
 use Rattle.std.proofs.Common.{refl, ap, sym, ◌∙◌, subst, arith}
@@ -40,7 +40,7 @@ module _ (d : Board) (latch : ℕ → ℕ) where
   abbrev W : Board
   W = watching d latch
 
-  -- a latch that is as was told is found good
+  -- a latch that is as was reported is found good
   pub driven_good : (x : ℕ) (l : ℕ → ℕ) (n from : ℕ) (s : W.State)
       → ((o : ℕ) → from ≤ o → o < from + n → l o ≡ latch (x + o)) → s.good ≡ true → (driven W x l n from s).good ≡ true
   driven_good x l zero from s is good = good

@@ -17,7 +17,7 @@ pub record IsReleased (v : ℕ) : Type 0 where
   pub clock : bit 0 v ≡ true
   pub data_wire : bit 1 v ≡ true
 
--- the lights stand above the wires' bits
+-- the lights are above the wires' bits
 pub lights_leave : (l : ℕ) → l < 256 → l % 4 ≡ 0 → IsReleased (255 - l)
 lights_leave l small none =
     let is : (l % 4 == 0) ≡ true = grind (arith, nat_tests, none) in

@@ -4,7 +4,7 @@ use Rattle.std.proofs.Common.{nat_le, nat_lt, if◌then◌else◌}
 use Rattle.std.proofs.Common.{bit_and, refl, ap, ◌∙◌, inl, inr, arith}
 use Rattle.std.proofs.lemmas.Bool.Decides.{nat_tests}
 use Rattle.bits.specs.Bits.{bit}
-use Rattle.board_lines.specs.declared.lines.Lines.{Lines}
+use Rattle.board_terms.specs.declared.lines.Lines.{Lines}
 use Rattle.bits.proofs.Every.{by_byte, tests_by}
 use Rattle.fw_link.specs.Latch.{IsLook, wired, frame_bit, sent_cell, sent_latch}
 use Rattle.fw_link.proofs.Wired.{IsReleased, in_cell, cell_high, cell_next}
@@ -31,7 +31,7 @@ lights_of_latch true false v l = by_byte (λ v. lights_of (bit_and v 253)) light
 lights_of_latch false true v l = by_byte (λ v. lights_of (bit_and v 254)) lights_of refl v l
 lights_of_latch false false v l = by_byte (λ v. lights_of (bit_and v 252)) lights_of refl v l
 
--- at a look, and in the cycle behind it, the latch leaves the clock alone
+-- at a look, and in the cycle after it, the latch leaves the clock alone
 pub look_up : (v byte : ℕ) → IsReleased v → (look : ℕ) → IsLook look → (i : ℕ) → i < 2
     → (latch_of (sent_latch v byte (look + i))).clk ≡ true
 look_up v byte released look (inl e) i l =
@@ -152,7 +152,7 @@ module _ (lines : ℕ → Lines) (start v : ℕ) (released : IsReleased v) where
         ap (λ o. (lines o).dat) z ∙ ap (λ (z : Lines). z.dat) (sent_lines k 0 (omega arith) (omega (arith, l)))
         ∙ data_of_latch false (frame_bit byte k) v released)
 
-    -- the clock is left alone up to the first edge; behind the last it is low for 15 cycles more
+    -- the clock is left alone up to the first edge; after the last it is low for 15 cycles more
     pub sent_before : IsUp lines (260 + start) (288 + start)
     sent_before o a b =
         let i = o - (260 + start) in

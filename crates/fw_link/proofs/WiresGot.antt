@@ -2,7 +2,7 @@
 use Rattle.std.proofs.Common.{◌≡◌, ◌<◌, ℕ, suc, ◌+◌, ◌-◌, ◌*◌, ◌/◌, ◌%◌, Bool, true, false, nat_le, nat_lt}
 use Rattle.std.proofs.Common.{if◌then◌else◌, ◌||◌}
 use Rattle.std.proofs.Common.{refl, ap, ◌∙◌, arith}
-use Rattle.board_lines.specs.declared.lines.Lines.{Lines}
+use Rattle.board_terms.specs.declared.lines.Lines.{Lines}
 use Rattle.fw_link.specs.Latch.{wired, sent_latch, cut_latch, frame_bit, received_cell, received_latch}
 use Rattle.fw_link.proofs.Taking.{in_cell, before_cells}
 use Rattle.fw_link.proofs.Wired.{IsReleased}

@@ -2,7 +2,7 @@
 use Rattle.std.specs.Prelude.{◌≡◌, ◌<◌, ◌⊎◌, ℕ, suc, ◌+◌, ◌-◌, ◌*◌, ◌/◌, ◌%◌}
 use Rattle.std.specs.Prelude.{Bool, true, false, ◌||◌, nat_le, nat_lt, if◌then◌else◌, bit_and, slice_index_or}
 use Rattle.mcs48_core.specs.Status.{digit}
-use Rattle.board_lines.specs.Frame.{frame_bits}
+use Rattle.board_terms.specs.Frame.{frame_bits}
 
 -- the latch that leaves both wires alone, with clock and data at these levels
 abbrev pub wired : ℕ → Bool → Bool → ℕ

@@ -1,8 +1,8 @@
 -- What a received frame reads, whatever is beside the processor.
 use Rattle.std.specs.Prelude.{◌≡◌, ◌<◌, ℕ, ◌+◌, ◌*◌, Bool, true, false, not, List, [], ◌∷◌, slice_index, if◌then◌else◌}
 use Rattle.bits.specs.Bits.{bit}
-use Rattle.board_lines.specs.Bits.{value}
-use Rattle.board_lines.specs.Frame.{parity_of}
+use Rattle.board_terms.specs.Bits.{value}
+use Rattle.board_terms.specs.Frame.{parity_of}
 use Rattle.fw_kernel.specs.Places.{HasKernel}
 use Rattle.fw_kernel.specs.declared.labels.TheConstants.{TICK, GOT, COMMAND, SCAN}
 use Rattle.fw_logic.specs.Blocks.{IsAt}

@@ -3,8 +3,8 @@
 //!
 //! This layer knows the kernel's cells and places in the blocks of a frame, and the cells that the wires speak of. It
 //! must not know what memory means beyond the registers of a frame, the queue, commands, the host or a log. Its laws
-//! stand for every image that has the kernel's bytes outside the layout's tables, under every list of edges and of
-//! events; those of what the kernel drives stand for every board beside the processor, and are lemmas. Our own.
+//! hold for every image that has the kernel's bytes outside the layout's tables, under every list of edges and of
+//! events; those of what the kernel drives hold for every board beside the processor, and are lemmas. Our own.
 #![tactic(auto)]
 
 mod frames;

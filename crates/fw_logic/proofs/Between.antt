@@ -16,7 +16,7 @@ use Rattle.fw_logic.proofs.Following.{Stays}
 use Rattle.fw_logic.proofs.Leads.{LetsNone}
 use Rattle.fw_logic.proofs.Image.{row_is}
 use Rattle.fw_logic.proofs.Passing.{Through, Passes}
-use Rattle.fw_logic.proofs.Placed.{in_main, is_behind, main_at}
+use Rattle.fw_logic.proofs.Placed.{in_main, is_later_than, main_at}
 use Rattle.fw_logic.proofs.Turns.{IsMain, IsServing, main_step, serve_step, back_step}
 
 -- where a state stands on the way to the next start: in the service, in the main program, or at that start
@@ -122,7 +122,7 @@ module _ (d : Board) (bytes : List ℕ) where
           }
 
   module _ (has : HasKernel bytes) (on : Bool) where
-    -- a state of the main program, and one of the service, from which the run comes to the next start
+    -- a state of the main program, and one of the service, from which the run reaches the next start
     pub record Resting (w : World d.State) : Type 0 where
       pub main : IsMain on w.cpu
       pub rest : Comes d TICK bytes w IsStart
@@ -166,7 +166,7 @@ module _ (d : Board) (bytes : List ℕ) where
     -- from the service: it goes on, or it ends and the main program goes on
     abbrev pub WorksOn : World d.State → World d.State → Type 0
     WorksOn w next =
-        (Working next × (is_behind w.cpu.pc ≡ true → (is_behind next.cpu.pc ≡ true) × (next.cpu.p1 ≡ w.cpu.p1)))
+        (Working next × (is_later_than w.cpu.pc ≡ true → (is_later_than next.cpu.pc ≡ true) × (next.cpu.p1 ≡ w.cpu.p1)))
         ⊎ (Resting next × (next.cpu.p1 ≡ w.cpu.p1) × (w.cpu.pc ≡ DONE))
 
     pub works_on : (w next : World d.State) → Working w → joint_step d bytes w ≡ Some next → WorksOn w next
@@ -213,7 +213,7 @@ module _ (d : Board) (bytes : List ℕ) where
                   rest = t.rest;
                 };
               },
-              λ late. subst (λ (c : Cpu). (is_behind c.pc ≡ true) × (c.p1 ≡ w.cpu.p1)) s.2 (g.1 late),
+              λ late. subst (λ (c : Cpu). (is_later_than c.pc ≡ true) × (c.p1 ≡ w.cpu.p1)) s.2 (g.1 late),
             )
 
     -- from a start, with its way through the tick: the first step leads into the service
@@ -229,13 +229,13 @@ module _ (d : Board) (bytes : List ℕ) where
           through = p.through;
         }
 
-    -- a state on the way to the next start, and one behind the reading of the columns, where port 1 selects none
+    -- a state on the way to the next start, and one after the reading of the columns, where port 1 selects none
     abbrev pub Inside : World d.State → Type 0
     Inside w = Working w ⊎ (Resting w ⊎ IsStart w)
 
     abbrev pub After : World d.State → Type 0
     After w =
-        (Working w × (is_behind w.cpu.pc ≡ true) × (w.cpu.p1 ≡ 44))
+        (Working w × (is_later_than w.cpu.pc ≡ true) × (w.cpu.p1 ≡ 44))
         ⊎ ((Resting w × (w.cpu.p1 ≡ 44)) ⊎ (IsStart w × (w.cpu.p1 ≡ 44)))
 
     pub no_start : (w : World d.State) → IsStart w → at_tick d TICK w ≡ false → ⊥
@@ -283,12 +283,12 @@ module _ (d : Board) (bytes : List ℕ) where
     along P goes (suc k) w e h run =
         let f = first_of k w e run in along P goes k f.next e (goes w f.next h f.calm_here f.step) f.rest
 
-    -- behind the last column
+    -- after the last column
     pub at_offer : (w e : World d.State) (k : ℕ) → Working w → calm d TICK bytes k w ≡ Some e → e.cpu.pc ≡ OFFER
         → e.cpu.p1 ≡ 44 → After e
     at_offer w e k h run place column = by (along Inside inside_on k w e (at_work h) run)
       where
         by : Inside e → After e
-        by (at_work g) = at_work (g, ap is_behind place, column)
+        by (at_work g) = at_work (g, ap is_later_than place, column)
         by (at_rest g) = absurd (let none : true ≡ false = sym g.main.place ∙ ap in_main place in cc)
         by (at_start g) = absurd (let at : e.cpu.pc % 2048 ≡ 7 = start_place e g in omega (arith, at, place))

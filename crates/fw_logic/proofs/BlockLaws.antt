@@ -12,13 +12,13 @@ use Rattle.joint_run.specs.Starts.{Comes}
 use Rattle.fw_logic.specs.Scan.{in_tick}
 use Rattle.fw_logic.specs.Blocks.{IsAt, is_read, ReadsColumns, PutsLights, Looks, is_looking, clock_seen, data_seen, way}
 use Rattle.fw_logic.specs.Blocks.{way_time}
-use Rattle.fw_logic.proofs.Clock.{IsFree}
+use Rattle.fw_logic.proofs.TimerParts.{IsFree}
 use Rattle.fw_logic.proofs.Path.{world_at}
 use Rattle.fw_logic.proofs.Leads.{Leads}
 use Rattle.fw_logic.proofs.Kernel.{kernel_in}
 use Rattle.fw_logic.proofs.Block.{put, memory, scratched, begin_at, At}
 use Rattle.fw_logic.proofs.Memory.{memory_is}
-use Rattle.fw_logic.proofs.Cells.{cell, put_other, behind_cells, cells_long}
+use Rattle.fw_logic.proofs.Cells.{cell, put_other, after_cells, cells_long}
 use Rattle.fw_logic.proofs.Columns.{ready, scanned, shows, shows_is, columns}
 use Rattle.fw_logic.proofs.Looks.{readied, lamps, looks_pulled, looks_got, looks_free}
 use Rattle.fw_logic.proofs.Scanned.{held_cell, changed_cell}
@@ -50,7 +50,7 @@ others_are f g ring written same i out =
           let l : 112 ≤ i = grind (arith, nat_tests, e) in
           let at : 112 + (i - 112) ≡ i = omega (arith, l) in
           subst (λ j. slice_index (memory g ring) j ≡ slice_index (memory f ring) j) at
-          (behind_cells g 0 112 ring (i - 112) ∙ sym (behind_cells f 0 112 ring (i - 112)))
+          (after_cells g 0 112 ring (i - 112) ∙ sym (after_cells f 0 112 ring (i - 112)))
       | false ↦ λ e.
           let l : i < 112 = grind (arith, nat_tests, e) in
           cell g ring i l ∙ same i l out ∙ sym (cell f ring i l)

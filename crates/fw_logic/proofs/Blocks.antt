@@ -5,7 +5,7 @@ use Rattle.std.proofs.lemmas.Bool.Decides.{nat_tests}
 use Rattle.mcs48_core.specs.Cpu.{Cpu}
 use Rattle.joint_run.specs.Run.{Board, after_cycles}
 use Rattle.joint_run.specs.Starts.{calm}
-use Rattle.fw_logic.proofs.Clock.{IsFree, clock_of, total}
+use Rattle.fw_logic.proofs.TimerParts.{IsFree, timer_parts, total}
 use Rattle.fw_logic.proofs.Path.{Stage, Code, Note, Path}
 use Rattle.fw_logic.proofs.Leads.{Leads, HasRows}
 use Rattle.fw_logic.proofs.Block.{memory, scratched, begin_at, At}
@@ -46,9 +46,9 @@ module _ (d : Board) (code : Code) (has : HasRows code) where
             (ap (λ n. calm d code.tick code.bytes k (record { cpu = s.cpu; board = s.board; cycle = n })) begin ∙ at);
         free = h.free;
         order = omega (arith, l);
-        clock = λ timed timing room.
-            let k = h.clock timed timing (omega (arith, room)) in
-            let c : total (clock_of h.end.cpu) + s.off ≡ total (clock_of s.cpu) + h.end.off = k.count in
+        timer_later = λ timed timing room.
+            let k = h.timer_later timed timing (omega (arith, room)) in
+            let c : total (timer_parts h.end.cpu) + s.off ≡ total (timer_parts s.cpu) + h.end.off = k.count in
             record { count = omega (arith, c); timing = k.timing; tf = k.tf; rq = k.rq; tim_on = k.tim_on };
         over = λ timed timing on.
             let k = h.over timed timing on in
@@ -87,7 +87,7 @@ module _ (d : Board) (code : Code) (has : HasRows code) where
 pub absolute : {S : Type 0} (n y : ℕ) (f : ℕ → S → S) (s : S) → after_cycles n 0 (λ o. f (y + o)) s ≡ after_cycles n y f s
 absolute n y f s = sym (ticks_from n 0 y f s) ∙ ap (λ c. after_cycles n c f s) (add-zero y)
 
--- cycles of a board behind other cycles of it
+-- cycles of a board after other cycles of it
 pub joined : {S : Type 0} (n m y z : ℕ) (f : ℕ → S → S) (s : S) → z ≡ y + n
     → after_cycles m z f (after_cycles n y f s) ≡ after_cycles (n + m) y f s
 joined n m y z f s e = ap (λ c. after_cycles m c f (after_cycles n y f s)) e ∙ sym (ticks_add n m y f s)

@@ -19,13 +19,13 @@ cell f ring i l = in_before f 0 112 ring i l ∙ (let e : 0 + i ≡ i = omega ar
 pub put_other : (f : ℕ → ℕ) (k v i : ℕ) → (i == k) ≡ false → put f k v i ≡ f i
 put_other f k v i e = rw e refl
 
--- what stands behind the cells
-pub behind_cells : (f : ℕ → ℕ) (from n : ℕ) (ring : List ℕ) (j : ℕ)
+-- what is after the cells
+pub after_cells : (f : ℕ → ℕ) (from n : ℕ) (ring : List ℕ) (j : ℕ)
     → slice_index (before f from n ring) (n + j) ≡ slice_index ring j
-behind_cells f from zero ring j = rw zero-add refl
-behind_cells f from (suc n) ring j =
+after_cells f from zero ring j = rw zero-add refl
+after_cells f from (suc n) ring j =
     let e : suc n + j ≡ suc (n + j) = omega arith in
-    rw e (behind_cells f (from + 1) n ring j)
+    rw e (after_cells f (from + 1) n ring j)
 
 before_long : (f : ℕ → ℕ) (from n : ℕ) (ring : List ℕ) → length (before f from n ring) ≡ n + length ring
 before_long f from zero ring = sym (zero-add (length ring))

@@ -12,12 +12,12 @@ use Rattle.mcs48_core.specs.Timer.{after_timer}
 use Rattle.mcs48_core.specs.Step.{Stepped, row_at, stepped, effect, executed, entered, takes_external, takes_timer}
 use Rattle.joint_run.specs.Run.{Board, World, after_cycles, seen, after_step, joint_step}
 use Rattle.joint_run.specs.Starts.{calm_step, calm}
-use Rattle.fw_logic.proofs.Clock.{IsFree, is_plain, is_closed, clock_of, total, IsLater, IsAsking}
+use Rattle.fw_logic.proofs.TimerParts.{IsFree, is_plain, is_closed, timer_parts, total, IsLater, IsAsking}
 use Rattle.fw_logic.proofs.Path.{Stage, Code}
 use Rattle.fw_logic.proofs.Path.{world_at, pins_at, moved}
 use Rattle.fw_logic.proofs.Path.{left, is_taken}
 use Rattle.fw_logic.proofs.Leads.{Leads, LetsNone, HasRows}
-use Rattle.fw_logic.proofs.Groups.{effect_clock, effect_free, plain_closed}
+use Rattle.fw_logic.proofs.Groups.{effect_timer, effect_free, plain_closed}
 use Rattle.fw_logic.proofs.Timing.{step_later, later_then, step_asks, asking_then}
 
 pub not_external : (pins : Pins) (m : Cpu) → IsFree m → takes_external pins m ≡ false
@@ -81,7 +81,7 @@ module _ (d : Board) (code : Code) (has : HasRows code) (x : ℕ) where
       let c : suc n + k ≡ suc (n + k) = omega arith in rw c
       (calm_on n k e (λ t g. calm_add n k t e g) (calm_step d code.tick code.bytes w) h)
 
-  -- what holds of each state of a run, and of each behind its end
+  -- what holds of each state of a run, and of each after its end
   pub each_add : (P : World d.State → Type 0) (n j : ℕ) (w e : World d.State) → calm d code.tick code.bytes n w ≡ Some e
       → ((k : ℕ) (one : World d.State) → k < n → calm d code.tick code.bytes k w ≡ Some one → P one)
       → ((k : ℕ) (one : World d.State) → k < j → calm d code.tick code.bytes k e ≡ Some one → P one)
@@ -110,17 +110,17 @@ module _ (d : Board) (code : Code) (has : HasRows code) (x : ℕ) where
             first.each r.each;
         free = r.free;
         order = let a : s.off ≤ e.off = first.order in let b : e.off ≤ r.end.off = r.order in omega (arith, a, b);
-        clock = λ timed timing room.
+        timer_later = λ timed timing room.
             let a : s.off ≤ e.off = first.order in
             let b : e.off ≤ r.end.off = r.order in
-            let one = first.clock timed timing (omega (arith, room, b)) in
-            let count : total (clock_of e.cpu) + s.off ≡ total (clock_of s.cpu) + e.off = one.count in
-            later_then (clock_of s.cpu) (clock_of e.cpu) (clock_of r.end.cpu) s.off e.off r.end.off one
-            (r.clock timed one.timing (omega (arith, count, room, a, b)));
+            let one = first.timer_later timed timing (omega (arith, room, b)) in
+            let count : total (timer_parts e.cpu) + s.off ≡ total (timer_parts s.cpu) + e.off = one.count in
+            later_then (timer_parts s.cpu) (timer_parts e.cpu) (timer_parts r.end.cpu) s.off e.off r.end.off one
+            (r.timer_later timed one.timing (omega (arith, count, room, a, b)));
         over = λ timed timing on.
             let one = first.over timed timing on in
-            asking_then (clock_of s.cpu) (clock_of e.cpu) (clock_of r.end.cpu) s.off e.off r.end.off
-            (first.clock timed timing) one (r.over timed one.timing one.tim_on);
+            asking_then (timer_parts s.cpu) (timer_parts e.cpu) (timer_parts r.end.cpu) s.off e.off r.end.off
+            (first.timer_later timed timing) one (r.over timed one.timing one.tim_on);
       }
 
   pub stay : (Q : Stage d.State → Type 0) (s : Stage d.State) → Q s → IsFree s.cpu → Leads d code x s Q
@@ -133,7 +133,7 @@ module _ (d : Board) (code : Code) (has : HasRows code) (x : ℕ) where
         each = λ k one l at. absurd (omega (arith, l));
         free = free;
         order = omega arith;
-        clock = λ timed timing room. record { count = refl; timing = timing; tf = refl; rq = refl; tim_on = refl };
+        timer_later = λ timed timing room. record { count = refl; timing = timing; tf = refl; rq = refl; tim_on = refl };
         over = λ timed timing on.
             let pre : s.cpu.pre < 32 = timing.pre in
             let t : s.cpu.t < 256 = timing.t in
@@ -156,7 +156,7 @@ module _ (d : Board) (code : Code) (has : HasRows code) (x : ℕ) where
         each = h.each;
         free = h.free;
         order = h.order;
-        clock = h.clock;
+        timer_later = h.timer_later;
         over = h.over;
       }
 
@@ -223,16 +223,16 @@ module _ (d : Board) (code : Code) (has : HasRows code) (x : ℕ) where
             (record { row = r; is = row-is.0; closed = taken_closed code.timed r.op taken });
         free = effect_free r.op code.bytes pins (past s.cpu) (taken_closed code.timed r.op taken) free;
         order = omega arith;
-        clock = λ timed timing room.
+        timer_later = λ timed timing room.
             let plain : is_plain r.op ≡ true = ap (λ b. is_taken b r.op) (sym timed) ∙ taken in
-            let same = effect_clock r.op code.bytes pins (past s.cpu) plain in
-            subst (λ b. IsLater (clock_of s.cpu) (clock_of (after_timer b r.cycles pins next)) s.off (s.off + r.cycles))
+            let same = effect_timer r.op code.bytes pins (past s.cpu) plain in
+            subst (λ b. IsLater (timer_parts s.cpu) (timer_parts (after_timer b r.cycles pins next)) s.off (s.off + r.cycles))
             (ap (λ k. k.run) same)
-            (step_later (clock_of s.cpu) next r.cycles pins s.off same timing few room);
+            (step_later (timer_parts s.cpu) next r.cycles pins s.off same timing few room);
         over = λ timed timing on.
             let plain : is_plain r.op ≡ true = ap (λ b. is_taken b r.op) (sym timed) ∙ taken in
-            let same = effect_clock r.op code.bytes pins (past s.cpu) plain in
-            subst (λ b. IsAsking (clock_of s.cpu) (clock_of (after_timer b r.cycles pins next)) s.off (s.off + r.cycles))
+            let same = effect_timer r.op code.bytes pins (past s.cpu) plain in
+            subst (λ b. IsAsking (timer_parts s.cpu) (timer_parts (after_timer b r.cycles pins next)) s.off (s.off + r.cycles))
             (ap (λ k. k.run) same)
-            (step_asks (clock_of s.cpu) next r.cycles pins s.off same timing on few);
+            (step_asks (timer_parts s.cpu) next r.cycles pins s.off same timing on few);
       }

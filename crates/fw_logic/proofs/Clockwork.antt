@@ -2,7 +2,7 @@
 -- tick start is.
 use Rattle.std.proofs.Common.{◌≡◌, ◌≤◌, ◌<◌, ℕ, suc, zero, ◌+◌, ◌-◌, ◌*◌, List, true, Some, refl, ap, sym, ◌∙◌}
 use Rattle.std.proofs.Common.{subst, arith}
-use Rattle.board_lines.specs.Cadence.{IsNear}
+use Rattle.board_terms.specs.Cadence.{IsNear}
 use Rattle.fw_kernel.specs.declared.labels.TheConstants.{TICK}
 use Rattle.joint_run.specs.Run.{Board, World, run_at}
 use Rattle.joint_run.specs.Starts.{at_tick, starts_before, Comes, Tick, IsNth, IsStart, IsEnd}
@@ -66,7 +66,7 @@ module _ (d : Board) (bytes : List ℕ) (from : World d.State) (S : ℕ → Worl
       let l : k.late ≤ 1 = k.most in
       (omega (arith, c), omega (arith, c, l))
 
-  -- how the run comes to the n-th start
+  -- how the run reaches the n-th start
   reached : (n : ℕ) → Reached d TICK bytes from n (known n).w
   reached n = nth_reached d TICK bytes from n (known n).w (known n).nth
 

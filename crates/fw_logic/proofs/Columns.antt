@@ -6,7 +6,7 @@ use Rattle.fw_kernel.specs.declared.labels.TheConstants.{READ, OFFER}
 use Rattle.fw_kernel.specs.Places.{HasKernel}
 use Rattle.joint_run.specs.Run.{Board, after_cycles}
 use Rattle.fw_logic.specs.Scan.{downs}
-use Rattle.fw_logic.proofs.Clock.{IsFree}
+use Rattle.fw_logic.proofs.TimerParts.{IsFree}
 use Rattle.fw_logic.proofs.Path.{Until}
 use Rattle.fw_logic.proofs.Leads.{Leads}
 use Rattle.fw_logic.proofs.Kernel.{kernel_in}
@@ -34,7 +34,7 @@ shows_is d y p2 board c = ap (λ b. 255 - (d.pins (32 + c) p2 (y + 16 * c) b).bu
     (absolute (16 * c) y (d.cycle p2) board)
 
 module _ (d : Board) (bytes : List ℕ) (has : HasKernel bytes) where
-  -- the head behind the timer's write: thirteen cycles
+  -- the head after the timer's write: thirteen cycles
   pub head : (y : ℕ) (k : Cpu) (f : ℕ → ℕ) (ring : List ℕ) (board : d.State) → IsFree k
       → Leads d (kernel_in true bytes) y (begin_at d 10 f ring k board)
       (At d (record k { p1 = 32 }) READ (ready f) ring 13 (after_cycles 13 y (d.cycle k.p2) board))

@@ -45,9 +45,9 @@ is_steady (Control SelMb1) = false
 is_steady (Control Ent0Clk) = false
 is_steady op = true
 
--- the counter behind a row of this many bytes
-abbrev behind : ℕ → ℕ → ℕ
-behind len pc = if len == 2 then counted (counted pc) else counted pc
+-- the counter after a row of this many bytes
+abbrev afterwards : ℕ → ℕ → ℕ
+afterwards len pc = if len == 2 then counted (counted pc) else counted pc
 
 -- where the counter can be after a steady row at a place of the program's lower half
 abbrev pub nexts : Op → ℕ → List ℕ
@@ -66,7 +66,7 @@ nexts (Flow (Jf0 n)) pc = in_page (counted pc) n ∷ counted (counted pc) ∷ []
 nexts (Flow (Jf1 n)) pc = in_page (counted pc) n ∷ counted (counted pc) ∷ []
 nexts (Flow (Jtf n)) pc = in_page (counted pc) n ∷ counted (counted pc) ∷ []
 nexts (Flow (Jni n)) pc = in_page (counted pc) n ∷ counted (counted pc) ∷ []
-nexts op pc = behind (size op) pc ∷ []
+nexts op pc = afterwards (size op) pc ∷ []
 
 module _ (test : ℕ → Bool) where
   only : (to : ℕ) → list_all test (to ∷ []) ≡ true → test to ≡ true
@@ -143,7 +143,7 @@ module _ (test : ℕ → Bool) where
   flow_next (Jni n) bytes pins m s low h =
       either (not pins.int_pin) (in_page (counted m.pc) n) (counted (counted m.pc)) h
 
-  -- what holds of each place that can follow a steady row holds of the counter behind it
+  -- what holds of each place that can follow a steady row holds of the counter after it
   pub follows : (op : Op) (bytes : List ℕ) (pins : Pins) (m : Cpu) → is_steady op ≡ true → m.mb ≡ false
       → list_all test (nexts op m.pc) ≡ true → test (effect op bytes pins (past m)).pc ≡ true
   follows (Moves op) bytes pins m s low h = move_next op bytes m h

@@ -15,7 +15,7 @@ use Rattle.fw_logic.proofs.Block.{memory}
 use Rattle.fw_logic.proofs.BlockLaws.{cells_of, columns_law}
 use Rattle.fw_logic.proofs.Blocks.{joined}
 use Rattle.fw_logic.proofs.Cells.{cell}
-use Rattle.fw_logic.proofs.Clock.{IsTiming, clock_of}
+use Rattle.fw_logic.proofs.TimerParts.{IsTiming, timer_parts}
 use Rattle.fw_logic.proofs.Entered.{way_back, entered_is}
 use Rattle.fw_logic.proofs.HeadLaw.{head_law}
 use Rattle.fw_logic.proofs.Laws.{comes_then, comes_as}
@@ -49,7 +49,7 @@ module _ (d : Board) (bytes : List ℕ) (has : HasKernel bytes) (w : World d.Sta
   abbrev f : ℕ → d.State → d.State
   f = d.cycle w.cpu.p2
 
-  -- the columns, behind the head
+  -- the columns, after the head
   reads_so : (v e : World d.State) → Heads d w v → ReadsColumns d v e → ReadsTick d w e
   reads_so v e h r =
       let cycle : v.cycle ≡ x + 16 = h.cycle in
@@ -104,7 +104,7 @@ module _ (d : Board) (bytes : List ℕ) (has : HasKernel bytes) (w : World d.Sta
     end = record { cpu = e.cpu; board = e.board; off = e.cycle - x }
 
     there : x + (e.cycle - x) ≡ e.cycle
-    there = let l : x ≤ e.cycle = done.behind in omega (arith, l)
+    there = let l : x ≤ e.cycle = done.afterwards in omega (arith, l)
 
     ram_is : e.cpu.ram ≡ memory now ring
     ram_is = memory_is e.cpu.ram done.memory
@@ -158,7 +158,7 @@ module _ (d : Board) (bytes : List ℕ) (has : HasKernel bytes) (w : World d.Sta
         let pre : v.cpu.pre ≡ p.late' + 2 = ap (λ (c : Cpu). c.pre) cpu in
         let early : 2 ≤ w.cpu.pre = s.early in
         let most : p.late' ≤ 1 = p.most in
-        let behind : x ≤ e.cycle = done.behind in
+        let afterwards : x ≤ e.cycle = done.afterwards in
         let on : v.cycle + w.cpu.pre ≡ x + 2048 + v.cpu.pre = omega (arith, cycle, time, pre, early) in
         let entered : IsEntered v.cpu =
         subst (λ c. IsEntered c) (sym cpu)
@@ -175,7 +175,7 @@ module _ (d : Board) (bytes : List ℕ) (has : HasKernel bytes) (w : World d.Sta
           p1 = ap (λ (c : Cpu). c.p1) cpu ∙ ap (λ (s : Stage d.State). s.cpu.p1) same;
           p2 = ap (λ (c : Cpu). c.p2) cpu ∙ ap (λ (s : Stage d.State). s.cpu.p2) same;
           board = λ k at.
-              let waited : n.waited ≡ k = omega (arith, at, cycle, off, behind) in
+              let waited : n.waited ≡ k = omega (arith, at, cycle, off, afterwards) in
               ap (λ (u : World d.State). u.board) n.is
               ∙ ap (λ (s : Stage d.State). after_cycles n.waited (x + s.off) (d.cycle s.cpu.p2) s.board) same
               ∙ ap (λ c. after_cycles n.waited c (d.cycle e.cpu.p2) e.board) there
@@ -185,7 +185,7 @@ module _ (d : Board) (bytes : List ℕ) (has : HasKernel bytes) (w : World d.Sta
     pub next : Comes d TICK bytes e (IsNext d w e)
     next =
         let early : 2 ≤ w.cpu.pre = s.early in
-        let behind : x ≤ e.cycle = done.behind in
+        let afterwards : x ≤ e.cycle = done.afterwards in
         let in_time : e.cycle ≤ x + 2040 = done.in_time in
         let counted : 32 * e.cpu.t + e.cpu.pre + x ≡ 32 * 192 + w.cpu.pre + e.cycle = done.counted in
         let over : IsOver d 2040 Kept end = record {
@@ -194,16 +194,16 @@ module _ (d : Board) (bytes : List ℕ) (has : HasKernel bytes) (w : World d.Sta
           cpu = serving_is;
           low = done.back;
           high = done.status;
-          short = omega (arith, behind, in_time);
+          short = omega (arith, afterwards, in_time);
           does = (sym ram_is, refl);
         } in
-        let timing : IsTiming (clock_of e.cpu) = record { run = done.run; pre = done.pre; t = done.t } in
+        let timing : IsTiming (timer_parts e.cpu) = record { run = done.run; pre = done.pre; t = done.t } in
         let timed : IsTimed timer 2040 (e.cycle - x) e.cpu = record {
           timing = timing;
-          asks = inr (done.clear, omega (arith, counted, early, behind));
+          asks = inr (done.clear, omega (arith, counted, early, afterwards));
           punctual = λ l few is room.
               let pre : w.cpu.pre - 2 + 2 ≡ l + 2 = ap (λ (b : TimerState). b.pre) is in
-              (done.clear, omega (arith, counted, early, behind, pre));
+              (done.clear, omega (arith, counted, early, afterwards, pre));
         } in
         let same : world_at x end ≡ e = ap (λ c. record { cpu = e.cpu; board = e.board; cycle = c }) there in
         subst (λ u. Comes d TICK bytes u (IsNext d w e)) same

@@ -23,49 +23,49 @@ use Rattle.mcs48_core.specs.Flow.{flow}
 use Rattle.mcs48_core.specs.Ports.{port}
 use Rattle.mcs48_core.specs.Control.{control}
 use Rattle.mcs48_core.specs.Step.{effect}
-use Rattle.fw_logic.proofs.Clock.{IsFree, is_closed, is_plain, clock_of}
+use Rattle.fw_logic.proofs.TimerParts.{IsFree, is_closed, is_plain, timer_parts}
 
-moves_clock : (op : MoveOp) (bytes : List ℕ) (m : Cpu) → is_plain (Moves op) ≡ true
-    → clock_of (move op bytes m) ≡ clock_of m
-moves_clock MovTA bytes m h = absurd cc
-moves_clock op bytes m h = refl
+moves_timer : (op : MoveOp) (bytes : List ℕ) (m : Cpu) → is_plain (Moves op) ≡ true
+    → timer_parts (move op bytes m) ≡ timer_parts m
+moves_timer MovTA bytes m h = absurd cc
+moves_timer op bytes m h = refl
 
-alu_clock : (op : AluOp) (m : Cpu) → clock_of (alu op m) ≡ clock_of m
-alu_clock (AddN n) m = refl
-alu_clock op m = refl
+alu_timer : (op : AluOp) (m : Cpu) → timer_parts (alu op m) ≡ timer_parts m
+alu_timer (AddN n) m = refl
+alu_timer op m = refl
 
-unary_clock : (op : UnaryOp) (m : Cpu) → clock_of (unary op m) ≡ clock_of m
-unary_clock IncA m = refl
-unary_clock op m = refl
+unary_timer : (op : UnaryOp) (m : Cpu) → timer_parts (unary op m) ≡ timer_parts m
+unary_timer IncA m = refl
+unary_timer op m = refl
 
-flow_clock : (op : FlowOp) (bytes : List ℕ) (pins : Pins) (m : Cpu) → is_plain (Flow op) ≡ true
-    → clock_of (flow op bytes pins m) ≡ clock_of m
-flow_clock Retr bytes pins m h = absurd cc
-flow_clock (Jtf to) bytes pins m h = absurd cc
-flow_clock op bytes pins m h = refl
+flow_timer : (op : FlowOp) (bytes : List ℕ) (pins : Pins) (m : Cpu) → is_plain (Flow op) ≡ true
+    → timer_parts (flow op bytes pins m) ≡ timer_parts m
+flow_timer Retr bytes pins m h = absurd cc
+flow_timer (Jtf to) bytes pins m h = absurd cc
+flow_timer op bytes pins m h = refl
 
-port_clock : (op : PortOp) (pins : Pins) (m : Cpu) → clock_of (port op pins m) ≡ clock_of m
-port_clock InsBus pins m = refl
-port_clock op pins m = refl
+port_timer : (op : PortOp) (pins : Pins) (m : Cpu) → timer_parts (port op pins m) ≡ timer_parts m
+port_timer InsBus pins m = refl
+port_timer op pins m = refl
 
-control_clock : (op : ControlOp) (m : Cpu) → is_plain (Control op) ≡ true → clock_of (control op m) ≡ clock_of m
-control_clock EnI m h = absurd cc
-control_clock EnTcnti m h = absurd cc
-control_clock DisTcnti m h = absurd cc
-control_clock StrtT m h = absurd cc
-control_clock StrtCnt m h = absurd cc
-control_clock StopTcnt m h = absurd cc
-control_clock op m h = refl
+control_timer : (op : ControlOp) (m : Cpu) → is_plain (Control op) ≡ true → timer_parts (control op m) ≡ timer_parts m
+control_timer EnI m h = absurd cc
+control_timer EnTcnti m h = absurd cc
+control_timer DisTcnti m h = absurd cc
+control_timer StrtT m h = absurd cc
+control_timer StrtCnt m h = absurd cc
+control_timer StopTcnt m h = absurd cc
+control_timer op m h = refl
 
 -- a plain instruction leaves the timer alone
-pub effect_clock : (op : Op) (bytes : List ℕ) (pins : Pins) (m : Cpu) → is_plain op ≡ true
-    → clock_of (effect op bytes pins m) ≡ clock_of m
-effect_clock (Moves op) bytes pins m h = moves_clock op bytes m h
-effect_clock (Alu op) bytes pins m h = alu_clock op m
-effect_clock (Unary op) bytes pins m h = unary_clock op m
-effect_clock (Flow op) bytes pins m h = flow_clock op bytes pins m h
-effect_clock (PortIo op) bytes pins m h = port_clock op pins m
-effect_clock (Control op) bytes pins m h = control_clock op m h
+pub effect_timer : (op : Op) (bytes : List ℕ) (pins : Pins) (m : Cpu) → is_plain op ≡ true
+    → timer_parts (effect op bytes pins m) ≡ timer_parts m
+effect_timer (Moves op) bytes pins m h = moves_timer op bytes m h
+effect_timer (Alu op) bytes pins m h = alu_timer op m
+effect_timer (Unary op) bytes pins m h = unary_timer op m
+effect_timer (Flow op) bytes pins m h = flow_timer op bytes pins m h
+effect_timer (PortIo op) bytes pins m h = port_timer op pins m
+effect_timer (Control op) bytes pins m h = control_timer op m h
 
 moves_free : (op : MoveOp) (bytes : List ℕ) (m : Cpu) → IsFree m → IsFree (move op bytes m)
 moves_free MovTA bytes m h = h

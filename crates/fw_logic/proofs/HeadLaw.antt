@@ -15,7 +15,7 @@ use Rattle.fw_kernel.specs.Places.{HasKernel}
 use Rattle.joint_run.specs.Run.{Board, World, after_cycles, seen, joint_step, after_step}
 use Rattle.joint_run.specs.Starts.{at_tick, Comes, Tick}
 use Rattle.fw_logic.specs.Blocks.{IsAt, is_counting, Heads}
-use Rattle.fw_logic.proofs.Clock.{IsFree, IsTiming, clock_of}
+use Rattle.fw_logic.proofs.TimerParts.{IsFree, IsTiming, timer_parts}
 use Rattle.fw_logic.proofs.Path.{Stage, Run, world_at}
 use Rattle.fw_logic.proofs.Leads.{Leads}
 use Rattle.fw_logic.proofs.Kernel.{kernel_in}
@@ -100,7 +100,7 @@ module _ (d : Board) (bytes : List ℕ) (has : HasKernel bytes) (x : ℕ) (k : C
         each = h.each;
         free = h.free;
         order = h.order;
-        clock = h.clock;
+        timer_later = h.timer_later;
         over = h.over;
       }
 
@@ -169,11 +169,11 @@ module _ (d : Board) (bytes : List ℕ) (has : HasKernel bytes) (x : ℕ) (k : C
       let h = headed last in
       let v = h.end in
       let off : v.off ≡ 16 = h.goal.1 in
-      let timing : IsTiming (clock_of (third last)) =
+      let timing : IsTiming (timer_parts (third last)) =
       record { run = refl; pre = omega (arith, few); t = omega arith } in
-      let clock = h.clock refl timing (omega (arith, few, off)) in
-      let count : 32 * v.cpu.t + v.cpu.pre + 3 ≡ 32 * 192 + (k.pre + 2 + 1) + v.off = clock.count in
-      let pre : v.cpu.pre < 32 = clock.timing.pre in
+      let timer_later = h.timer_later refl timing (omega (arith, few, off)) in
+      let count : 32 * v.cpu.t + v.cpu.pre + 3 ≡ 32 * 192 + (k.pre + 2 + 1) + v.off = timer_later.count in
+      let pre : v.cpu.pre < 32 = timer_later.timing.pre in
       let t : v.cpu.t ≡ 192 = omega (arith, count, off, pre, few) in
       let counted : v.cpu.pre ≡ k.pre + 16 = omega (arith, count, off, t) in
       record {

@@ -41,7 +41,7 @@ neither false false h = (refl, refl)
 neither false true h = absurd cc
 neither true b h = absurd cc
 
--- which row stands at each place of the code, in every image that has the kernel
+-- which row is at each place of the code, in every image that has the kernel
 pub row_is : (bytes : List ℕ) → HasKernel bytes → (pc : ℕ) (r : Decoded) → kernel_row pc ≡ Some r
     → row_at bytes pc ≡ Some r
 row_is bytes has pc r h =

@@ -9,7 +9,7 @@ use Rattle.mcs48_core.specs.declared.levels.Pins.{Pins}
 use Rattle.fw_kernel.specs.Places.{HasKernel}
 use Rattle.fw_logic.specs.Executed.{puts_at, looks_at, is_late, LooksLate}
 use Rattle.fw_logic.proofs.Chain.{stepped_is}
-use Rattle.fw_logic.proofs.Clock.{is_closed}
+use Rattle.fw_logic.proofs.TimerParts.{is_closed}
 use Rattle.fw_logic.proofs.Following.{Stays, follows}
 use Rattle.fw_logic.proofs.Image.{row_is}
 use Rattle.fw_logic.proofs.Placed.{in_service, late_after, late_by, main_at, service_at, ServiceRow}

@@ -5,7 +5,7 @@ use Rattle.std.specs.declared.option.Option.{Option}
 use Rattle.mcs48_core.specs.Step.{Stepped, stepped}
 use Rattle.joint_run.specs.Run.{Board, World, after_cycles, seen, after_step, joint_step}
 use Rattle.joint_run.specs.Starts.{at_tick, calm_step, calm, Comes}
-use Rattle.fw_logic.proofs.Clock.{IsFree}
+use Rattle.fw_logic.proofs.TimerParts.{IsFree}
 use Rattle.fw_logic.proofs.Path.{Stage, Code}
 use Rattle.fw_logic.proofs.Leads.{Leads, HasRows}
 use Rattle.fw_logic.proofs.Sound.{chain, stay}

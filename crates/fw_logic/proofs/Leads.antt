@@ -5,7 +5,7 @@ use Rattle.mcs48_core.specs.Cpu.{Cpu}
 use Rattle.mcs48_core.specs.Step.{row_at}
 use Rattle.joint_run.specs.Run.{Board, World}
 use Rattle.joint_run.specs.Starts.{calm}
-use Rattle.fw_logic.proofs.Clock.{IsFree, is_closed, IsTiming, IsLater, IsAsking, clock_of, total}
+use Rattle.fw_logic.proofs.TimerParts.{IsFree, is_closed, IsTiming, IsLater, IsAsking, timer_parts, total}
 use Rattle.fw_logic.proofs.Path.{Stage, Code, world_at}
 
 -- the rows at the places of a code are those of its bytes, and take 1 or 2 cycles
@@ -29,7 +29,7 @@ pub record Leads (d : Board) (code : Code) (x : ℕ) (s : Stage d.State) (Q : St
       → LetsNone code.bytes one.cpu
   pub free : IsFree end.cpu
   pub order : s.off ≤ end.off
-  pub clock : code.timed ≡ true → IsTiming (clock_of s.cpu) → total (clock_of s.cpu) + end.off < 8192 + s.off
-      → IsLater (clock_of s.cpu) (clock_of end.cpu) s.off end.off
-  pub over : code.timed ≡ true → IsTiming (clock_of s.cpu) → s.cpu.tim_on ≡ true
-      → IsAsking (clock_of s.cpu) (clock_of end.cpu) s.off end.off
+  pub timer_later : code.timed ≡ true → IsTiming (timer_parts s.cpu) → total (timer_parts s.cpu) + end.off < 8192 + s.off
+      → IsLater (timer_parts s.cpu) (timer_parts end.cpu) s.off end.off
+  pub over : code.timed ≡ true → IsTiming (timer_parts s.cpu) → s.cpu.tim_on ≡ true
+      → IsAsking (timer_parts s.cpu) (timer_parts end.cpu) s.off end.off

@@ -1,4 +1,4 @@
-pub mod Clock
+pub mod TimerParts
 pub mod Path
 pub mod Leads
 pub mod Kernel

@@ -6,7 +6,7 @@ use Rattle.fw_kernel.specs.declared.labels.TheConstants.{LAMPS, TESTED, LOOKS, S
 use Rattle.fw_kernel.specs.Places.{HasKernel}
 use Rattle.joint_run.specs.Run.{Board, after_cycles}
 use Rattle.fw_logic.specs.Scan.{levels_in}
-use Rattle.fw_logic.proofs.Clock.{IsFree}
+use Rattle.fw_logic.proofs.TimerParts.{IsFree}
 use Rattle.fw_logic.proofs.Path.{Until, Go}
 use Rattle.fw_logic.proofs.Leads.{Leads}
 use Rattle.fw_logic.proofs.Kernel.{kernel_in}

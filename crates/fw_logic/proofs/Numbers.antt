@@ -75,7 +75,7 @@ module _ (d : Board) (tick : ℕ) (bytes : List ℕ) (from : World d.State) wher
       let all : starts_before d tick bytes from (suc q.steps) ≡ suc n = omega (arith, one, so) in
       record { steps = suc q.steps + t.rest.steps; run = r.0 ∙ ap (λ e. Some e) t.rest.goal; count = r.1 ∙ all }
 
-  -- the count never falls, and rises behind a start
+  -- the count never falls, and rises after a start
   up : (k m : ℕ) → starts_before d tick bytes from k ≤ starts_before d tick bytes from (k + m)
   up k zero = let z : k + 0 ≡ k = omega arith in rw z (omega arith)
   up k (suc m) =

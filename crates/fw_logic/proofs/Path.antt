@@ -15,7 +15,7 @@ use Rattle.mcs48_core.specs.Flow.{branch}
 use Rattle.mcs48_core.specs.Timer.{after_timer}
 use Rattle.mcs48_core.specs.Step.{effect}
 use Rattle.joint_run.specs.Run.{Board, World, after_cycles}
-use Rattle.fw_logic.proofs.Clock.{is_plain, is_closed}
+use Rattle.fw_logic.proofs.TimerParts.{is_plain, is_closed}
 
 -- a state at an offset from a cycle
 pub record Stage (S : Type 0) : Type 0 where

@@ -10,7 +10,7 @@ use Rattle.mcs48_isa.specs.declared.operation.Op.{Op}
 use Rattle.bits.specs.Bits.{bit}
 use Rattle.bits.proofs.Every.{every_below, at_each, both}
 use Rattle.fw_logic.specs.Executed.{is_kernels, puts_at, looks_at, is_late}
-use Rattle.fw_logic.proofs.Clock.{is_closed}
+use Rattle.fw_logic.proofs.TimerParts.{is_closed}
 use Rattle.fw_logic.proofs.Following.{is_steady, keeps_column, nexts}
 use Rattle.fw_kernel.specs.Places.{is_table}
 use Rattle.fw_logic.proofs.Kernel.{byte_in, kernel_row}
@@ -38,15 +38,15 @@ below_end pages p h =
     let low : ltb p 2048 ≡ true = (both (ltb p 2048) (bit (p % 64) (slice_index pages (p / 64))) h).0 in
     grind (arith, nat_tests, low)
 
--- behind the reading of the columns
-abbrev pub is_behind : ℕ → Bool
-is_behind p = leb 36 p
+-- after the reading of the columns
+abbrev pub is_later_than : ℕ → Bool
+is_later_than p = leb 36 p
 
 -- a row that leaves port 2
 abbrev puts_none : Op → Bool
 puts_none op = not (is_some (puts_at op))
 
--- a look at the clock that follows a row that puts port 2 is late enough, where the counter comes to a place
+-- a look at the clock that follows a row that puts port 2 is late enough, where the counter reaches a place
 abbrev pub late_by : Decoded → Option Decoded → Bool
 late_by r None = true
 late_by r (Some q) = is_late r.cycles (puts_at r.op) (looks_at q.op)
@@ -68,14 +68,14 @@ main_row p None = false
 main_row p (Some r) =
     (is_kernels r.op && puts_none r.op) && (is_steady r.op && (keeps_column r.op && list_all in_main (nexts r.op p)))
 
--- a row of the service: where it isn't the service's end it leads on in it; behind the reading port 1 stays
-abbrev stays_behind : ℕ → Decoded → Bool
-stays_behind p r = if is_behind p then keeps_column r.op && list_all is_behind (nexts r.op p) else true
+-- a row of the service: where it isn't the service's end it leads on in it; after the reading port 1 stays
+abbrev stays_after : ℕ → Decoded → Bool
+stays_after p r = if is_later_than p then keeps_column r.op && list_all is_later_than (nexts r.op p) else true
 
 abbrev goes_on : ℕ → Decoded → Bool
 goes_on p r =
     if is_closed r.op
-    then is_steady r.op && (list_all in_service (nexts r.op p) && (stays_behind p r && list_all (late_after r) (nexts r.op p)))
+    then is_steady r.op && (list_all in_service (nexts r.op p) && (stays_after p r && list_all (late_after r) (nexts r.op p)))
     else puts_none r.op
 
 abbrev service_row : ℕ → Option Decoded → Bool
@@ -174,16 +174,16 @@ pub record ServiceRow (p : ℕ) : Type 0 where
   pub late : is_closed row.op ≡ true → list_all (late_after row) (nexts row.op p) ≡ true
   pub steady : is_closed row.op ≡ true → is_steady row.op ≡ true
   pub leads : is_closed row.op ≡ true → list_all in_service (nexts row.op p) ≡ true
-  pub column : is_closed row.op ≡ true → is_behind p ≡ true
-      → (keeps_column row.op ≡ true) × (list_all is_behind (nexts row.op p) ≡ true)
+  pub column : is_closed row.op ≡ true → is_later_than p ≡ true
+      → (keeps_column row.op ≡ true) × (list_all is_later_than (nexts row.op p) ≡ true)
 
 service_by : (p : ℕ) → p < 2048 → (o : Option Decoded) → kernel_row p ≡ o → service_row p o ≡ true → ServiceRow p
 service_by p low None is h = absurd cc
 service_by p low (Some r) is h =
     let leads = list_all in_service (nexts r.op p) in
-    let behind = list_all is_behind (nexts r.op p) in
+    let afterwards = list_all is_later_than (nexts r.op p) in
     let late = list_all (late_after r) (nexts r.op p) in
-    let stays = stays_behind p r && late in
+    let stays = stays_after p r && late in
     let on = leads && stays in
     let one = both (is_kernels r.op) (goes_on p r) h in
     let all : is_closed r.op ≡ true → (is_steady r.op && on) ≡ true =
@@ -195,13 +195,13 @@ service_by p low (Some r) is h =
       is = is;
       allowed = one.0;
       quiet = λ way. none_is (puts_at r.op) (where_false (is_closed r.op) (is_steady r.op && on) (puts_none r.op) way one.1);
-      late = λ closed. (both (stays_behind p r) late (both leads stays (rest closed)).1).1;
+      late = λ closed. (both (stays_after p r) late (both leads stays (rest closed)).1).1;
       steady = λ closed. (both (is_steady r.op) on (all closed)).0;
       leads = λ closed. (both leads stays (rest closed)).0;
       column = λ closed past.
-          both (keeps_column r.op) behind
-          (when (is_behind p) (keeps_column r.op && behind) past
-          (both (stays_behind p r) late (both leads stays (rest closed)).1).0);
+          both (keeps_column r.op) afterwards
+          (when (is_later_than p) (keeps_column r.op && afterwards) past
+          (both (stays_after p r) late (both leads stays (rest closed)).1).0);
     }
 
 pub service_at : (p : ℕ) → in_service p ≡ true → ServiceRow p

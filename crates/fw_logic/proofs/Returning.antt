@@ -8,7 +8,7 @@ use Rattle.fw_kernel.specs.declared.labels.TheConstants.{TICK, WAIT, DONE}
 use Rattle.fw_kernel.specs.Places.{HasKernel}
 use Rattle.joint_run.specs.Run.{Board, World, after_cycles, seen}
 use Rattle.joint_run.specs.Starts.{Comes}
-use Rattle.fw_logic.proofs.Clock.{IsTiming, clock_of, total}
+use Rattle.fw_logic.proofs.TimerParts.{IsTiming, timer_parts, total}
 use Rattle.fw_logic.proofs.Path.{Stage, world_at}
 use Rattle.fw_logic.proofs.Blocks.{ticks_add}
 use Rattle.fw_logic.proofs.Laws.{comes_by, comes_here, comes_as}
@@ -34,7 +34,7 @@ pub record IsPrompt (late : ℕ) (timer : TimerState) (passed : ℕ) : Type 0 wh
   pub timer' : timer ≡ on_time late' timer.tf timer.last
   pub time : passed + late ≡ 2048 + late'
 
--- the next tick start, behind a tick that began in a cycle with this timer. If the work was longer than 2,040 cycles, the
+-- the next tick start, after a tick that began in a cycle with this timer. If the work was longer than 2,040 cycles, the
 -- interrupt may wait at its end
 pub record Next (d : Board) (x : ℕ) (b : TimerState) (last_off : ℕ) (R : (ℕ → ℕ) → List ℕ → Stage d.State → Type 0)
     (w : World d.State) : Type 0 where
@@ -53,10 +53,10 @@ pub record Next (d : Board) (x : ℕ) (b : TimerState) (last_off : ℕ) (R : (�
 
 -- where the work's end finds the timer: an overflow asks, or it hasn't come; and it hasn't if start and work are in time
 pub record IsTimed (b : TimerState) (last_off off : ℕ) (k : Cpu) : Type 0 where
-  pub timing : IsTiming (clock_of k)
-  pub asks : (k.rq ≡ true) ⊎ ((k.rq ≡ false) × (6144 + off ≤ total (clock_of k) + 3))
+  pub timing : IsTiming (timer_parts k)
+  pub asks : (k.rq ≡ true) ⊎ ((k.rq ≡ false) × (6144 + off ≤ total (timer_parts k) + 3))
   pub punctual : (late : ℕ) → late ≤ 1 → b ≡ on_time late b.tf b.last → last_off ≤ 2040
-      → (k.rq ≡ false) × (total (clock_of k) + 3 ≡ 6149 + late + off)
+      → (k.rq ≡ false) × (total (timer_parts k) + 3 ≡ 6149 + late + off)
 
 module _ (d : Board) (bytes : List ℕ) (has : HasKernel bytes) where
   module _ (x : ℕ) (b : TimerState) (last_off : ℕ) (R : (ℕ → ℕ) → List ℕ → Stage d.State → Type 0)
@@ -76,7 +76,7 @@ module _ (d : Board) (bytes : List ℕ) (has : HasKernel bytes) where
     abbrev main : Cpu
     main = plain over.now over.ring k
 
-    -- the timer behind RETR
+    -- the timer after RETR
     abbrev back_timer : Bool → TimerState
     back_timer t1 = run_on 2 t1 (timer_of k)
 

@@ -10,20 +10,20 @@ use Rattle.joint_run.specs.Run.{Board, World, joint_step}
 use Rattle.joint_run.specs.Starts.{calm}
 use Rattle.fw_logic.proofs.Between.{first_of, same_next}
 use Rattle.fw_logic.proofs.Chain.{calm_add, each_add, one_step, taken_closed}
-use Rattle.fw_logic.proofs.Clock.{IsFree}
+use Rattle.fw_logic.proofs.TimerParts.{IsFree}
 use Rattle.fw_logic.proofs.Groups.{effect_free}
 use Rattle.fw_logic.proofs.Leads.{HasRows}
 use Rattle.fw_logic.proofs.Path.{Stage, Code, Quiet, Plainly, world_at, pins_at, moved, left, is_taken}
 use Rattle.fw_kernel.specs.declared.labels.TheConstants.{TICK}
 
 module _ (d : Board) (code : Code) (tick : code.tick ≡ TICK) (has : HasRows code) (x : ℕ) (latch : ℕ → ℕ) where
-  -- so many instructions, the first of which leave the latch as is said, told in equations
+  -- so many instructions, the first of which leave the latch as is said, reported in equations
   abbrev pub Shown : ℕ → Stage d.State → (Stage d.State → Type 0) → Type 0
   Shown zero s K = K s
   Shown (suc n) s K =
       Quiet d code x s (λ t. (t.cpu.p1 ≡ latch s.off) × (t.cpu.p1 ≡ latch (t.off - 1)) × Shown n t K)
 
-  -- and told by one test of them all, where the latch is a numeral
+  -- and reported by one test of them all, where the latch is a numeral
   abbrev pub Traced : ℕ → Stage d.State → Bool → (Stage d.State → Type 0) → Type 0
   Traced zero s b K = (b ≡ true) × K s
   Traced (suc n) s b K =
@@ -35,7 +35,7 @@ module _ (d : Board) (code : Code) (tick : code.tick ≡ TICK) (has : HasRows co
       → c < next.cycle → next.cpu.p1 ≡ latch (c - x)
 
   -- the run comes from a stage to one of the set, and the latch is this on the way
-  pub record Told (s : Stage d.State) (K : Stage d.State → Type 0) : Type 0 where
+  pub record Observed (s : Stage d.State) (K : Stage d.State → Type 0) : Type 0 where
     pub steps : ℕ
     pub end : Stage d.State
     pub run : calm d code.tick code.bytes steps (world_at x s) ≡ Some (world_at x end)
@@ -44,10 +44,10 @@ module _ (d : Board) (code : Code) (tick : code.tick ≡ TICK) (has : HasRows co
     pub goal : K end
 
   -- one step, with what follows it
-  step_told : (K : Stage d.State → Type 0) (s t : Stage d.State)
+  step_reported : (K : Stage d.State → Type 0) (s t : Stage d.State)
       → calm d code.tick code.bytes 1 (world_at x s) ≡ Some (world_at x t)
-      → t.off ≤ s.off + 2 → t.cpu.p1 ≡ latch s.off → t.cpu.p1 ≡ latch (t.off - 1) → Told t K → Told s K
-  step_told K s t run long one two rest = record {
+      → t.off ≤ s.off + 2 → t.cpu.p1 ≡ latch s.off → t.cpu.p1 ≡ latch (t.off - 1) → Observed t K → Observed s K
+  step_reported K s t run long one two rest = record {
     steps = 1 + rest.steps;
     end = rest.end;
     run = calm_add d code has x 1 rest.steps (world_at x s) (world_at x t) run ∙ rest.run;
@@ -83,7 +83,7 @@ module _ (d : Board) (code : Code) (tick : code.tick ≡ TICK) (has : HasRows co
           ∙ in_cycle c (subst (λ (v : World d.State). v.cycle ≤ c) (sym same) a)
           (subst (λ (v : World d.State). c < v.cycle) (sym is) low)
 
-  -- an instruction, and what is to be shown behind it
+  -- an instruction, and what is to be shown after it
   pub record Done (s : Stage d.State) (K : Stage d.State → Type 0) : Type 0 where
     pub next : Stage d.State
     pub run : calm d code.tick code.bytes 1 (world_at x s) ≡ Some (world_at x next)
@@ -121,25 +121,25 @@ module _ (d : Board) (code : Code) (tick : code.tick ≡ TICK) (has : HasRows co
       on false off g = plain (code.row s.cpu.pc) refl off g
 
   pub shown : (n : ℕ) (K Q : Stage d.State → Type 0) (s : Stage d.State) → IsFree s.cpu
-      → ((e : Stage d.State) → IsFree e.cpu → K e → Told e Q) → Shown n s K → Told s Q
+      → ((e : Stage d.State) → IsFree e.cpu → K e → Observed e Q) → Shown n s K → Observed s Q
   shown zero K Q s free more h = more s free h
   shown (suc n) K Q s free more h =
       let q = quiet (λ t. (t.cpu.p1 ≡ latch s.off) × (t.cpu.p1 ≡ latch (t.off - 1)) × Shown n t K) s free h in
-      step_told Q s q.next q.run q.long q.rest.0 q.rest.1 (shown n K Q q.next q.free more q.rest.2)
+      step_reported Q s q.next q.run q.long q.rest.0 q.rest.1 (shown n K Q q.next q.free more q.rest.2)
 
   pub traced : (n : ℕ) (s : Stage d.State) (b : Bool) (K : Stage d.State → Type 0) → IsFree s.cpu → Traced n s b K
-      → (b ≡ true) × Told s K
+      → (b ≡ true) × Observed s K
   traced zero s b K free h = (
     h.0,
     record { steps = 0; end = s; run = refl; each = λ k one l at. absurd (omega (arith, l)); goal = h.1 },
   )
   traced (suc n) s b K free h =
-      let tells : Stage d.State → Bool = λ t. (t.cpu.p1 == latch s.off) && (t.cpu.p1 == latch (t.off - 1)) in
-      let q = quiet (λ t. Traced n t (b && tells t) K) s free h in
+      let decides : Stage d.State → Bool = λ t. (t.cpu.p1 == latch s.off) && (t.cpu.p1 == latch (t.off - 1)) in
+      let q = quiet (λ t. Traced n t (b && decides t) K) s free h in
       let t = q.next in
-      let r = traced n t (b && tells t) K q.free q.rest in
-      let one = both b (tells t) r.0 in
+      let r = traced n t (b && decides t) K q.free q.rest in
+      let one = both b (decides t) r.0 in
       let two = both (t.cpu.p1 == latch s.off) (t.cpu.p1 == latch (t.off - 1)) one.1 in (
         one.0,
-        step_told K s t q.run q.long (same_of t.cpu.p1 (latch s.off) two.0) (same_of t.cpu.p1 (latch (t.off - 1)) two.1) r.1,
+        step_reported K s t q.run q.long (same_of t.cpu.p1 (latch s.off) two.0) (same_of t.cpu.p1 (latch (t.off - 1)) two.1) r.1,
       )

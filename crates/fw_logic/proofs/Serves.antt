@@ -10,7 +10,7 @@ use Rattle.fw_kernel.specs.Places.{HasKernel}
 use Rattle.joint_run.specs.Run.{Board, World, after_cycles, seen, joint_step, after_step}
 use Rattle.joint_run.specs.Starts.{Comes}
 use Rattle.joint_run.specs.Starts.{Tick}
-use Rattle.fw_logic.proofs.Clock.{IsTiming, clock_of, total}
+use Rattle.fw_logic.proofs.TimerParts.{IsTiming, timer_parts, total}
 use Rattle.fw_logic.proofs.Path.{Stage, Run, Path, world_at}
 use Rattle.fw_logic.proofs.Leads.{Leads}
 use Rattle.fw_logic.proofs.Kernel.{kernel_in}
@@ -73,7 +73,7 @@ module _ (d : Board) (bytes : List ℕ) (has : HasKernel bytes) where
   work_timed x b l head f ring m board last_off R does =
       let end = does.end in
       let short : end.off ≤ last_off = does.goal.short in
-      let timing : IsTiming (clock_of (work_cpu l f ring m)) =
+      let timing : IsTiming (timer_parts (work_cpu l f ring m)) =
       record { run = refl; pre = head.range.pre; t = head.range.t } in
       let over = does.over refl timing refl in
       record {
@@ -82,27 +82,27 @@ module _ (d : Board) (bytes : List ℕ) (has : HasKernel bytes) where
         punctual = λ late few is room.
             let p = head.prompt late few is in
             let sum : 32 * l.t + l.pre ≡ 6149 + late = p.0 in
-            let clock = does.clock refl timing (omega (arith, sum, few, short, room)) in
-            let count : total (clock_of end.cpu) + 3 ≡ 32 * l.t + l.pre + end.off = clock.count in
-            (clock.rq ∙ p.1, omega (arith, count, sum));
+            let timer_later = does.timer_later refl timing (omega (arith, sum, few, short, room)) in
+            let count : total (timer_parts end.cpu) + 3 ≡ 32 * l.t + l.pre + end.off = timer_later.count in
+            (timer_later.rq ∙ p.1, omega (arith, count, sum));
       }
     where
       by : (q : Bool) → does.end.cpu.rq ≡ q
-          → (does.end.cpu.rq ≡ true) ⊎ ((does.end.cpu.rq ≡ false) × (6144 + does.end.off ≤ total (clock_of does.end.cpu) + 3))
+          → (does.end.cpu.rq ≡ true) ⊎ ((does.end.cpu.rq ≡ false) × (6144 + does.end.off ≤ total (timer_parts does.end.cpu) + 3))
       by true e = inl e
       by false e = inr (e, least (leb (8192 + 3) (32 * l.t + l.pre + does.end.off)) refl)
         where
-          timing : IsTiming (clock_of (work_cpu l f ring m))
+          timing : IsTiming (timer_parts (work_cpu l f ring m))
           timing = record { run = refl; pre = head.range.pre; t = head.range.t }
 
           least : (x : Bool) → leb (8192 + 3) (32 * l.t + l.pre + does.end.off) ≡ x
-              → 6144 + does.end.off ≤ total (clock_of does.end.cpu) + 3
+              → 6144 + does.end.off ≤ total (timer_parts does.end.cpu) + 3
           least true h =
               let over = does.over refl timing refl in
               absurd (let both : true ≡ false = sym (over.asks (grind (arith, nat_tests, h))) ∙ e in cc)
           least false h =
-              let clock = does.clock refl timing (grind (arith, nat_tests, h)) in
-              let count : total (clock_of does.end.cpu) + 3 ≡ 32 * l.t + l.pre + does.end.off = clock.count in
+              let timer_later = does.timer_later refl timing (grind (arith, nat_tests, h)) in
+              let count : total (timer_parts does.end.cpu) + 3 ≡ 32 * l.t + l.pre + does.end.off = timer_later.count in
               let begun : 6144 ≤ 32 * l.t + l.pre = head.least in
               omega (arith, count, begun)
 

@@ -13,7 +13,7 @@ use Rattle.joint_run.specs.Run.{Board, World, seen, joint_step, step_on, run_at}
 use Rattle.fw_logic.specs.Executed.{row_looks, looks, is_over, LooksSoon}
 use Rattle.fw_logic.proofs.Between.{step_of}
 use Rattle.fw_logic.proofs.Chain.{stepped_is}
-use Rattle.fw_logic.proofs.Clock.{is_closed}
+use Rattle.fw_logic.proofs.TimerParts.{is_closed}
 use Rattle.fw_logic.proofs.Following.{Stays, nexts, follows}
 use Rattle.fw_logic.proofs.Image.{row_is}
 use Rattle.fw_logic.proofs.Kernel.{kernel_row}

@@ -14,7 +14,7 @@ use Rattle.mcs48_core.specs.Registers.{past, register, with_register}
 use Rattle.mcs48_core.specs.Flow.{branch, flow}
 use Rattle.mcs48_core.specs.Timer.{after_timer}
 use Rattle.joint_run.specs.Run.{Board}
-use Rattle.fw_logic.proofs.Clock.{IsFree}
+use Rattle.fw_logic.proofs.TimerParts.{IsFree}
 use Rattle.fw_logic.proofs.Path.{Stage, Code, Note, Run, Until, Go, Acc, Ram, Fork, Path, jumped, Meets, Forks, Runs}
 use Rattle.fw_logic.proofs.Path.{Untils, Quiet, Plainly, Jumps, Is, condition, answered, pins_at, moved}
 use Rattle.fw_logic.proofs.Path.{left, is_taken}

@@ -17,7 +17,7 @@ use Rattle.fw_logic.specs.Boards.{power_on}
 use Rattle.fw_logic.proofs.Path.{Stage, Until, Path, world_at}
 use Rattle.fw_logic.proofs.Kernel.{kernel_in}
 use Rattle.fw_logic.proofs.Block.{put, before}
-use Rattle.fw_logic.proofs.Clock.{IsFree}
+use Rattle.fw_logic.proofs.TimerParts.{IsFree}
 use Rattle.fw_logic.proofs.Blocks.{ticks_add}
 use Rattle.fw_logic.proofs.Memory.{drop_is}
 use Rattle.fw_logic.proofs.Sound.{sound, stepped_is}

@@ -16,7 +16,7 @@ use Rattle.fw_logic.proofs.Entered.{IsServed, entering_is}
 use Rattle.fw_logic.proofs.Kernel.{kernel_in}
 use Rattle.fw_logic.proofs.Passing.{Passes}
 use Rattle.fw_logic.proofs.Path.{Stage, world_at}
-use Rattle.fw_logic.proofs.Selecting.{Shown, Traced, Told, shown, traced}
+use Rattle.fw_logic.proofs.Selecting.{Shown, Traced, Observed, shown, traced}
 use Rattle.fw_logic.proofs.Serves.{second, first_step}
 use Rattle.fw_logic.proofs.Service.{entering}
 use Rattle.fw_logic.proofs.Short.{has_rows}
@@ -26,8 +26,8 @@ use Rattle.fw_logic.proofs.Turns.{IsServing}
 early : (old o : ℕ) → o < 10 → column_latch old o ≡ old
 early old o l = let e : nat_lt o 10 ≡ true = grind (arith, nat_tests, l) in rw e refl
 
-behind : (old o : ℕ) → 201 ≤ o → column_latch old o ≡ 44
-behind old o l =
+afterwards : (old o : ℕ) → 201 ≤ o → column_latch old o ≡ 44
+afterwards old o l =
     let a : nat_lt o 10 ≡ false = grind (arith, nat_tests, l) in
     let b : nat_lt o 201 ≡ false = grind (arith, nat_tests, l) in
     rw (a, b) refl
@@ -51,7 +51,7 @@ module _ (d : Board) (bytes : List ℕ) (has : HasKernel bytes) (x : ℕ) (b : T
       (λ s. Traced d (kernel_in false bytes) refl (has_rows false bytes has) x latch 161 s true Swept)
   sweep = (refl, refl, (refl, refl, (refl, refl, (refl, refl, (refl, refl, (refl, (refl, refl, refl)))))))
 
-  swept : Told d (kernel_in false bytes) refl (has_rows false bytes has) x latch two Swept
+  swept : Observed d (kernel_in false bytes) refl (has_rows false bytes has) x latch two Swept
   swept =
       shown d (kernel_in false bytes) refl (has_rows false bytes has) x latch 5
       (λ s. Traced d (kernel_in false bytes) refl (has_rows false bytes has) x latch 161 s true Swept) Swept two (inl refl)
@@ -101,10 +101,10 @@ module _ (d : Board) (bytes : List ℕ) (has : HasKernel bytes) (x : ℕ) (b : T
             let rest = goes_on k one (grind (arith, nat_tests, h)) run in
             let n : ℕ = k - swept.steps in
             let there = along d bytes has m.clk (After d bytes has m.clk) (after_on d bytes has m.clk) n end one after rest in
-            let behind_it = after_on d bytes has m.clk one next there off step in
+            let after_it = after_on d bytes has m.clk one next there off step in
             let late : x + swept.end.off ≤ one.cycle = later_on d bytes n end one rest in
             let off : swept.end.off ≡ 208 = swept.goal.2 in
-            after_column d bytes has m.clk next behind_it ∙ sym (behind m.p1 (c - x) (omega (arith, late, off, a)))
+            after_column d bytes has m.clk next after_it ∙ sym (afterwards m.p1 (c - x) (omega (arith, late, off, a)))
 
     pub selects : Selects d TICK bytes start (λ c. column_latch m.p1 (c - x))
     selects = record {

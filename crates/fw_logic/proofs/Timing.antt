@@ -6,10 +6,10 @@ use Rattle.mcs48_core.specs.declared.levels.Pins.{Pins}
 use Rattle.mcs48_core.specs.declared.processor.Count.TheVariants.{Timer}
 use Rattle.mcs48_core.specs.Cpu.{Cpu}
 use Rattle.mcs48_core.specs.Timer.{after_timer}
-use Rattle.fw_logic.proofs.Clock.{Clock, clock_of, total, IsTiming, IsLater, IsAsking}
+use Rattle.fw_logic.proofs.TimerParts.{TimerParts, timer_parts, total, IsTiming, IsLater, IsAsking}
 
 -- what a step of a running timer leaves, where T counts or not
-abbrev pub counted : Bool → ℕ → Clock → Clock
+abbrev pub counted : Bool → ℕ → TimerParts → TimerParts
 counted counts c k = record {
   t = if counts then (k.t + 1) % 256 else k.t;
   pre = if counts then k.pre + c - 32 else k.pre + c;
@@ -19,11 +19,11 @@ counted counts c k = record {
   tim_on = k.tim_on;
 }
 
-pub timer_clock : (m : Cpu) (c : ℕ) (pins : Pins) → m.run ≡ Timer
-    → clock_of (after_timer m.run c pins m) ≡ counted (nat_le 32 (m.pre + c)) c (clock_of m)
-timer_clock m c pins e = ap (λ k. clock_of (after_timer k c pins (record m { run = k }))) e
+pub timer_state : (m : Cpu) (c : ℕ) (pins : Pins) → m.run ≡ Timer
+    → timer_parts (after_timer m.run c pins m) ≡ counted (nat_le 32 (m.pre + c)) c (timer_parts m)
+timer_state m c pins e = ap (λ k. timer_parts (after_timer k c pins (record m { run = k }))) e
 
-pub counted_later : (k : Clock) (c : ℕ) → IsTiming k → c ≤ 2 → total k + c < 8192 → (b : Bool)
+pub counted_later : (k : TimerParts) (c : ℕ) → IsTiming k → c ≤ 2 → total k + c < 8192 → (b : Bool)
     → nat_le 32 (k.pre + c) ≡ b → IsLater k (counted b c k) 0 c
 counted_later k c h few room false is =
     let l : k.pre < 32 = h.pre in
@@ -48,21 +48,21 @@ counted_later k c h few room true is =
     }
 
 -- from a state whose timer is that before the step
-pub step_later : (k : Clock) (m : Cpu) (c : ℕ) (pins : Pins) (start : ℕ) → clock_of m ≡ k → IsTiming k → c ≤ 2
+pub step_later : (k : TimerParts) (m : Cpu) (c : ℕ) (pins : Pins) (start : ℕ) → timer_parts m ≡ k → IsTiming k → c ≤ 2
     → total k + (start + c) < 8192 + start
-    → IsLater k (clock_of (after_timer m.run c pins m)) start (start + c)
+    → IsLater k (timer_parts (after_timer m.run c pins m)) start (start + c)
 step_later k m c pins start e h few room =
     subst
     (λ j. IsTiming j → total j + (start + c) < 8192 + start
-    → IsLater j (clock_of (after_timer m.run c pins m)) start (start + c)) e
+    → IsLater j (timer_parts (after_timer m.run c pins m)) start (start + c)) e
     (λ h room.
     let run : m.run ≡ Timer = h.run in
-    let short : total (clock_of m) + c < 8192 = omega (arith, room) in
-    let l = counted_later (clock_of m) c h few short (nat_le 32 (m.pre + c)) refl in
-    subst (λ j. IsLater (clock_of m) j start (start + c)) (sym (timer_clock m c pins run))
+    let short : total (timer_parts m) + c < 8192 = omega (arith, room) in
+    let l = counted_later (timer_parts m) c h few short (nat_le 32 (m.pre + c)) refl in
+    subst (λ j. IsLater (timer_parts m) j start (start + c)) (sym (timer_state m c pins run))
     (record {
-      count = (let n : total (counted (nat_le 32 (m.pre + c)) c (clock_of m)) + 0 ≡ total
-          (clock_of m) + c = l.count in omega (arith, n));
+      count = (let n : total (counted (nat_le 32 (m.pre + c)) c (timer_parts m)) + 0 ≡ total
+          (timer_parts m) + c = l.count in omega (arith, n));
       timing = l.timing;
       tf = l.tf;
       rq = l.rq;
@@ -75,7 +75,7 @@ stays_true true r h = refl
 stays_true false r h = h
 
 -- a step asks if it overflows
-pub counted_asks : (k : Clock) (c : ℕ) → IsTiming k → k.tim_on ≡ true → c ≤ 2 → (b : Bool)
+pub counted_asks : (k : TimerParts) (c : ℕ) → IsTiming k → k.tim_on ≡ true → c ≤ 2 → (b : Bool)
     → nat_le 32 (k.pre + c) ≡ b → IsAsking k (counted b c k) 0 c
 counted_asks k c h on few false is =
     let less : k.pre + c < 32 = grind (arith, nat_tests, is) in
@@ -98,19 +98,19 @@ counted_asks k c h on few true is =
           let full : (k.t == 255) ≡ true = grind (arith, nat_tests, high) in rw (full, on) refl;
     }
 
-pub step_asks : (k : Clock) (m : Cpu) (c : ℕ) (pins : Pins) (start : ℕ) → clock_of m ≡ k → IsTiming k
-    → k.tim_on ≡ true → c ≤ 2 → IsAsking k (clock_of (after_timer m.run c pins m)) start (start + c)
+pub step_asks : (k : TimerParts) (m : Cpu) (c : ℕ) (pins : Pins) (start : ℕ) → timer_parts m ≡ k → IsTiming k
+    → k.tim_on ≡ true → c ≤ 2 → IsAsking k (timer_parts (after_timer m.run c pins m)) start (start + c)
 step_asks k m c pins start e h on few =
     subst
-    (λ j. IsTiming j → j.tim_on ≡ true → IsAsking j (clock_of (after_timer m.run c pins m)) start (start + c)) e
+    (λ j. IsTiming j → j.tim_on ≡ true → IsAsking j (timer_parts (after_timer m.run c pins m)) start (start + c)) e
     (λ h on.
     let run : m.run ≡ Timer = h.run in
-    let a = counted_asks (clock_of m) c h on few (nat_le 32 (m.pre + c)) refl in
-    subst (λ j. IsAsking (clock_of m) j start (start + c)) (sym (timer_clock m c pins run))
+    let a = counted_asks (timer_parts m) c h on few (nat_le 32 (m.pre + c)) refl in
+    subst (λ j. IsAsking (timer_parts m) j start (start + c)) (sym (timer_state m c pins run))
     (record { timing = a.timing; tim_on = a.tim_on; keeps = a.keeps; asks = λ room. a.asks (omega (arith, room)) }))
     h on
 
-pub asking_then : (k e f : Clock) (a b c : ℕ) → (total k + b < 8192 + a → IsLater k e a b) → IsAsking k e a b
+pub asking_then : (k e f : TimerParts) (a b c : ℕ) → (total k + b < 8192 + a → IsLater k e a b) → IsAsking k e a b
     → IsAsking e f b c → IsAsking k f a c
 asking_then k e f a b c later h g =
     record { timing = g.timing; tim_on = g.tim_on; keeps = λ q. g.keeps (h.keeps q); asks = λ room. by room (leb (8192 + a) (total k + b)) refl }
@@ -121,7 +121,7 @@ asking_then k e f a b c later h g =
         let l = later (grind (arith, nat_tests, x)) in
         let count : total e + a ≡ total k + b = l.count in g.asks (omega (arith, count, room))
 
-pub later_then : (k e f : Clock) (a b c : ℕ) → IsLater k e a b → IsLater e f b c → IsLater k f a c
+pub later_then : (k e f : TimerParts) (a b c : ℕ) → IsLater k e a b → IsLater e f b c → IsLater k f a c
 later_then k e f a b c h g =
     let l1 : total e + a ≡ total k + b = h.count in
     let l2 : total f + b ≡ total e + c = g.count in

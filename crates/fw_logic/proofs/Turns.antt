@@ -16,9 +16,9 @@ use Rattle.fw_logic.specs.Executed.{IsFit}
 use Rattle.fw_logic.proofs.Chain.{stepped_is}
 use Rattle.fw_logic.proofs.Following.{Stays, stays_of, effect_stays, effect_column, follows}
 use Rattle.fw_logic.proofs.Image.{row_is}
-use Rattle.fw_logic.proofs.Clock.{is_closed}
+use Rattle.fw_logic.proofs.TimerParts.{is_closed}
 use Rattle.fw_logic.proofs.Leads.{LetsNone}
-use Rattle.fw_logic.proofs.Placed.{in_main, in_service, is_behind, main_at, service_at, main_text, service_text}
+use Rattle.fw_logic.proofs.Placed.{in_main, in_service, is_later_than, main_at, service_at, main_text, service_text}
 use Rattle.fw_logic.proofs.Written.{text_is}
 
 -- in the main program: no service, nothing on the stack; and in the service, with its way back on it. The external
@@ -128,11 +128,11 @@ module _ (bytes : List ℕ) (has : HasKernel bytes) (on : Bool) where
           subst (λ (s : Stepped). GoesOn m s.cpu) is
           (inr (record { place = refl; stays = ap enter h.stays }, refl, refl))
 
-  -- the service goes on, and behind the reading of the columns port 1 stays
+  -- the service goes on, and after the reading of the columns port 1 stays
   pub serve_step : (pins : Pins) (m : Cpu) (n : Stepped) → IsServing on m → LetsNone bytes m
       → stepped bytes pins m ≡ Some n
       → IsServing on n.cpu
-      × (is_behind m.pc ≡ true → (is_behind n.cpu.pc ≡ true) × (n.cpu.p1 ≡ m.p1))
+      × (is_later_than m.pc ≡ true → (is_later_than n.cpu.pc ≡ true) × (n.cpu.p1 ≡ m.p1))
   serve_step pins m n h lets step =
       let r = service_at m.pc h.place in
       let low : m.mb ≡ false = ap (λ (s : Stays). s.mb) h.stays in
@@ -147,14 +147,14 @@ module _ (bytes : List ℕ) (has : HasKernel bytes) (on : Bool) where
       let there : Some after ≡ Some n = sym made ∙ step in
       let is : after ≡ n = cc in
       subst (λ (s : Stepped). IsServing on s.cpu
-      × (is_behind m.pc ≡ true → (is_behind s.cpu.pc ≡ true) × (s.cpu.p1 ≡ m.p1))) is (
+      × (is_later_than m.pc ≡ true → (is_later_than s.cpu.pc ≡ true) × (s.cpu.p1 ≡ m.p1))) is (
         record {
           place = follows in_service r.row.op bytes pins m steady low (r.leads closed);
           stays = effect_stays r.row.op bytes pins (past m) steady ∙ h.stays;
         },
         λ late.
             let c = r.column closed late in (
-              follows is_behind r.row.op bytes pins m steady low c.1,
+              follows is_later_than r.row.op bytes pins m steady low c.1,
               effect_column r.row.op bytes pins (past m) c.0,
             ),
       )

@@ -1,8 +1,8 @@
 -- The joint run of an image that has the kernel, under any lists of edges and events.
 use Rattle.std.specs.Prelude.{◌≡◌, ◌≤◌, ℕ, Bool, true, List, Some}
-use Rattle.board_lines.specs.Cadence.{IsNear}
-use Rattle.board_lines.specs.declared.event.Edge.{Edge}
-use Rattle.board_lines.specs.declared.event.HostEvent.{HostEvent}
+use Rattle.board_terms.specs.Cadence.{IsNear}
+use Rattle.board_terms.specs.declared.event.Edge.{Edge}
+use Rattle.board_terms.specs.declared.event.HostEvent.{HostEvent}
 use Rattle.mcs48_core.specs.Step.{stepped, executed, row_at}
 use Rattle.fw_kernel.specs.declared.bytes.TheConstants.{KERNEL}
 use Rattle.fw_kernel.specs.declared.labels.TheConstants.{TICK}
@@ -13,8 +13,8 @@ use Rattle.joint_run.specs.Starts.{at_tick, IsStart, IsEnd}
 use Rattle.joint_run.specs.Joint.{Beside, joint_board, joint_start}
 
 -- what is answered of a machine is whether its state is a tick start, under every history and whatever is beside
-abbrev pub TellsTick : Machine → Bool → Type 0
-TellsTick m answer = (edges : List Edge) (events : List HostEvent) (w : World Beside) → w.cpu ≡ m.mcu
+abbrev pub DecidesTick : Machine → Bool → Type 0
+DecidesTick m answer = (edges : List Edge) (events : List HostEvent) (w : World Beside) → w.cpu ≡ m.mcu
     → answer ≡ at_tick (joint_board edges events) TICK w
 
 -- at a tick start the next step executes the instruction that the kernel has at TICK

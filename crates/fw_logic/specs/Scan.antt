@@ -1,4 +1,4 @@
--- What a tick reads, keeps and puts. A tick is told from its start's state to that of the next start.
+-- What a tick reads, keeps and puts. A tick is described from its start's state to that of the next start.
 use Rattle.std.specs.Prelude.{ℕ, ◌+◌, ◌-◌, ◌*◌}
 use Rattle.fw_kernel.specs.declared.cells.TheConstants.{LIGHTS}
 use Rattle.mcs48_core.specs.declared.levels.Pins.{Pins}

@@ -1,6 +1,6 @@
 -- A tick from its start: its columns, and the next start if its work ends in time.
 use Rattle.std.specs.Prelude.{◌≡◌, ◌≤◌, ◌<◌, ℕ, suc, ◌+◌, ◌-◌, ◌*◌, true, false, List, length, slice_index, bit_xor}
-use Rattle.board_lines.specs.Cadence.{IsNear}
+use Rattle.board_terms.specs.Cadence.{IsNear}
 use Rattle.mcs48_core.specs.declared.levels.Pins.{Pins}
 use Rattle.mcs48_core.specs.declared.processor.Count.TheVariants.{Timer}
 use Rattle.mcs48_core.specs.Cpu.{Cpu}
@@ -71,7 +71,7 @@ pub record IsDone {S : Type 0} (w e : World S) : Type 0 where
   pub back : slice_index e.cpu.ram 8 ≡ WAIT
   pub status : slice_index e.cpu.ram 9 ≡ 16
   pub memory : length e.cpu.ram ≡ 128
-  pub behind : w.cycle ≤ e.cycle
+  pub afterwards : w.cycle ≤ e.cycle
   pub in_time : e.cycle ≤ w.cycle + 2040
 
 -- the next tick start: 2,048 cycles later, but for how late both are, so it keeps the cadence if this one does; data

@@ -21,7 +21,7 @@ pub fn putting_lights()
     ensures lights { LampsLaw }
 {}
 
-/// The looks: the clock in cycle 16 past `LOOKS`, data in cycle 18. With the clock low the run comes to `PULLED`, with
+/// The looks: the clock in cycle 16 past `LOOKS`, data in cycle 18. With the clock low the run reaches `PULLED`, with
 /// data low to `GOT`, and else to `SEND`; both latches stay. Nothing is done when it is called; the law is its
 /// contract.
 pub fn looking_at_wires()

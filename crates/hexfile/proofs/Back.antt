@@ -58,7 +58,7 @@ sum_back bytes =
     let total : sum (bytes ++ sum_byte bytes ∷ []) ≡ sum bytes + sum_byte bytes = grind (arith, sum_by-append) in
     ap (λ n. n % 256) total ∙ sum_zero (sum bytes)
 
--- the whole of a list stands before what was appended
+-- the whole of a list is before what was appended
 pub take_whole : {X : Type 0} (n : ℕ) (xs ys : List X) → length xs ≡ n → take n (xs ++ ys) ≡ xs
 take_whole n xs ys h = take-append-le n xs ys (omega arith) ∙ take_all n xs (omega arith)
 

@@ -29,7 +29,7 @@ blank = replicate 16 None
 drop_whole : {X : Type 0} (n : ℕ) (xs ys : List X) → length xs ≡ n → drop n (xs ++ ys) ≡ ys
 drop_whole n xs ys h = drop-append-le n xs ys (omega arith) ∙ ap (λ t. t ++ ys) (drop_all n xs (omega arith))
 
--- the memory with a row's data behind what stands before it
+-- the memory with a row's data after what is before it
 with_row : (front rest : List (Option ℕ)) (place : ℕ) (row : List ℕ) → length front ≡ place → length row ≡ 16
     → with_data (front ++ (blank ++ rest)) (row_record place row) ≡ (front ++ map Some row) ++ rest
 with_row front rest place row at long =
@@ -96,14 +96,14 @@ take_row bytes place h =
     let count : 16 ≡ place + 16 - place = omega arith in
     take-add place 16 bytes ∙ ap (λ n. take place bytes ++ take n (drop place bytes)) count
 
--- what the rows behind this one come to
+-- what the rows after this one come to
 abbrev pub ComesBack : List ℕ → ℕ → List (Option ℕ) → List ℕ → Type 0
 ComesBack bytes place rest text =
     (line : ℕ) (front : List (Option ℕ)) → length front ≡ place → image_of front ≡ take place bytes
     → hex_from line (going (front ++ rest)) (lines text) ≡ Ok bytes
 
 module _ (bytes : List ℕ) (place line : ℕ) (front rest : List (Option ℕ)) (more : List ℕ) where
-  -- one row, and the rows behind it
+  -- one row, and the rows after it
   row_step : place + 16 ≤ 2048 → length bytes ≡ 2048 → AllBytes bytes → length front ≡ place
       → image_of front ≡ take place bytes → ComesBack bytes (place + 16) rest more → (b : Bool)
       → list_all (λ byte. byte == 0) (slice_range bytes place (place + 16)) ≡ b

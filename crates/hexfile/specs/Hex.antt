@@ -53,7 +53,7 @@ hex_from number before [] = outcome_of number before
 hex_from number before (line ∷ more) =
     and_then_at number (after_line before line) (λ after. hex_from (number + 1) after more)
 
--- what a HEX text comes to: its lines are judged in order; a CR before an LF is dropped, and a last line without LF
+-- the outcome of a HEX text: its lines are judged in order; a CR before an LF is dropped, and a last line without LF
 -- counts
 unfoldable pub hex_of : List ℕ → HexOutcome
 hex_of text = hex_from 1 at_first (lines text)

@@ -2,24 +2,24 @@
 use Rattle.std.proofs.Common.{◌≡◌, ℕ, Bool, List, ◌++◌, append_assoc, ap, ◌∙◌}
 use Rattle.std.specs.declared.option.Option.{Option}
 use Rattle.ctl_core.specs.declared.controller.Did.{Did}
-use Rattle.ctl_link.specs.declared.port.Port.{Port}
+use Rattle.ctl_link.specs.declared.port.LinkEnd.{LinkEnd}
 use Rattle.ctl_link.specs.Link.{broken_off, settled}
 use Rattle.pc_tables.specs.declared.item.Item.{Item}
-use Rattle.board_lines.specs.declared.event.HostEvent.{HostEvent}
+use Rattle.board_terms.specs.declared.event.HostEvent.{HostEvent}
 use Rattle.host_turn.specs.declared.desk.Desk.{Desk}
 use Rattle.host_turn.specs.Host.{Host, event_turn, bios_turn}
 use Rattle.host_turn.specs.Cycle.{cycled, host_of, said_of, with_host}
 
 module _ {F : Type 0} (breaks : F → Bool) (now : ℕ) (next : Option HostEvent) (d d1 d2 : Desk F)
     (e1 : d1 ≡ with_host (event_turn now next (host_of d)).host d)
-    (e2 : d2 ≡ with_host (bios_turn now d1.port.filled (host_of d1)).host d1) (q : Port F) (e3 : q ≡ broken_off breaks now d2.port) where
+    (e2 : d2 ≡ with_host (bios_turn now d1.port.filled (host_of d1)).host d1) (q : LinkEnd F) (e3 : q ≡ broken_off breaks now d2.port) where
   h1 : Host
   h1 = (event_turn now next (host_of d)).host
 
   both : d2 ≡ with_host (bios_turn now d.port.filled (event_turn now next (host_of d)).host).host d
   both = e2 ∙ ap (λ (x : Desk F). with_host (bios_turn now x.port.filled (host_of x)).host x) e1
 
-  pub going_desk : (p : Port F) → p ≡ (settled now q).port → record d2 { port = p } ≡ (cycled breaks now next d).desk
+  pub going_desk : (p : LinkEnd F) → p ≡ (settled now q).port → record d2 { port = p } ≡ (cycled breaks now next d).desk
   going_desk p e =
       ap (λ r. record d2 { port = r }) (e ∙ ap (λ r. (settled now r).port) e3)
       ∙ ap (λ (x : Desk F). record x { port = (settled now (broken_off breaks now x.port)).port }) both

@@ -4,13 +4,13 @@ use Rattle.std.specs.Prelude.{if◌then◌else◌}
 use Rattle.std.specs.declared.option.Option.{Option}
 use Rattle.ctl_link.specs.declared.link.Link.{Link}
 use Rattle.ctl_link.specs.Empty.{fits, IsEmptyUnlessHeld}
-use Rattle.ctl_link.specs.declared.port.Port.{Port}
+use Rattle.ctl_link.specs.declared.port.LinkEnd.{LinkEnd}
 use Rattle.ctl_link.specs.Link.{broken_off}
 use Rattle.ctl_link.specs.Pulls.{KeepsPull, BeginsPull}
-use Rattle.ctl_link.proofs.Breaks.{kept_behind, begun_behind}
-use Rattle.board_lines.specs.declared.event.HostAct.{HostAct}
-use Rattle.board_lines.specs.declared.event.HostAct.TheVariants.{Write60, Write64, Read60, Mask, Unmask, Take, Status, Flip}
-use Rattle.board_lines.specs.declared.event.HostEvent.{HostEvent}
+use Rattle.ctl_link.proofs.Breaks.{kept_after, begun_after}
+use Rattle.board_terms.specs.declared.event.HostAct.{HostAct}
+use Rattle.board_terms.specs.declared.event.HostAct.TheVariants.{Write60, Write64, Read60, Mask, Unmask, Take, Status, Flip}
+use Rattle.board_terms.specs.declared.event.HostEvent.{HostEvent}
 use Rattle.host_turn.specs.declared.desk.Desk.{Desk}
 use Rattle.host_turn.specs.Host.{Host, acted, acted_where, event_turn, bios_turn, interrupts, read_by_bios, in_silence, is_done}
 use Rattle.host_turn.specs.Cycle.{host_of, with_host}
@@ -56,13 +56,13 @@ module _ (F : Type 0) (now : ℕ) (next : Option HostEvent) (d d1 d2 : Desk F) (
       subst (λ (x : Desk F). IsEmptyUnlessHeld x.port) (sym e1) (event_fits F d.port.link now next (host_of d) f) in
       subst (λ (x : Desk F). IsEmptyUnlessHeld x.port) (sym e2) (bios_fits F d1.port.link now d1.port.filled (host_of d1) after)
 
-  module _ (breaks : F → Bool) (q : Port F) (e3 : q ≡ broken_off breaks now d2.port) where
+  module _ (breaks : F → Bool) (q : LinkEnd F) (e3 : q ≡ broken_off breaks now d2.port) where
     pub kept_before : (l : Link F) → KeepsPull now q.link l → KeepsPull now d.port.link l
     kept_before l k =
         subst (λ (x : Link F). KeepsPull now x l) same_link
-        (kept_behind breaks now d2.port l (subst (λ (r : Port F). KeepsPull now r.link l) e3 k))
+        (kept_after breaks now d2.port l (subst (λ (r : LinkEnd F). KeepsPull now r.link l) e3 k))
 
     pub begun_before : (l : Link F) → BeginsPull now q.link l → BeginsPull now d.port.link l
     begun_before l k =
         subst (λ (x : Link F). BeginsPull now x l) same_link
-        (begun_behind breaks now d2.port l (subst (λ (r : Port F). BeginsPull now r.link l) e3 k))
+        (begun_after breaks now d2.port l (subst (λ (r : LinkEnd F). BeginsPull now r.link l) e3 k))

@@ -10,10 +10,10 @@ use Rattle.ctl_core.specs.declared.port.Input.{Input}
 use Rattle.ctl_core.specs.declared.controller.Did.TheVariants.{Nothing}
 use Rattle.ctl_link.specs.declared.link.Link.{Link}
 use Rattle.ctl_link.specs.declared.link.Link.TheVariants.{Free, Hold, Ask, Request, Busy}
-use Rattle.ctl_link.specs.declared.port.Port.{Port}
+use Rattle.ctl_link.specs.declared.port.LinkEnd.{LinkEnd}
 use Rattle.ctl_link.specs.Link.{Settled, broken_off, settled, is_busy, took_where, held_since, link_after, moves_link}
 use Rattle.ctl_link.proofs.Breaks.{unbroken}
-use Rattle.board_lines.specs.declared.event.HostEvent.{HostEvent}
+use Rattle.board_terms.specs.declared.event.HostEvent.{HostEvent}
 use Rattle.host_turn.specs.declared.desk.Desk.{Desk}
 use Rattle.host_turn.specs.Host.{Host, Turn, event_turn, bios_turn, turn, acted_where, in_silence, read_by_bios, is_done, waits}
 use Rattle.host_turn.specs.Cycle.{cycled, ends_cycle, host_of}
@@ -24,7 +24,7 @@ no_input None h = refl
 no_input (Some x) h = absurd cc
 
 -- the settling, with an empty input buffer and nothing to stop for
-settles_free : {F : Type 0} (now : ℕ) (p : Port F) (l : Link F) (awaits : Bool) → is_free l ≡ true
+settles_free : {F : Type 0} (now : ℕ) (p : LinkEnd F) (l : Link F) (awaits : Bool) → is_free l ≡ true
     → (took_where now (held_since now awaits l) None (record p { link = l; awaits = awaits }))
     ≡ record { port = record p { link = l; awaits = awaits }; did = Nothing }
 settles_free now p Free true h = refl
@@ -62,7 +62,7 @@ pub rests : {F : Type 0} (breaks : F → Bool) (now : ℕ) (next : Option HostEv
     → (is_at_rest d && not (is_due now next)) ≡ true
     → cycled breaks now next d ≡ record { desk = d; items = []; done = false }
 rests {F = F} breaks now next d rest =
-    let p : Port F = d.port in
+    let p : LinkEnd F = d.port in
     let no_in : Bool = not (is_some p.core.input) in
     let no_out : Bool = not p.core.output_full in
     let idle : is_idle p.core ≡ true = and-right (is_free p.link) (is_idle p.core) (and-left (is_at_rest d) (not (is_due now next)) rest) in

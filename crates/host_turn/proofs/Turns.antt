@@ -1,6 +1,6 @@
 -- The host's turn in a run.
 use Rattle.std.specs.Prelude.{ℕ, List, slice_get}
-use Rattle.board_lines.specs.declared.event.HostEvent.{HostEvent}
+use Rattle.board_terms.specs.declared.event.HostEvent.{HostEvent}
 use Rattle.host_turn.specs.Host.{Turn, turn}
 use Rattle.host_turn.specs.Cycle.{host_of}
 use Rattle.host_turn.specs.Run.{Side, desk_of}

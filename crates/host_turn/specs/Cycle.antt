@@ -4,13 +4,13 @@ use Rattle.std.specs.Prelude.{ℕ, Bool, false, List, [], ◌∷◌, ◌++◌}
 use Rattle.std.specs.declared.option.Option.{Option}
 use Rattle.ctl_core.specs.declared.controller.Did.{Did}
 use Rattle.ctl_core.specs.declared.controller.Did.TheVariants.{Nothing, ToKeyboard, Output, Pulse}
-use Rattle.ctl_link.specs.declared.port.Port.{Port}
+use Rattle.ctl_link.specs.declared.port.LinkEnd.{LinkEnd}
 use Rattle.ctl_link.specs.Link.{Settled, broken_off, settled, port_at_start}
 use Rattle.pc_tables.specs.declared.item.Item.{Item}
 use Rattle.pc_tables.specs.declared.item.Item.TheVariants.{Output as OutputItem, Pulse as PulseItem}
 use Rattle.int09.specs.Bios.{State}
 use Rattle.host_turn.specs.declared.desk.Desk.{Desk}
-use Rattle.board_lines.specs.declared.event.HostEvent.{HostEvent}
+use Rattle.board_terms.specs.declared.event.HostEvent.{HostEvent}
 use Rattle.host_turn.specs.Host.{Host, Turn, turn, is_done}
 
 -- the PC's side at its start, with this INT 09h
@@ -36,14 +36,14 @@ with_host h d = record {
   bios = h.bios;
 }
 
--- what a cycle comes to: the state after it, what was said, in order, and whether the host's next event was done
+-- the outcome of a cycle: the state after it, what was said, in order, and whether the host's next event was done
 pub record Cycled (F : Type 0) : Type 0 where
   pub desk : Desk F
   pub items : List Item
   pub done : Bool
 
 -- the controller after the host's turn
-abbrev pub port_by : {F : Type 0} → Turn → Port F → Port F
+abbrev pub port_by : {F : Type 0} → Turn → LinkEnd F → LinkEnd F
 port_by t p = record p { core = t.host.core; flip = t.host.flip }
 
 -- after the host's turn and the settling

@@ -8,10 +8,10 @@ use Rattle.pc_tables.specs.declared.item.Item.{Item}
 use Rattle.pc_tables.specs.declared.item.Item.TheVariants.{Port, Read, Taken, Status}
 use Rattle.int09.specs.Bios.{State, Effect, first_word, without_first}
 use Rattle.int09.specs.Rules.{fed}
-use Rattle.board_lines.specs.declared.event.HostAct.{HostAct}
-use Rattle.board_lines.specs.declared.event.HostAct.TheVariants.{Write60, Write64, Read60, Mask, Unmask, Take, Flip}
-use Rattle.board_lines.specs.declared.event.HostAct.TheVariants.{Status as AskStatus}
-use Rattle.board_lines.specs.declared.event.HostEvent.{HostEvent}
+use Rattle.board_terms.specs.declared.event.HostAct.{HostAct}
+use Rattle.board_terms.specs.declared.event.HostAct.TheVariants.{Write60, Write64, Read60, Mask, Unmask, Take, Flip}
+use Rattle.board_terms.specs.declared.event.HostAct.TheVariants.{Status as AskStatus}
+use Rattle.board_terms.specs.declared.event.HostEvent.{HostEvent}
 
 -- what the host sees and changes: the controller's buffers, whether it has masked the interrupt, and INT 09h; and the
 -- bit that noise turns round in the next frame of the keyboard, or none
@@ -21,7 +21,7 @@ pub record Host : Type 0 where
   pub bios : State
   pub flip : Option ℕ
 
--- what a turn comes to: the state after it, what was said, in order
+-- the outcome of a turn: the state after it, what was said, in order
 pub record Turn : Type 0 where
   pub host : Host
   pub items : List Item

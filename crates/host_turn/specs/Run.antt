@@ -1,18 +1,18 @@
 -- A run of the PC's side under the host's events.
 use Rattle.std.specs.Prelude.{ℕ, ◌+◌, Bool, false, ◌==◌, List, [], ◌∷◌, ◌++◌, map, slice_get, if◌then◌else◌}
-use Rattle.ctl_link.specs.declared.port.Port.{Port}
+use Rattle.ctl_link.specs.declared.port.LinkEnd.{LinkEnd}
 use Rattle.ctl_link.specs.Link.{port_at_start}
 use Rattle.pc_tables.specs.declared.item.Item.{Item}
 use Rattle.pc_tables.specs.declared.item.Item.TheVariants.{Lights}
 use Rattle.int09.specs.Bios.{State, start}
-use Rattle.board_lines.specs.declared.event.HostEvent.{HostEvent}
+use Rattle.board_terms.specs.declared.event.HostEvent.{HostEvent}
 use Rattle.host_turn.specs.declared.desk.Desk.{Desk}
 use Rattle.host_turn.specs.declared.stamped.Stamped.{Stamped}
 use Rattle.host_turn.specs.Cycle.{Cycled, cycled}
 
 -- the controller with its link, the mask, INT 09h, how many events of the host are done, and what was said so far
 pub record Side (F : Type 0) : Type 0 where
-  pub port : Port F
+  pub port : LinkEnd F
   pub masked : Bool
   pub bios : State
   pub done : ℕ

@@ -8,9 +8,9 @@ ghost use Rattle.host_turn.specs.Rest.{is_at_rest, is_due};
 
 use crate::events::is_due;
 use arrayvec::ArrayVec;
-use board_lines::HostEvent;
+use board_terms::HostEvent;
 use ctl_core::Did;
-use ctl_link::{Link, Passing, Port};
+use ctl_link::{Link, LinkEnd, Passing};
 use int09::Bios;
 use pc_tables::Item;
 
@@ -18,7 +18,7 @@ use pc_tables::Item;
 #[derive(Drop)]
 pub struct Desk<F> {
     /// The controller with its link.
-    pub port: Port<F>,
+    pub port: LinkEnd<F>,
     /// Whether the host has masked the interrupt.
     pub masked: bool,
     /// INT 09h and its buffer.
@@ -32,7 +32,7 @@ impl<F: Drop> Desk<F> {
         ensures empty { IsEmptyUnlessHeld result.port }
     {
         Desk {
-            port: Port::new(),
+            port: LinkEnd::new(),
             masked: false,
             bios,
         }

@@ -7,7 +7,7 @@ ghost use Rattle.host_turn.specs.Rest.{is_due as is_due_at};
 
 use crate::desk::Desk;
 use arrayvec::ArrayVec;
-use board_lines::{HostAct, HostEvent};
+use board_terms::{HostAct, HostEvent};
 use ctl_core::Port as HostPort;
 use pc_tables::Item;
 

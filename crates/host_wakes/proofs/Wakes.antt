@@ -9,9 +9,9 @@ use Rattle.ctl_core.specs.declared.port.Input.{Input}
 use Rattle.ctl_core.specs.declared.controller.Did.TheVariants.{Nothing}
 use Rattle.ctl_link.specs.declared.link.Link.{Link}
 use Rattle.ctl_link.specs.declared.link.Link.TheVariants.{Free, Hold, Ask, Request, Busy}
-use Rattle.ctl_link.specs.declared.port.Port.{Port}
+use Rattle.ctl_link.specs.declared.port.LinkEnd.{LinkEnd}
 use Rattle.ctl_link.specs.Link.{Settled, settled, took_where, held_since, link_after, moves_link, may_break, broken_off}
-use Rattle.board_lines.specs.declared.event.HostEvent.{HostEvent}
+use Rattle.board_terms.specs.declared.event.HostEvent.{HostEvent}
 use Rattle.host_turn.specs.declared.desk.Desk.{Desk}
 use Rattle.host_turn.specs.Host.{Host, Turn, event_turn, bios_turn, turn, acted_where, in_silence, interrupts, read_by_bios, is_done, waits}
 use Rattle.host_turn.specs.Cycle.{ends_cycle, host_of, port_by}
@@ -42,7 +42,7 @@ silent y None h e = refl
 silent y (Some event) h e = ap (λ c. acted_where c event.act h) e
 
 module _ {F : Type 0} where
-  no_take : (y : ℕ) (l : Link F) (awaits full : Bool) (input : Option Input) (core : ControllerState) (p : Port F)
+  no_take : (y : ℕ) (l : Link F) (awaits full : Bool) (input : Option Input) (core : ControllerState) (p : LinkEnd F)
       (end : ℕ) (nothing : Option Taken) → nothing ≡ None
       → y < take_wake l awaits full (is_some input) end
       → took_where y (held_since y awaits l) (if full then nothing else taken_from input core) p ≡ record { port = p; did = Nothing }
@@ -69,7 +69,7 @@ module _ {F : Type 0} where
   no_move y (Request byte) awaits stop end l = refl
   no_move y (Busy u) awaits stop end l = refl
 
-  no_break : (breaks : F → Bool) (y : ℕ) (p : Port F) (end : ℕ)
+  no_break : (breaks : F → Bool) (y : ℕ) (p : LinkEnd F) (end : ℕ)
       → y < break_wake breaks p.link p.awaits (is_some p.core.input) end → broken_off breaks y p ≡ p
   no_break breaks y p end l =
       elim (may_break breaks p.link && not p.awaits && is_some p.core.input) as (λ c. y < (if c then 0 else end)
@@ -81,7 +81,7 @@ module _ {F : Type 0} where
   pub sleeps : (breaks : F → Bool) (next : Option HostEvent) (d : Desk F) (end from to : ℕ)
       → to ≤ wakes breaks next d end → SleepsTo breaks next d from to
   sleeps breaks next d end from to low y l u =
-      let p : Port F = d.port in
+      let p : LinkEnd F = d.port in
       let h : Host = host_of d in
       let stop : Bool = p.core.output_full || is_disabled p.core in
       let a : ℕ = event_wake next p.core end in

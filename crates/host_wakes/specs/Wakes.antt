@@ -6,7 +6,7 @@ use Rattle.ctl_core.specs.Controller.{ControllerState, interrupt_enabled, is_dis
 use Rattle.ctl_link.specs.Link.{may_break}
 use Rattle.ctl_link.specs.declared.link.Link.{Link}
 use Rattle.ctl_link.specs.declared.link.Link.TheVariants.{Free, Hold, Ask, Request, Busy}
-use Rattle.board_lines.specs.declared.event.HostEvent.{HostEvent}
+use Rattle.board_terms.specs.declared.event.HostEvent.{HostEvent}
 use Rattle.host_turn.specs.declared.desk.Desk.{Desk}
 use Rattle.host_turn.specs.Host.{waits}
 use Rattle.host_turn.specs.Cycle.{cycled}

@@ -5,7 +5,7 @@ ghost use Rattle.ctl_core.specs.Controller.{is_disabled};
 ghost use Rattle.host_turn.specs.Host.{waits};
 ghost use Rattle.host_wakes.specs.Wakes.{event_wake, read_wake, break_wake, take_wake, link_wake, wakes, SleepsTo};
 
-use board_lines::{HostAct, HostEvent};
+use board_terms::{HostAct, HostEvent};
 use ctl_core::Controller;
 use ctl_link::{Link, Passing};
 use host_turn::Desk;

@@ -1,4 +1,4 @@
--- What INT 09h keeps, and what a byte comes to.
+-- What INT 09h keeps, and the outcome of a byte.
 use Rattle.std.specs.Prelude.{ℕ, Bool, false, nat_lt, if◌then◌else◌, List, [], ◌∷◌, ◌++◌, length, slice_get, drop}
 use Rattle.std.specs.Prelude.{Some, None}
 use Rattle.std.specs.declared.option.Option.{Option}

@@ -27,7 +27,7 @@ marks byte s =
     else if byte == 0xff then Some (record { after = s; items = Overrun ∷ Beep ∷ [] })
     else None
 
--- rule 2: SysReq, 54, is told as it goes down and up; a make while it is down is silent
+-- rule 2: SysReq, 54, is reported as it goes down and up; a make while it is down is silent
 unfoldable pub on_sysreq : ℕ → State → Option Effect
 on_sysreq byte s =
     if byte == 0xd4 then Some (says SysBreak (record s { downs = without_bit sysreq s.downs }))
@@ -130,6 +130,6 @@ abbrev pub first_that_fits : List Rule → ℕ → State → Effect
 first_that_fits [] byte s = quiet s
 first_that_fits (rule ∷ rules) byte s = unwrap_or (rule byte s) (first_that_fits rules byte s)
 
--- what a byte comes to
+-- the outcome of a byte
 unfoldable pub fed : ℕ → State → Effect
 fed byte s = first_that_fits nine_rules byte s

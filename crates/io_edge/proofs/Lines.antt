@@ -33,7 +33,7 @@ length_some text i h =
 pub length_none : (text : List ℕ) → position is_lf text ≡ None → line_length text ≡ length text
 length_none text h = (ends_at text).1 (none_passes is_lf text h)
 
--- the first line, and those behind it
+-- the first line, and those after it
 abbrev IsParted : List ℕ → List (List ℕ) → ℕ → Type 0
 IsParted text lines n = lines ≡ take n text ∷ lines_in (drop n text)
 
@@ -55,7 +55,7 @@ pub parted : (text : List ℕ) → 0 < length text → lines_in text ≡ take (l
 parted [] some = absurd (omega arith)
 parted (byte ∷ text) some = parted_on (byte == 10) byte text (line_length text) (parted text) (λ none. no_line text none)
 
--- the same behind a place of the text
+-- the same after a place of the text
 whole_rest : (text : List ℕ) (start : ℕ) → take (length text - start) (drop start text) ≡ drop start text
 whole_rest text start = take_all (length text - start) (drop start text) (omega (arith, length-drop start text))
 

@@ -17,12 +17,12 @@ EndsLine text = (front : List ℕ) × (text ≡ front ++ 10 ∷ [])
 abbrev pub AreLines : List ℕ → Type 0
 AreLines text = (text ≡ []) ⊎ EndsLine text
 
-pub ends_behind : (front text : List ℕ) → EndsLine text → EndsLine (front ++ text)
-ends_behind front text h = (front ++ h.0, ap (λ v. front ++ v) h.1 ∙ sym (append_assoc front h.0 (10 ∷ [])))
+pub ends_afterwards : (front text : List ℕ) → EndsLine text → EndsLine (front ++ text)
+ends_afterwards front text h = (front ++ h.0, ap (λ v. front ++ v) h.1 ∙ sym (append_assoc front h.0 (10 ∷ [])))
 
-pub lines_behind : (a b : List ℕ) → AreLines a → AreLines b → AreLines (a ++ b)
-lines_behind a b first (inr second) = inr (ends_behind a b second)
-lines_behind a b first (inl none) = subst AreLines (sym (ap (λ v. a ++ v) none ∙ append-nil a)) first
+pub lines_after : (a b : List ℕ) → AreLines a → AreLines b → AreLines (a ++ b)
+lines_after a b first (inr second) = inr (ends_afterwards a b second)
+lines_after a b first (inl none) = subst AreLines (sym (ap (λ v. a ++ v) none ∙ append-nil a)) first
 
 -- a text that ends with LF has a line
 by_first : (byte : ℕ) (lf : Bool) (lines : List (List ℕ)) → (l : List ℕ) × (ls : List (List ℕ))
@@ -82,58 +82,58 @@ went_on here more h = ap (λ b. if b then here else all_offered more here.sink) 
 stopped : (here : Offered) (more : List (List ℕ)) → here.failed ≡ true → go_on here more ≡ here
 stopped here more h = ap (λ b. if b then here else all_offered more here.sink) h
 
--- how a text stands to a sink that tells itself
-abbrev pub Stands : Bool → Option HeldBytes → Option HeldBytes → List ℕ → Type 0
-Stands failed before after text =
+-- how a text is to a sink that shows itself
+abbrev pub HoldsLines : Bool → Option HeldBytes → Option HeldBytes → List ℕ → Type 0
+HoldsLines failed before after text =
     IfSome before (λ sink. (after ≡ Some (said text sink).sink) × ((said text sink).failed ≡ failed))
 
-stands_then : (failed : Bool) (x y z : Option HeldBytes) (a b : List ℕ) → AreLines a → Stands false x y a
-    → Stands failed y z b → Stands failed x z (a ++ b)
-stands_then failed None y z a b lines first second = tt
-stands_then failed (Some sink) y z a b lines first second =
+holds_then : (failed : Bool) (x y z : Option HeldBytes) (a b : List ℕ) → AreLines a → HoldsLines false x y a
+    → HoldsLines failed y z b → HoldsLines failed x z (a ++ b)
+holds_then failed None y z a b lines first second = tt
+holds_then failed (Some sink) y z a b lines first second =
     let next = (said a sink).sink in
-    let rest : Stands failed (Some next) z b = subst (λ (o : Option HeldBytes). Stands failed o z b) first.0 second in
+    let rest : HoldsLines failed (Some next) z b = subst (λ (o : Option HeldBytes). HoldsLines failed o z b) first.0 second in
     let both : said (a ++ b) sink ≡ said b next = said_both a b sink lines ∙ went_on (said a sink) (lines_in b) first.1 in
     (rest.0 ∙ ap (λ (o : Offered). Some o.sink) (sym both), ap (λ (o : Offered). o.failed) both ∙ rest.1)
 
-stands_broken : (x z : Option HeldBytes) (a b : List ℕ) → AreLines a → Stands true x z a → Stands true x z (a ++ b)
-stands_broken None z a b lines h = tt
-stands_broken (Some sink) z a b lines h =
+holds_broken : (x z : Option HeldBytes) (a b : List ℕ) → AreLines a → HoldsLines true x z a → HoldsLines true x z (a ++ b)
+holds_broken None z a b lines h = tt
+holds_broken (Some sink) z a b lines h =
     let both : said (a ++ b) sink ≡ said a sink = said_both a b sink lines ∙ stopped (said a sink) (lines_in b) h.1 in
     (h.0 ∙ ap (λ (o : Offered). Some o.sink) (sym both), ap (λ (o : Offered). o.failed) both ∙ h.1)
 
-stands_none : (x : Option HeldBytes) → Stands false x x []
-stands_none None = tt
-stands_none (Some sink) = (refl, refl)
+holds_none : (x : Option HeldBytes) → HoldsLines false x x []
+holds_none None = tt
+holds_none (Some sink) = (refl, refl)
 
-both_told : (failed : Bool) (before after : Option HeldBytes) (text : List ℕ) → IfSome before (λ sink. (said text sink).failed ≡ failed)
-    → IfSome before (λ sink. after ≡ Some (said text sink).sink) → Stands failed before after text
-both_told failed None after text h k = tt
-both_told failed (Some sink) after text h k = (k, h)
+both_reported : (failed : Bool) (before after : Option HeldBytes) (text : List ℕ) → IfSome before (λ sink. (said text sink).failed ≡ failed)
+    → IfSome before (λ sink. after ≡ Some (said text sink).sink) → HoldsLines failed before after text
+both_reported failed None after text h k = tt
+both_reported failed (Some sink) after text h k = (k, h)
 
 -- what `say` answers
 pub is_said : (before after : Shown) (text : List ℕ) → TakesAll before.taken after.taken text → after.faults ≡ before.faults
-    → IfSome before.told (λ sink. (said text sink).failed ≡ false)
-    → IfSome before.told (λ sink. after.told ≡ Some (said text sink).sink) → IsSaid before after text
+    → IfSome before.in_memory (λ sink. (said text sink).failed ≡ false)
+    → IfSome before.in_memory (λ sink. after.in_memory ≡ Some (said text sink).sink) → IsSaid before after text
 is_said before after text all steady stood so =
-    record { all = all; steady = steady; lines = both_told false before.told after.told text stood so }
+    record { all = all; steady = steady; lines = both_reported false before.in_memory after.in_memory text stood so }
 
 pub is_broken : (before after : Shown) (text : List ℕ) → TakesPart before.taken after.taken text → Rose before.faults after.faults
-    → IfSome before.told (λ sink. (said text sink).failed ≡ true)
-    → IfSome before.told (λ sink. after.told ≡ Some (said text sink).sink) → IsBrokenOff before after text
+    → IfSome before.in_memory (λ sink. (said text sink).failed ≡ true)
+    → IfSome before.in_memory (λ sink. after.in_memory ≡ Some (said text sink).sink) → IsBrokenOff before after text
 is_broken before after text part rose failed so =
-    record { part = part; failed = rose; lines = both_told true before.told after.told text failed so }
+    record { part = part; failed = rose; lines = both_reported true before.in_memory after.in_memory text failed so }
 
 -- nothing is said
 pub none_said : (x : Shown) → IsSaid x x []
-none_said x = record { all = all_of_none x.taken; steady = refl; lines = stands_none x.told }
+none_said x = record { all = all_of_none x.taken; steady = refl; lines = holds_none x.in_memory }
 
 -- lines are said, and then a text behind them
 pub said_then_said : (x y z : Shown) (a b : List ℕ) → AreLines a → IsSaid x y a → IsSaid y z b → IsSaid x z (a ++ b)
 said_then_said x y z a b lines h k = record {
   all = all_then_all x.taken y.taken z.taken a b h.all k.all;
   steady = k.steady ∙ h.steady;
-  lines = stands_then false x.told y.told z.told a b lines h.lines k.lines;
+  lines = holds_then false x.in_memory y.in_memory z.in_memory a b lines h.lines k.lines;
 }
 
 -- or it is broken off, in what comes behind them or already in them
@@ -141,12 +141,12 @@ pub said_then_broken : (x y z : Shown) (a b : List ℕ) → AreLines a → IsSai
 said_then_broken x y z a b lines h k = record {
   part = all_then_part x.taken y.taken z.taken a b h.all k.part;
   failed = subst (λ n. Rose n z.faults) h.steady k.failed;
-  lines = stands_then true x.told y.told z.told a b lines h.lines k.lines;
+  lines = holds_then true x.in_memory y.in_memory z.in_memory a b lines h.lines k.lines;
 }
 
 pub broken_before : (x z : Shown) (a b : List ℕ) → AreLines a → IsBrokenOff x z a → IsBrokenOff x z (a ++ b)
 broken_before x z a b lines h = record {
   part = part_of_more x.taken z.taken a b h.part;
   failed = h.failed;
-  lines = stands_broken x.told z.told a b lines h.lines;
+  lines = holds_broken x.in_memory z.in_memory a b lines h.lines;
 }

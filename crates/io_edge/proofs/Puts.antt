@@ -60,7 +60,7 @@ offering_first (Some sink) piece = (sink, length piece, refl, omega arith, refl)
 rest_is : (piece : List ℕ) (done : ℕ) → take (length piece - done) (drop done piece) ≡ drop done piece
 rest_is piece done = take_all (length piece - done) (drop done piece) (omega (arith, length-drop done piece))
 
--- what is known of a put of the rest to a sink is known of the one that stands now
+-- what is known of a put of the rest to a sink is known of the one that is now
 of_rest : (P : HeldBytes → List ℕ → Type 0) (now : Option HeldBytes) (held : HeldBytes) (piece : List ℕ) (done : ℕ)
     → now ≡ Some held → IfSome now (λ s. P s (take (length piece - done) (drop done piece))) → P held (drop done piece)
 of_rest P now held piece done is h =
@@ -143,7 +143,7 @@ pub ended_after : (before after : Option HeldBytes) (piece : List ℕ) (failed :
 ended_after None after piece failed h = tt
 ended_after (Some sink) after piece failed h = h.1 ∙ ap (λ (o : Offered). Some o.sink) h.2
 
--- how far a text has come, line by line: to this sink the lines behind this place are still to be offered, and then all
+-- how far a text has come, line by line: to this sink the lines after this place are still to be offered, and then all
 -- is as it is after the whole text
 abbrev pub Saying : Option HeldBytes → Option HeldBytes → List ℕ → ℕ → Type 0
 Saying before now text start =
@@ -165,7 +165,7 @@ line_at text start end below is =
     ∙ ap (λ n. take n (drop start text) ∷ lines_in (drop n (drop start text))) size
     ∙ ap (λ ls. take (end - start) (drop start text) ∷ lines_in ls) rest
 
--- a fact of the sink that stands now
+-- a fact of the sink that is now
 of_now : (P : HeldBytes → Type 0) (now : Option HeldBytes) (held : HeldBytes) → now ≡ Some held → IfSome now P → P held
 of_now P now held is h = subst (λ (o : Option HeldBytes). IfSome o P) is h
 

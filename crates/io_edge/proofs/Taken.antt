@@ -14,12 +14,12 @@ takes_none (Some before) text = ap (λ bytes. Some bytes) (sym (append-nil befor
 takes_none None text = refl
 
 -- i bytes, and then n of what is behind them
-takes_behind : (text : List ℕ) (i n : ℕ) (a b c : Option (List ℕ)) → Takes a b text i → Takes b c (drop i text) n → Takes a c text (i + n)
-takes_behind text i n (Some before) b c first second =
+takes_after : (text : List ℕ) (i n : ℕ) (a b c : Option (List ℕ)) → Takes a b text i → Takes b c (drop i text) n → Takes a c text (i + n)
+takes_after text i n (Some before) b c first second =
     subst (λ (x : Option (List ℕ)). Takes x c (drop i text) n) first second
     ∙ ap (λ bytes. Some bytes)
     (append_assoc before (take i text) (take n (drop i text)) ∙ ap (λ bytes. before ++ bytes) (sym (take-add i n text)))
-takes_behind text i n None b c first second = subst (λ (x : Option (List ℕ)). Takes x c (drop i text) n) first second
+takes_after text i n None b c first second = subst (λ (x : Option (List ℕ)). Takes x c (drop i text) n) first second
 
 -- of a piece of m bytes the same n are taken
 takes_within : (text : List ℕ) (n m : ℕ) (b c : Option (List ℕ)) → n ≤ m → Takes b c (take m text) n → Takes b c text n
@@ -31,7 +31,7 @@ pub takes_on : (text : List ℕ) (i m n : ℕ) (a b c : Option (List ℕ)) → T
     → n ≤ length (take m (drop i text)) → Takes b c (take m (drop i text)) n → Takes a c text (i + n)
 takes_on text i m n a b c first fits second =
     let short : n ≤ m = grind (arith, length-take m (drop i text), fits) in
-    takes_behind text i n a b c first (takes_within (drop i text) n m b c short second)
+    takes_after text i n a b c first (takes_within (drop i text) n m b c short second)
 
 -- a text up to `start`, and then a whole piece up to `end`
 pub takes_piece : (text : List ℕ) (start end : ℕ) (a b c : Option (List ℕ)) → start ≤ end → end ≤ length text

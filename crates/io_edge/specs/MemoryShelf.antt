@@ -3,11 +3,11 @@ use Rattle.std.specs.Prelude.{ℕ, List, map, string_bytes}
 use Rattle.std.specs.declared.alloc.Global.{Global}
 use Rattle.std.specs.declared.vec.Vec.{Vec}
 use Rattle.std.specs.declared.string.String.{String}
-use Rattle.io_edge.specs.Shelf.{File, Told}
+use Rattle.io_edge.specs.Shelf.{File, Shelved}
 
--- what the shelf tells, and its count of faults
+-- what the shelf shows, and its count of faults
 pub record HeldFiles : Type 0 where
-  pub told : Told
+  pub in_memory : Shelved
   pub faults : ℕ
 
 -- a file for each name and its bytes, in order

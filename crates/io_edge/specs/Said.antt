@@ -58,20 +58,20 @@ abbrev pub line_length : List ℕ → ℕ
 line_length [] = 0
 line_length (byte ∷ text) = if byte == 10 then 1 else 1 + line_length text
 
--- what a sink shows of itself: the bytes that it took, and all else, if it tells them, and its count of faults
+-- what a sink shows of itself: the bytes that it took, and all else, if it shows them, and its count of faults
 pub record Shown : Type 0 where
   pub taken : Option (List ℕ)
-  pub told : Option HeldBytes
+  pub in_memory : Option HeldBytes
   pub faults : ℕ
 
 -- a text is said whole: the sink has taken all of it, line by line, and no put failed
 pub record IsSaid (before after : Shown) (text : List ℕ) : Type 0 where
   pub all : TakesAll before.taken after.taken text
   pub steady : after.faults ≡ before.faults
-  pub lines : IfSome before.told (λ sink. (after.told ≡ Some (said text sink).sink) × ((said text sink).failed ≡ false))
+  pub lines : IfSome before.in_memory (λ sink. (after.in_memory ≡ Some (said text sink).sink) × ((said text sink).failed ≡ false))
 
 -- the saying of a text is broken off: a put of its lines failed, and the sink has what it took before
 pub record IsBrokenOff (before after : Shown) (text : List ℕ) : Type 0 where
   pub part : TakesPart before.taken after.taken text
   pub failed : Rose before.faults after.faults
-  pub lines : IfSome before.told (λ sink. (after.told ≡ Some (said text sink).sink) × ((said text sink).failed ≡ true))
+  pub lines : IfSome before.in_memory (λ sink. (after.in_memory ≡ Some (said text sink).sink) × ((said text sink).failed ≡ true))

@@ -1,4 +1,4 @@
--- What a shelf that tells its files answers.
+-- What a shelf whose files are known answers.
 use Rattle.std.specs.Prelude.{◌≡◌, ℕ, nat_eq, nat_lt, List, [], ◌∷◌, length, None, Some, Ok, Err}
 use Rattle.std.specs.Prelude.{if◌then◌else◌, MatchResult}
 use Rattle.std.specs.List.{list_any}
@@ -17,12 +17,12 @@ pub record File : Type 0 where
   pub bytes : List ℕ
 
 -- a shelf's files, how many calls it has had, and the numbers of the calls, from 1, that fail
-pub record Told : Type 0 where
+pub record Shelved : Type 0 where
   pub files : List File
   pub calls : ℕ
   pub fails : List ℕ
 
--- what a call comes to: a failure, a file with too many bytes, or a file's bytes
+-- the outcome of a call: a failure, a file with too many bytes, or a file's bytes
 pub data Fetched : Type 0 where
   Fails : Fetched
   Long : Fetched
@@ -34,11 +34,11 @@ bytes_under name [] = None
 bytes_under name (file ∷ files) = if bytes_eq file.name name then Some file.bytes else bytes_under name files
 
 -- the number of the next call
-abbrev pub next_call : Told → ℕ
+abbrev pub next_call : Shelved → ℕ
 next_call shelf = one_more shelf.calls
 
 -- a call counts whatever it answers, and leaves the files and the failing numbers as they are
-abbrev pub after_fetch : Told → Told
+abbrev pub after_fetch : Shelved → Shelved
 after_fetch shelf = record shelf { calls = next_call shelf }
 
 -- the bytes, if they aren't too many
@@ -47,7 +47,7 @@ within max None = Fails
 within max (Some bytes) = if nat_lt max (length bytes) then Long else Found bytes
 
 -- a call fails exactly if its number is one that fails, or no file has the name
-abbrev pub fetched : Told → List ℕ → ℕ → Fetched
+abbrev pub fetched : Shelved → List ℕ → ℕ → Fetched
 fetched shelf name max =
     if list_any (nat_eq (next_call shelf)) shelf.fails then Fails else within max (bytes_under name shelf.files)
 

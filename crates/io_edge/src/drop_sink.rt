@@ -19,7 +19,7 @@ impl DropSink {
 }
 
 impl Sink for DropSink {
-    ghost shown = { λ s. record { taken = None; told = None; faults = 0 } };
+    ghost shown = { λ s. record { taken = None; in_memory = None; faults = 0 } };
 
     fn put(&mut self, piece: &[u8]) -> Result<usize, SinkFault>
         requires some { 0 < length piece.now }

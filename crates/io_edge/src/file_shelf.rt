@@ -6,7 +6,7 @@ ghost use Rattle.std.specs.Option.{option_map};
 ghost use Rattle.std.specs.Io.KnownBytes.{IsAtEnd};
 ghost use Rattle.io_edge.specs.Faults.{Rose};
 ghost use Rattle.io_edge.specs.Reading.{GaveAtMost, GivesFile, NoneLost};
-ghost use Rattle.io_edge.specs.Shelf.{Told, after_fetch, faults_after, fetched, IsFetch};
+ghost use Rattle.io_edge.specs.Shelf.{Shelved, after_fetch, faults_after, fetched, IsFetch};
 
 use crate::shelf::{FetchFault, Shelf};
 use std::alloc::Global;
@@ -41,7 +41,7 @@ impl<'a, R: Files> FileShelf<'a, R> {
 impl<'a, R: Files> Shelf for FileShelf<'a, R> {
     ghost faults = { λ s. s };
 
-    ghost told = { λ s. None };
+    ghost in_memory = { λ s. None };
 
     fn fetch(&mut self, alloc: Global, name: &str, max: usize) -> Result<Vec<u8>, FetchFault>
         ensures count { self.old ≤ self.new }
@@ -49,7 +49,7 @@ impl<'a, R: Files> Shelf for FileShelf<'a, R> {
         ensures steady { (result ≡ Err FetchFault.Failed) ⊎ (self.new ≡ self.old) }
         ensures size { IfOk result (λ bytes. vec_len bytes ≤ max) }
         ensures kept { None ≡ option_map after_fetch None }
-        ensures told { IfSome None (λ shelf. IsFetch (fetched shelf name.now max) result) }
+        ensures in_memory { IfSome None (λ shelf. IsFetch (fetched shelf name.now max) result) }
         ensures exact { self.new ≡ faults_after result self.old }
     {
         let fetched = read_opened(fs::open(self.rt, name), alloc, max);

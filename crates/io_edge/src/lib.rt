@@ -2,7 +2,7 @@
 //!
 //! This layer knows bytes and names. It knows nothing of what the bytes mean. A file or a stream fails as it likes, so
 //! each object counts its faults, and a failure is answered only if the count rose. What a shelf holds and what a
-//! sink has taken are told by the objects in memory alone: real files and streams tell nothing of content.
+//! sink has taken are shown by the objects in memory alone: real files and streams show nothing of content.
 //!
 //! For other programs: `MemSink::short`. The repository's own programs don't call it.
 #![tactic(auto)]

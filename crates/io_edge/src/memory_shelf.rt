@@ -5,7 +5,7 @@ ghost use Rattle.std.specs.declared.option.Option.{Option};
 ghost use Rattle.std.specs.Option.{option_map, option_copied};
 ghost use Rattle.io_edge.specs.Faults.{Rose};
 ghost use Rattle.io_edge.specs.MemoryShelf.{files_of};
-ghost use Rattle.io_edge.specs.Shelf.{Told, after_fetch, bytes_under, faults_after, fetched, IsFetch};
+ghost use Rattle.io_edge.specs.Shelf.{Shelved, after_fetch, bytes_under, faults_after, fetched, IsFetch};
 
 use crate::count::is_among;
 use crate::shelf::{FetchFault, Shelf};
@@ -26,15 +26,15 @@ impl Model for MemShelf {
 
     ghost Value = { HeldFiles };
 
-    ghost view = { λ s. record { told = record { files = files_of s.files.items; calls = s.calls; fails = s.fails.items }; faults = s.faults } };
+    ghost view = { λ s. record { in_memory = record { files = files_of s.files.items; calls = s.calls; fails = s.fails.items }; faults = s.faults } };
 }
 
 impl MemShelf {
     /// A shelf with these files, each a name and its bytes. The calls whose numbers, from 1, are in `fails` fail.
     pub fn new(files: Vec<(String, Vec<u8>)>, fails: Vec<u32>) -> MemShelf
-        ensures files { result.told.files ≡ files_of files.items }
-        ensures fails { result.told.fails ≡ fails.items }
-        ensures calls { result.told.calls ≡ 0 }
+        ensures files { result.in_memory.files ≡ files_of files.items }
+        ensures fails { result.in_memory.fails ≡ fails.items }
+        ensures calls { result.in_memory.calls ≡ 0 }
         ensures faults { result.faults ≡ 0 }
     {
         MemShelf {
@@ -49,15 +49,15 @@ impl MemShelf {
 impl Shelf for MemShelf {
     ghost faults = { λ s. s.faults };
 
-    ghost told = { λ s. Some s.told };
+    ghost in_memory = { λ s. Some s.in_memory };
 
     fn fetch(&mut self, alloc: Global, name: &str, max: usize) -> Result<Vec<u8>, FetchFault>
         ensures count { self.old.faults ≤ self.new.faults }
         ensures failed { result ≡ Err FetchFault.Failed → Rose self.old.faults self.new.faults }
         ensures steady { (result ≡ Err FetchFault.Failed) ⊎ (self.new.faults ≡ self.old.faults) }
         ensures size { IfOk result (λ bytes. vec_len bytes ≤ max) }
-        ensures kept { Some self.new.told ≡ option_map after_fetch (Some self.old.told) }
-        ensures told { IsFetch (fetched self.old.told name.now max) result }
+        ensures kept { Some self.new.in_memory ≡ option_map after_fetch (Some self.old.in_memory) }
+        ensures in_memory { IsFetch (fetched self.old.in_memory name.now max) result }
         ensures exact { self.new.faults ≡ faults_after result self.old.faults }
     {
         self.calls = self.calls.saturating_add(1);

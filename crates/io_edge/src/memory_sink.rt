@@ -85,7 +85,7 @@ impl MemSink {
 }
 
 impl Sink for MemSink {
-    ghost shown = { λ s. record { taken = Some s.taken; told = Some s; faults = s.faults } };
+    ghost shown = { λ s. record { taken = Some s.taken; in_memory = Some s; faults = s.faults } };
 
     fn put(&mut self, piece: &[u8]) -> Result<usize, SinkFault>
         requires some { 0 < length piece.now }

@@ -12,9 +12,9 @@ pub fn put_all<K: Sink>(out: &mut K, piece: &[u8]) -> Result<(), SinkFault>
     ensures steady { OnOk result ((K.shown out.new).faults ≡ (K.shown out.old).faults) }
     ensures part { OnErr result (TakesPart (K.shown out.old).taken (K.shown out.new).taken piece.now) }
     ensures failed { OnErr result (Rose (K.shown out.old).faults (K.shown out.new).faults) }
-    ensures none_failed { OnOk result (IfSome (K.shown out.old).told (λ sink. (offered piece.now sink).failed ≡ false)) }
-    ensures one_failed { OnErr result (IfSome (K.shown out.old).told (λ sink. (offered piece.now sink).failed ≡ true)) }
-    ensures after { IfSome (K.shown out.old).told (λ sink. (K.shown out.new).told ≡ Some (offered piece.now sink).sink) }
+    ensures none_failed { OnOk result (IfSome (K.shown out.old).in_memory (λ sink. (offered piece.now sink).failed ≡ false)) }
+    ensures one_failed { OnErr result (IfSome (K.shown out.old).in_memory (λ sink. (offered piece.now sink).failed ≡ true)) }
+    ensures after { IfSome (K.shown out.old).in_memory (λ sink. (K.shown out.new).in_memory ≡ Some (offered piece.now sink).sink) }
 {
     let mut done = 0;
     while done < piece.len() {

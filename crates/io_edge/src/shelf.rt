@@ -4,7 +4,7 @@ ghost use Rattle.std.specs.Prelude.{◌≡◌, ◌⊎◌, ℕ, ◌≤◌, Err, I
 ghost use Rattle.std.specs.declared.option.Option.{Option};
 ghost use Rattle.std.specs.Option.{option_map};
 ghost use Rattle.io_edge.specs.Faults.{Rose};
-ghost use Rattle.io_edge.specs.Shelf.{Told, after_fetch, fetched, IsFetch};
+ghost use Rattle.io_edge.specs.Shelf.{Shelved, after_fetch, fetched, IsFetch};
 
 use std::alloc::Global;
 use thiserror::Error;
@@ -24,11 +24,11 @@ pub enum FetchFault {
 }
 
 /// Files under names. A shelf counts its faults: the count never falls, and rises only if a fetch fails. A shelf in
-/// memory also tells its files, how many calls it has had, and which numbers of calls fail.
+/// memory also shows its files, how many calls it has had, and which numbers of calls fail.
 pub trait Shelf {
     ghost faults: { Self → ℕ };
 
-    ghost told: { Self → Option Told };
+    ghost in_memory: { Self → Option Shelved };
 
     /// The bytes under the name, at most `max` of them. It counts as one call whatever it answers.
     fn fetch(&mut self, alloc: Global, name: &str, max: usize) -> Result<Vec<u8>, FetchFault>
@@ -36,6 +36,6 @@ pub trait Shelf {
         ensures failed { result ≡ Err FetchFault.Failed → Rose (faults self.old) (faults self.new) }
         ensures steady { (result ≡ Err FetchFault.Failed) ⊎ (faults self.new ≡ faults self.old) }
         ensures size { IfOk result (λ bytes. vec_len bytes ≤ max) }
-        ensures kept { told self.new ≡ option_map after_fetch (told self.old) }
-        ensures told { IfSome (told self.old) (λ shelf. IsFetch (fetched shelf name.now max) result) };
+        ensures kept { in_memory self.new ≡ option_map after_fetch (in_memory self.old) }
+        ensures in_memory { IfSome (in_memory self.old) (λ shelf. IsFetch (fetched shelf name.now max) result) };
 }

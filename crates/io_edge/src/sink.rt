@@ -27,6 +27,6 @@ pub trait Sink {
         ensures steady { OnOk result ((shown self.new).faults ≡ (shown self.old).faults) }
         ensures failed { OnErr result (Rose (shown self.old).faults (shown self.new).faults) }
         ensures nothing { OnErr result ((shown self.new).taken ≡ (shown self.old).taken) }
-        ensures answer { IfSome (shown self.old).told (λ sink. result ≡ put_answer sink piece.now) }
-        ensures after { IfSome (shown self.old).told (λ sink. (shown self.new).told ≡ Some (after_put sink piece.now)) };
+        ensures answer { IfSome (shown self.old).in_memory (λ sink. result ≡ put_answer sink piece.now) }
+        ensures after { IfSome (shown self.old).in_memory (λ sink. (shown self.new).in_memory ≡ Some (after_put sink piece.now)) };
 }

@@ -37,7 +37,7 @@ impl<W: Write + Drop> StreamSink<W> {
 }
 
 impl<W: Write + Drop> Sink for StreamSink<W> {
-    ghost shown = { λ s. record { taken = None; told = None; faults = s.faults } };
+    ghost shown = { λ s. record { taken = None; in_memory = None; faults = s.faults } };
 
     fn put(&mut self, piece: &[u8]) -> Result<usize, SinkFault>
         requires some { 0 < length piece.now }

@@ -3,7 +3,7 @@ use Rattle.std.proofs.Common.{◌≡◌, ◌<◌, ◌-◌, ◌&&◌, ℕ, zero, 
 use Rattle.std.proofs.Common.{refl, ap, sym, subst, ◌∙◌, arith}
 use Rattle.std.specs.Prelude.{nat_lt, slice_index, slice_index_or}
 use Rattle.std.proofs.lemmas.Bool.Decides.{nat_tests}
-use Rattle.board_lines.specs.declared.event.Edge.{Edge}
+use Rattle.board_terms.specs.declared.event.Edge.{Edge}
 use Rattle.host_turn.specs.declared.stamped.Stamped.{Stamped}
 use Rattle.joint_bytes.proofs.Pushed.{later_is, one_less}
 use Rattle.joint_bytes.specs.Lists.{edge_bytes, edge_in, edges_bytes, edges_in, have_places, item_bytes, item_in, items_bytes, items_in}

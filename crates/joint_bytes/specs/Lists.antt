@@ -1,7 +1,7 @@
 -- The bytes of lists: so many places, of which the first have the list's items, and the others are zero.
 use Rattle.std.specs.Prelude.{ℕ, zero, suc, ◌&&◌, Bool, true, false, nat_lt, List, [], ◌∷◌, ◌++◌, drop, slice_index, slice_index_or}
 use Rattle.std.specs.Int.{w16, w64, to_le_bytes, from_bool}
-use Rattle.board_lines.specs.declared.event.Edge.{Edge}
+use Rattle.board_terms.specs.declared.event.Edge.{Edge}
 use Rattle.host_turn.specs.declared.stamped.Stamped.{Stamped}
 use Rattle.pc_tables.specs.declared.item.Item.TheVariants.{Port}
 use Rattle.joint_bytes.specs.Kinds.{item_by, kind_of, value_of}

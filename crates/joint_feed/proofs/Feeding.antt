@@ -3,8 +3,8 @@ use Rattle.std.proofs.Common.{◌≡◌, ◌≤◌, ◌<◌, ℕ, zero, suc, ◌
 use Rattle.std.proofs.Common.{◌++◌, length, take, drop, refl, ap, sym, ◌∙◌, arith}
 use Rattle.std.specs.Prelude.{if◌then◌else◌, nat_le}
 use Rattle.std.proofs.lemmas.Bool.Decides.{nat_tests}
-use Rattle.board_lines.specs.declared.event.Edge.{Edge}
-use Rattle.board_lines.specs.Edges.{is_made}
+use Rattle.board_terms.specs.declared.event.Edge.{Edge}
+use Rattle.board_terms.specs.Edges.{is_made}
 use Rattle.key_file.specs.Accepted.{IsThin}
 use Rattle.joint_run.specs.Due.{made_first}
 
@@ -15,10 +15,10 @@ all_of_four (a ∷ b ∷ []) = refl
 all_of_four (a ∷ b ∷ c ∷ []) = refl
 all_of_four (a ∷ b ∷ c ∷ d ∷ xs) = refl
 
-pub thin_behind : (n : ℕ) (xs : List Edge) → IsThin xs → IsThin (drop n xs)
-thin_behind zero xs h = h
-thin_behind (suc n) [] h = h
-thin_behind (suc n) (x ∷ xs) h = thin_behind n xs h.1
+pub thin_after : (n : ℕ) (xs : List Edge) → IsThin xs → IsThin (drop n xs)
+thin_after zero xs h = h
+thin_after (suc n) [] h = h
+thin_after (suc n) (x ∷ xs) h = thin_after n xs h.1
 
 -- an edge that isn't made at a cycle
 unmade : (cycle : ℕ) (e : Edge) (es : List Edge) → made_first cycle (e ∷ es) ≡ [] → is_made cycle e ≡ false
@@ -55,7 +55,7 @@ four_are_all cycle (a ∷ b ∷ c ∷ d ∷ e ∷ xs) h k =
     let off_too : nat_le (e.stamp + 4096) cycle ≡ false = grind (arith, nat_tests, later) in
     none_made cycle e xs off_too
 
--- behind those that a step makes none is made in it
+-- after those that a step makes none is made in it
 pub rest_unmade : (cycle : ℕ) (ys zs : List Edge)
     → made_first cycle zs ≡ [] → made_first cycle (drop (length (made_first cycle ys)) (ys ++ zs)) ≡ []
 rest_unmade cycle [] zs h = h

@@ -3,8 +3,8 @@ use Rattle.std.proofs.Common.{◌≡◌, ◌≤◌, ◌<◌, ℕ, suc, ◌+◌, 
 use Rattle.std.proofs.Common.{Ok, Err, refl, ap, sym, subst, ◌∙◌, ◌++◌, arith, add-one}
 use Rattle.std.proofs.lemmas.List.{length-take, length-drop}
 use Rattle.std.specs.declared.option.Option.{Option}
-use Rattle.board_lines.specs.Edges.{AreInOrder}
-use Rattle.board_lines.specs.declared.event.Edge.{Edge}
+use Rattle.board_terms.specs.Edges.{AreInOrder}
+use Rattle.board_terms.specs.declared.event.Edge.{Edge}
 use Rattle.key_file.specs.Accepted.{IsThin}
 use Rattle.host_turn.specs.declared.stamped.Stamped.{Stamped}
 use Rattle.joint_run.specs.declared.due.Due.{Due}
@@ -21,7 +21,7 @@ use Rattle.joint_feed.specs.Course.{IsOnCourse}
 use Rattle.joint_feed.specs.Ahead.{IsFed}
 use Rattle.joint_feed.specs.Stories.{Story, state_at}
 use Rattle.joint_feed.proofs.Counts.{made_few, done_few}
-use Rattle.joint_feed.proofs.Feeding.{all_of_four, thin_behind, unmade_before, four_are_all, rest_unmade, drop_more, cut_at_four}
+use Rattle.joint_feed.proofs.Feeding.{all_of_four, thin_after, unmade_before, four_are_all, rest_unmade, drop_more, cut_at_four}
 
 -- what is handed in is what the step asks for
 pub due_of : (s : Story) (it : Course) (h : IsOnCourse s it) → IsThin s.edges → IsDueOf s.edges s.events it.ahead.made h.world it.ahead.due
@@ -30,7 +30,7 @@ due_of s it h thin =
     record {
       next = h.fed.edges_next ∙ all_of_four left ∙ ap (λ (v : List Edge). take (length v) left) (sym h.fed.edges_next);
       all = ap (λ (v : List Edge). made_first h.world.cycle (drop (length v) left)) h.fed.edges_next
-          ∙ four_are_all h.world.cycle left (thin_behind it.ahead.made s.edges thin) h.unreached;
+          ∙ four_are_all h.world.cycle left (thin_after it.ahead.made s.edges thin) h.unreached;
       host = h.fed.host_next ∙ ap (λ (n : ℕ). take 2 (drop n s.events)) h.done;
     }
 
@@ -50,18 +50,18 @@ pub made : (due : Due) (old : Machine) (seen : Seen) (new : Machine)
     → IsJointStep due old (due_step due old) (Ok seen) new → IsMade due old seen new
 made due old seen new h = made_if due old seen new (due_step due old) refl h
 
--- the state that the machine stands at
+-- the state that the machine is at
 pub here : (s : Story) (it : Course) (h : IsOnCourse s it) → state_at s it.joint.steps ≡ Some h.world
 here s it h = subst (λ (bytes : List ℕ). run_at (joint_board s.edges s.events) bytes (joint_start_of s.held) it.joint.steps
     ≡ Some h.world) h.image h.in_run.run
 
--- these items are what the step behind the first k puts behind the log
+-- these items are what the step after the first k puts after the log
 abbrev pub IsSaid : Story → ℕ → List Stamped → Type 0
 IsSaid s k items =
     (w v : World Beside) → state_at s k ≡ Some w → state_at s (suc k) ≡ Some v
     → log_of v.board ≡ log_of w.board ++ items
 
--- what stands in equal options is equal
+-- what is in equal options is equal
 pub same_state : {w v : World Beside} → Some w ≡ Some v → w ≡ v
 same_state h = cc h
 
@@ -122,7 +122,7 @@ module _ (s : Story) (it : Course) (new : Machine) (seen : Seen) (h : IsOnCourse
       step.seen_so.edges ∙ ap (λ (n : ℕ). length (made_first n due)) h.in_run.cycle
       ∙ ap (λ (v : List Edge). length (made_first old.cycle v)) h.fed.edges_next in
       let rest = rest_unmade old.cycle (take 4 left) (drop (length (take 4 left)) left)
-      (four_are_all old.cycle left (thin_behind it.ahead.made s.edges thin) h.unreached) in
+      (four_are_all old.cycle left (thin_after it.ahead.made s.edges thin) h.unreached) in
       ap (made_first old.cycle) (sym (drop_more it.ahead.made seen.edges (it.ahead.made + seen.edges) s.edges refl))
       ∙ ap (λ (n : ℕ). made_first old.cycle (drop n left)) count
       ∙ ap (λ (v : List Edge). made_first old.cycle (drop (length (made_first old.cycle (take 4 left))) v)) (sym (cut_at_four left))
@@ -136,7 +136,7 @@ module _ (s : Story) (it : Course) (new : Machine) (seen : Seen) (h : IsOnCourse
       (subst (λ (bytes : List ℕ). run_at (joint_board s.edges s.events) bytes (joint_start_of s.held) new.steps ≡ Some on.next)
       image on.in_run.run)
 
-  -- what is told is what the step puts behind the log
+  -- what is reported is what the step puts after the log
   pub is_said : IsSaid s it.joint.steps seen.items.items
   is_said w v from to =
       let first : Some h.world ≡ Some w = sym (here s it h) ∙ from in
@@ -169,7 +169,7 @@ module _ (s : Story) (it : Course) (new : Machine) (seen : Seen) (h : IsOnCourse
         made_within = let a = edges_there in omega (arith, a, made_now);
       }
 
--- where the processor is stuck the run has no further state
+-- if the processor is stuck the run has no further state
 pub no_further : (s : Story) (it : Course) (new : Machine) (stuck : Stuck) → IsOnCourse s it → IsThin s.edges → AreInOrder s.edges
     → IsStepOfRun it.ahead.due it.joint (Err stuck) new → state_at s (suc it.joint.steps) ≡ None
 no_further s it new stuck h thin order run =

@@ -2,4 +2,4 @@ pub mod Beginning
 pub mod Counts
 pub mod Feeding
 pub mod Going
-pub mod Behind
+pub mod Afterwards

@@ -1,8 +1,8 @@
 -- The events that the joint machine is handed: the next four edges, and the next two events of the host. A feed gave
 -- them and those before them, and no others.
 use Rattle.std.specs.Prelude.{◌≡◌, ◌+◌, List, length, take, drop}
-use Rattle.board_lines.specs.declared.event.Edge.{Edge}
-use Rattle.board_lines.specs.declared.event.HostEvent.{HostEvent}
+use Rattle.board_terms.specs.declared.event.Edge.{Edge}
+use Rattle.board_terms.specs.declared.event.HostEvent.{HostEvent}
 use Rattle.key_file.specs.Feeds.{Fed}
 use Rattle.joint_feed.specs.declared.ahead.Ahead.{Ahead}
 

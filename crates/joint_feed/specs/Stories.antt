@@ -1,8 +1,8 @@
 -- What is run, and the states of its joint run from power-on.
 use Rattle.std.specs.Prelude.{ℕ, Bool, List}
 use Rattle.std.specs.declared.option.Option.{Option}
-use Rattle.board_lines.specs.declared.event.Edge.{Edge}
-use Rattle.board_lines.specs.declared.event.HostEvent.{HostEvent}
+use Rattle.board_terms.specs.declared.event.Edge.{Edge}
+use Rattle.board_terms.specs.declared.event.HostEvent.{HostEvent}
 use Rattle.joint_run.specs.Joint.{Beside, joint_board, joint_start_of}
 use Rattle.joint_run.specs.Run.{World, run_at}
 use Rattle.joint_run.specs.Starts.{at_tick}

@@ -30,13 +30,13 @@ impl Course {
     /// is done yet.
     pub fn begin<F: Feed>(image: &Image, bios: Bios, feed: &mut F) -> Course
         requires start { bios ≡ start }
-        requires no_edge { (F.told feed.old).edges ≡ 0 }
-        requires no_host { (F.told feed.old).host ≡ 0 }
-        ensures on { IsOnCourse (story image.now.bytes (F.told feed.old).history) result }
+        requires no_edge { (F.feeds feed.old).edges ≡ 0 }
+        requires no_host { (F.feeds feed.old).host ≡ 0 }
+        ensures on { IsOnCourse (story image.now.bytes (F.feeds feed.old).history) result }
         ensures steps { result.joint.steps ≡ 0 }
         ensures seen { result.seen ≡ nothing_seen }
-        ensures taken { HasTaken (F.told feed.new) result.ahead }
-        ensures history { (F.told feed.new).history ≡ (F.told feed.old).history }
+        ensures taken { HasTaken (F.feeds feed.new) result.ahead }
+        ensures history { (F.feeds feed.new).history ≡ (F.feeds feed.old).history }
     {
         Course::begin_filled(image, bios, 0, feed)
     }
@@ -45,14 +45,14 @@ impl Course {
     /// hold this byte. Nothing is done yet.
     pub fn begin_filled<F: Feed>(image: &Image, bios: Bios, fill: u8, feed: &mut F) -> Course
         requires start { bios ≡ start }
-        requires no_edge { (F.told feed.old).edges ≡ 0 }
-        requires no_host { (F.told feed.old).host ≡ 0 }
-        ensures on { IsOnCourse (filled_story fill image.now.bytes (F.told feed.old).history) result }
+        requires no_edge { (F.feeds feed.old).edges ≡ 0 }
+        requires no_host { (F.feeds feed.old).host ≡ 0 }
+        ensures on { IsOnCourse (filled_story fill image.now.bytes (F.feeds feed.old).history) result }
         ensures fill { result.fill ≡ fill }
         ensures steps { result.joint.steps ≡ 0 }
         ensures seen { result.seen ≡ nothing_seen }
-        ensures taken { HasTaken (F.told feed.new) result.ahead }
-        ensures history { (F.told feed.new).history ≡ (F.told feed.old).history }
+        ensures taken { HasTaken (F.feeds feed.new) result.ahead }
+        ensures history { (F.feeds feed.new).history ≡ (F.feeds feed.old).history }
     {
         Course {
             joint: Joint::power_on_filled(image, bios, fill),

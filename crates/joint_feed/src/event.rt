@@ -5,7 +5,7 @@ ghost use Rattle.std.specs.Option.{option_to_list};
 ghost use Rattle.key_file.specs.Feeds.{Fed};
 ghost use Rattle.key_file.specs.Histories.{KeyHistory};
 
-use board_lines::{Edge, HostEvent};
+use board_terms::{Edge, HostEvent};
 use key_file::Feed;
 
 /// A kind of event that a feed gives.
@@ -21,10 +21,10 @@ pub(crate) trait Event: Copy + Default {
 
     /// The next one; None exactly if all were taken.
     fn next<F: Feed>(feed: &mut F) -> Option<Self>
-        ensures next { result ≡ slice_get (all (F.told feed.old).history) (taken (F.told feed.old)) }
-        ensures taken { taken (F.told feed.new) ≡ taken (F.told feed.old) + length (option_to_list result) }
-        ensures history { (F.told feed.new).history ≡ (F.told feed.old).history }
-        ensures others { others (F.told feed.new) ≡ others (F.told feed.old) };
+        ensures next { result ≡ slice_get (all (F.feeds feed.old).history) (taken (F.feeds feed.old)) }
+        ensures taken { taken (F.feeds feed.new) ≡ taken (F.feeds feed.old) + length (option_to_list result) }
+        ensures history { (F.feeds feed.new).history ≡ (F.feeds feed.old).history }
+        ensures others { others (F.feeds feed.new) ≡ others (F.feeds feed.old) };
 }
 
 impl Event for Edge {

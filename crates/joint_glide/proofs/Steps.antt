@@ -3,9 +3,9 @@ use Rattle.std.proofs.Common.{◌≡◌, ◌≤◌, ◌<◌, ℕ, suc, zero, ◌
 use Rattle.std.proofs.Common.{Some, None, Ok, Err, refl, ap, sym, ◌∙◌, subst, arith}
 use Rattle.std.specs.Prelude.{if◌then◌else◌, slice_get}
 use Rattle.std.specs.declared.option.Option.{Option}
-use Rattle.board_lines.specs.declared.event.HostEvent.{HostEvent}
-use Rattle.board_lines.specs.declared.lines.Lines.{Lines}
-use Rattle.board_lines.specs.Matrix.{turned_by}
+use Rattle.board_terms.specs.declared.event.HostEvent.{HostEvent}
+use Rattle.board_terms.specs.declared.lines.Lines.{Lines}
+use Rattle.board_terms.specs.Matrix.{turned_by}
 use Rattle.mcs48_core.specs.Cpu.{Cpu}
 use Rattle.mcs48_core.specs.Step.{Stepped, stepped, IsStep}
 use Rattle.mcs48_core.specs.declared.stepping.Stuck.{Stuck}
@@ -24,7 +24,7 @@ use Rattle.joint_run.proofs.OneStep.{step_of_run}
 use Rattle.joint_run.proofs.Passing.{cycle_is}
 use Rattle.joint_run.proofs.Stepping.{by_step, came}
 use Rattle.joint_glide.specs.Calls.{pins_now}
-use Rattle.joint_glide.specs.Quiet.{told_quietly, IsQuiet}
+use Rattle.joint_glide.specs.Uneventful.{seen_uneventfully, IsUneventful}
 use Rattle.joint_glide.specs.Still.{IsStill}
 
 -- still cycles pass
@@ -60,7 +60,7 @@ module _ (due : Due) (m : Machine) (none : made_first m.cycle due.edges.items �
   ended_so cycles cpu seen new h count e s =
       let at : new ≡ machine_after due m (came due m cycles cpu) =
       e ∙ ap (λ k. record (machine_after due m (came due m cycles cpu)) { matrix = k }) (sym same_keys) in
-      let told : IsSeen due m (came due m cycles cpu) seen = record {
+      let with_seen : IsSeen due m (came due m cycles cpu) seen = record {
         cycles = s.cycles;
         edges = s.edges ∙ sym (ap length none);
         host = s.host;
@@ -70,7 +70,7 @@ module _ (due : Due) (m : Machine) (none : made_first m.cycle due.edges.items �
       by_step due m seen new cpu (pins_now m) same_pins
       (subst (λ k. IsStep m.image.bytes m.mcu (stepped m.image.bytes (pins_now m) m.mcu) (Ok k) cpu) (sym count) h)
       (subst (λ k. new ≡ machine_after due m (came due m k cpu)) (sym count) at)
-      (subst (λ k. IsSeen due m (came due m k cpu) seen) (sym count) told)
+      (subst (λ k. IsSeen due m (came due m k cpu) seen) (sym count) with_seen)
 
   -- the processor is stuck
   stuck_by : (stuck : Stuck) (cpu : Cpu) (o : Option Stepped) → IsStep m.image.bytes m.mcu o (Err stuck) cpu
@@ -109,9 +109,9 @@ module _ (due : Due) (m : Machine) (none : made_first m.cycle due.edges.items �
     lines_of s e =
         ap (λ p. wires (latch_of p) (beside m.outside 0 []).pc) (sym latch) ∙ ap (λ (t : Beside). wires (latch_of cpu.p2) t.pc) (sym e)
 
-    pub quiet_step : IsJointStep due m (due_step due m) (Ok (told_quietly cycles line)) quietly_on
+    pub quiet_step : IsJointStep due m (due_step due m) (Ok (seen_uneventfully cycles line)) quietly_on
     quiet_step =
-        by_step due m (told_quietly cycles line) quietly_on cpu (pins_now m) same_pins h
+        by_step due m (seen_uneventfully cycles line) quietly_on cpu (pins_now m) same_pins h
         (ap (λ k. record quietly_on { matrix = k }) (sym same_keys)
         ∙ ap (λ (s : Beside). record quietly_on { matrix = keys_in_step due m; outside = outside_of s }) (sym all_pass))
         (record {
@@ -124,11 +124,11 @@ module _ (due : Due) (m : Machine) (none : made_first m.cycle due.edges.items �
               (lines_of (passed cycles m.cycle cpu.p2 due.host.items m.outside) all_pass);
         })
 
-    pub is_quiet : IsQuiet due m quietly_on
+    pub is_quiet : IsUneventful due m quietly_on
     is_quiet = record {
-      seen = told_quietly cycles line;
+      seen = seen_uneventfully cycles line;
       step = quiet_step;
-      run = step_of_run due m (Ok (told_quietly cycles line)) quietly_on quiet_step (some, few);
+      run = step_of_run due m (Ok (seen_uneventfully cycles line)) quietly_on quiet_step (some, few);
       some = some;
       few = few;
       edges = refl;

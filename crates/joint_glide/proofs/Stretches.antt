@@ -16,7 +16,7 @@ use Rattle.joint_run.specs.declared.machine.Machine.{Machine}
 use Rattle.joint_run.specs.declared.outside.Outside.{Outside}
 use Rattle.joint_run.proofs.OneStep.{step_of_run}
 use Rattle.joint_glide.specs.Calls.{pins_now, AreCalls}
-use Rattle.joint_glide.specs.Quiet.{told_quietly, AreQuiet, HasGone, IsQuiet}
+use Rattle.joint_glide.specs.Uneventful.{seen_uneventfully, AreUneventful, HasGone, IsUneventful}
 use Rattle.joint_glide.specs.Still.{IsStill, IsStillTo}
 use Rattle.joint_glide.proofs.Steps.{ended_so, is_quiet, quiet_step, stuck_so}
 
@@ -29,9 +29,9 @@ same_stood : (m : Machine) (cpu : Cpu) (cycle cycle' steps steps' : ℕ) → cyc
 same_stood m cpu cycle cycle' steps steps' a b =
     ap (λ c. record m { mcu = cpu; cycle = c; steps = steps }) a ∙ ap (λ s. record m { mcu = cpu; cycle = cycle'; steps = s }) b
 
-module _ (due : Due) (tick : ℕ) (old : Machine) (to : ℕ) (still : IsStillTo due old to) where
+module _ (due : Due) (tick_pc : ℕ) (old : Machine) (to : ℕ) (still : IsStillTo due old to) where
   -- none yet
-  pub none_yet : AreQuiet due tick 0 old (stood old old.mcu 0 0)
+  pub none_yet : AreUneventful due tick_pc 0 old (stood old old.mcu 0 0)
   none_yet = same_stood old old.mcu (old.cycle + 0) old.cycle (old.steps + 0) old.steps (omega arith) (omega arith)
 
   module _ (cpu : Cpu) (steps passed : ℕ) (latch : cpu.p2 ≡ old.mcu.p2) where
@@ -61,22 +61,22 @@ module _ (due : Due) (tick : ℕ) (old : Machine) (to : ℕ) (still : IsStillTo 
       before_end = omega (arith, some, room)
 
       -- the step is quiet
-      pub one_quiet : IsQuiet due here (stood old next (steps + 1) (passed + cycles))
+      pub one_quiet : IsUneventful due here (stood old next (steps + 1) (passed + cycles))
       one_quiet =
-          subst (λ (n : Machine). IsQuiet due here n) (on_one next cycles)
+          subst (λ (n : Machine). IsUneventful due here n) (on_one next cycles)
           (is_quiet due here (none_made before_end) cycles next some few kept (still_here cycles room) h)
 
-      pub one_told : IsJointStep due here (due_step due here) (Ok (told_quietly cycles (outside_wires cpu.p2 old.outside)))
+      pub one_reported : IsJointStep due here (due_step due here) (Ok (seen_uneventfully cycles (outside_wires cpu.p2 old.outside)))
           (stood old next (steps + 1) (passed + cycles))
-      one_told =
-          subst (λ (n : Machine). IsJointStep due here (due_step due here) (Ok (told_quietly cycles (outside_wires cpu.p2 old.outside))) n)
+      one_reported =
+          subst (λ (n : Machine). IsJointStep due here (due_step due here) (Ok (seen_uneventfully cycles (outside_wires cpu.p2 old.outside))) n)
           (on_one next cycles)
           (quiet_step due here (none_made before_end) cycles next some few kept (still_here cycles room) h)
 
-      pub one_more : AreQuiet due tick steps old here
-          → (next.pc % 2048 == tick) ≡ false → AreQuiet due tick (steps + 1) old (stood old next (steps + 1) (passed + cycles))
+      pub one_more : AreUneventful due tick_pc steps old here
+          → (next.pc % 2048 == tick_pc) ≡ false → AreUneventful due tick_pc (steps + 1) old (stood old next (steps + 1) (passed + cycles))
       one_more quiet off =
-          subst (λ (k : ℕ). AreQuiet due tick k old (stood old next (steps + 1) (passed + cycles)))
+          subst (λ (k : ℕ). AreUneventful due tick_pc k old (stood old next (steps + 1) (passed + cycles)))
           (sym (add-one steps)) (here, quiet, one_quiet, off)
 
     -- the last step writes port 2
@@ -93,22 +93,22 @@ module _ (due : Due) (tick : ℕ) (old : Machine) (to : ℕ) (still : IsStillTo 
     ends_stuck stuck next room h = stuck_so due here (none_made room) stuck next h
 
   renumbered : (cpu : Cpu) (steps steps' passed passed' : ℕ)
-      → steps ≡ steps' → passed ≡ passed' → AreQuiet due tick steps old (stood old cpu steps passed)
-      → AreQuiet due tick steps' old (stood old cpu steps' passed')
+      → steps ≡ steps' → passed ≡ passed' → AreUneventful due tick_pc steps old (stood old cpu steps passed)
+      → AreUneventful due tick_pc steps' old (stood old cpu steps' passed')
   renumbered cpu steps steps' passed passed' a b quiet =
-      subst (λ (n : ℕ). AreQuiet due tick steps' old (stood old cpu steps' n)) b
-      (subst (λ (n : ℕ). AreQuiet due tick n old (stood old cpu n passed)) a quiet)
+      subst (λ (n : ℕ). AreUneventful due tick_pc steps' old (stood old cpu steps' n)) b
+      (subst (λ (n : ℕ). AreUneventful due tick_pc n old (stood old cpu n passed)) a quiet)
 
-  -- jumps to where the processor stands
-  pub jumped : (cpu : Cpu) (steps passed count : ℕ) → cpu.p2 ≡ old.mcu.p2 → spun 0 cpu ≡ cpu → (cpu.pc % 2048 == tick) ≡ false
+  -- jumps to where the processor is
+  pub jumped : (cpu : Cpu) (steps passed count : ℕ) → cpu.p2 ≡ old.mcu.p2 → spun 0 cpu ≡ cpu → (cpu.pc % 2048 == tick_pc) ≡ false
       → ((j : ℕ) → j < count
       → stepped old.image.bytes (pins_now (stood old cpu steps passed)) (spun j cpu)
       ≡ Some (record { cpu = spun (j + 1) cpu; cycles = 2 }))
-      → old.cycle + passed + 2 * count ≤ to → AreQuiet due tick steps old (stood old cpu steps passed)
-      → AreQuiet due tick (steps + count) old (stood old (spun count cpu) (steps + count) (passed + 2 * count))
+      → old.cycle + passed + 2 * count ≤ to → AreUneventful due tick_pc steps old (stood old cpu steps passed)
+      → AreUneventful due tick_pc (steps + count) old (stood old (spun count cpu) (steps + count) (passed + 2 * count))
   jumped cpu steps passed zero latch start off each room quiet =
-      subst (λ (k : ℕ). AreQuiet due tick k old (stood old (spun 0 cpu) (steps + 0) (passed + 2 * 0))) (omega arith)
-      (subst (λ (n : Machine). AreQuiet due tick steps old n)
+      subst (λ (k : ℕ). AreUneventful due tick_pc k old (stood old (spun 0 cpu) (steps + 0) (passed + 2 * 0))) (omega arith)
+      (subst (λ (n : Machine). AreUneventful due tick_pc steps old n)
       (ap (λ c. stood old c steps passed) (sym start)
       ∙ same_stood old (spun 0 cpu) (old.cycle + passed) (old.cycle + (passed + 2 * 0)) (old.steps + steps)
       (old.steps + (steps + 0)) (omega arith) (omega arith)) quiet)
@@ -119,16 +119,16 @@ module _ (due : Due) (tick : ℕ) (old : Machine) (to : ℕ) (still : IsStillTo 
       let is : IsStep old.image.bytes (spun count cpu) (stepped old.image.bytes (pins_now (stood old cpu steps passed)) (spun count cpu))
       (Ok 2) (spun (count + 1) cpu) =
       subst (λ (o : Option Stepped). IsStep old.image.bytes (spun count cpu) o (Ok 2) (spun (count + 1) cpu)) (sym made) (refl, refl) in
-      let more : AreQuiet due tick (steps + count + 1) old (stood old (spun (count + 1) cpu) (steps + count + 1) (passed + 2 * count + 2)) =
+      let more : AreUneventful due tick_pc (steps + count + 1) old (stood old (spun (count + 1) cpu) (steps + count + 1) (passed + 2 * count + 2)) =
       one_more (spun count cpu) (steps + count) (passed + 2 * count) latch 2 (spun (count + 1) cpu) (omega arith)
       (omega arith) refl (omega (arith, room)) is before off in
-      subst (λ (k : ℕ). AreQuiet due tick (steps + k) old (stood old (spun k cpu) (steps + k) (passed + 2 * k))) (add-one count)
+      subst (λ (k : ℕ). AreUneventful due tick_pc (steps + k) old (stood old (spun k cpu) (steps + k) (passed + 2 * k))) (add-one count)
       (renumbered (spun (count + 1) cpu) (steps + count + 1) (steps + (count + 1)) (passed + 2 * count + 2)
       (passed + 2 * (count + 1)) (omega arith) (omega arith) more)
 
   -- the stretch, and its last step
-  pub gone : (steps room : ℕ) (last new : Machine) (seen : Seen) → AreQuiet due tick steps old last → last.cycle ≤ old.cycle + room
-      → IsJointStep due last (due_step due last) (Ok seen) new → 0 < seen.cycles → seen.cycles < 3 → HasGone due tick room old (Ok seen) new
+  pub gone : (steps room : ℕ) (last new : Machine) (seen : Seen) → AreUneventful due tick_pc steps old last → last.cycle ≤ old.cycle + room
+      → IsJointStep due last (due_step due last) (Ok seen) new → 0 < seen.cycles → seen.cycles < 3 → HasGone due tick_pc room old (Ok seen) new
   gone steps room last new seen quiet within is some few = record {
     count = steps;
     last = last;
@@ -138,8 +138,8 @@ module _ (due : Due) (tick : ℕ) (old : Machine) (to : ℕ) (still : IsStillTo 
     run = step_of_run due last (Ok seen) new is (some, few);
   }
 
-  pub gone_stuck : (steps room : ℕ) (last new : Machine) (stuck : Stuck) → AreQuiet due tick steps old last → last.cycle ≤ old.cycle + room
-      → IsJointStep due last (due_step due last) (Err stuck) new → HasGone due tick room old (Err stuck) new
+  pub gone_stuck : (steps room : ℕ) (last new : Machine) (stuck : Stuck) → AreUneventful due tick_pc steps old last → last.cycle ≤ old.cycle + room
+      → IsJointStep due last (due_step due last) (Err stuck) new → HasGone due tick_pc room old (Err stuck) new
   gone_stuck steps room last new stuck quiet within is = record {
     count = steps;
     last = last;
@@ -155,12 +155,12 @@ pub record IsKept (old new : Machine) : Type 0 where
   pub latch : new.mcu.p2 ≡ old.mcu.p2
   pub later : old.cycle ≤ new.cycle
 
-kept : (tick k : ℕ) (old new : Machine) → AreCalls tick k old new → IsKept old new
-kept tick zero old new h =
+kept : (tick_pc k : ℕ) (old new : Machine) → AreCalls tick_pc k old new → IsKept old new
+kept tick_pc zero old new h =
     subst (λ (n : Machine). IsKept old n) (sym h) (record { parts = refl; latch = refl; later = omega arith })
-kept tick (suc k) old new h =
+kept tick_pc (suc k) old new h =
     let between = h.0 in
-    let a = kept tick k old between h.1 in
+    let a = kept tick_pc k old between h.1 in
     let c = h.2 in
     let at = ap (λ (n : Machine). n.cycle) c.parts in
     let since = a.later in
@@ -174,13 +174,13 @@ kept tick (suc k) old new h =
     }
 
 -- in still cycles they are quiet joint steps
-pub calls_are_quiet : (due : Due) (tick k to : ℕ) (old new : Machine)
-    → IsStillTo due old to → AreCalls tick k old new → new.cycle ≤ to → AreQuiet due tick k old new
-calls_are_quiet due tick zero to old new still h room = h
-calls_are_quiet due tick (suc k) to old new still h room =
+pub calls_are_quiet : (due : Due) (tick_pc k to : ℕ) (old new : Machine)
+    → IsStillTo due old to → AreCalls tick_pc k old new → new.cycle ≤ to → AreUneventful due tick_pc k old new
+calls_are_quiet due tick_pc zero to old new still h room = h
+calls_are_quiet due tick_pc (suc k) to old new still h room =
     let between = h.0 in
     let c = h.2 in
-    let a = kept tick k old between h.1 in
+    let a = kept tick_pc k old between h.1 in
     let at : new.cycle ≡ between.cycle + c.cycles = ap (λ (n : Machine). n.cycle) c.parts in
     let since = a.later in
     let some = c.some in
@@ -193,8 +193,8 @@ calls_are_quiet due tick (suc k) to old new still h room =
     (still.still y (omega (arith, l, since)) (omega (arith, u, at, room)))) in
     let is : IsStep between.image.bytes between.mcu (stepped between.image.bytes (pins_now between) between.mcu) (Ok c.cycles) new.mcu =
     subst (λ (o : Option Stepped). IsStep between.image.bytes between.mcu o (Ok c.cycles) new.mcu) (sym c.step) (refl, refl) in
-    let quiet : IsQuiet due between new =
-    subst (λ (n : Machine). IsQuiet due between n) (sym c.parts)
+    let quiet : IsUneventful due between new =
+    subst (λ (n : Machine). IsUneventful due between n) (sym c.parts)
     (is_quiet due between (still.edges between.cycle since (omega (arith, some, at, room)))
     c.cycles new.mcu c.some c.few c.latch still_now is) in
-    (between, calls_are_quiet due tick k to old between still h.1 (omega (arith, at, room)), quiet, h.3)
+    (between, calls_are_quiet due tick_pc k to old between still h.1 (omega (arith, at, room)), quiet, h.3)

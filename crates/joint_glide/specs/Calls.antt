@@ -6,7 +6,7 @@ use Rattle.joint_run.specs.Due.{beside}
 use Rattle.joint_run.specs.Joint.{pins_by}
 use Rattle.joint_run.specs.declared.due.Due.{Due}
 use Rattle.joint_run.specs.declared.machine.Machine.{Machine}
-use Rattle.joint_glide.specs.Quiet.{is_at, AreQuiet}
+use Rattle.joint_glide.specs.Uneventful.{is_at, AreUneventful}
 use Rattle.joint_glide.specs.Still.{IsStillTo}
 
 -- the levels that the processor reads, with no edge made
@@ -24,12 +24,12 @@ pub record IsCall (old new : Machine) : Type 0 where
 
 -- so many of them, none of which leads to the tick's place
 abbrev pub AreCalls : ℕ → ℕ → Machine → Machine → Type 0
-AreCalls tick zero old new = new ≡ old
-AreCalls tick (suc k) old new =
-    (between : Machine) × AreCalls tick k old between × IsCall between new × (is_at tick new ≡ false)
+AreCalls tick_pc zero old new = new ≡ old
+AreCalls tick_pc (suc k) old new =
+    (between : Machine) × AreCalls tick_pc k old between × IsCall between new × (is_at tick_pc new ≡ false)
 
 -- in cycles in which nothing changes outside, calls of the processor are joint steps
 abbrev pub StretchLaw : Type 0
 StretchLaw =
-    (due : Due) (tick k to : ℕ) (old new : Machine) → IsStillTo due old to → AreCalls tick k old new → new.cycle ≤ to
-    → AreQuiet due tick k old new
+    (due : Due) (tick_pc k to : ℕ) (old new : Machine) → IsStillTo due old to → AreCalls tick_pc k old new → new.cycle ≤ to
+    → AreUneventful due tick_pc k old new

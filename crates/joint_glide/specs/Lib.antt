@@ -1,3 +1,3 @@
 pub mod Still
-pub mod Quiet
+pub mod Uneventful
 pub mod Calls

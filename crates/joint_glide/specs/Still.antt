@@ -1,7 +1,7 @@
 -- Cycles in which nothing changes outside the processor.
 use Rattle.std.specs.Prelude.{◌≡◌, ◌≤◌, ◌<◌, ℕ, false, [], slice_get}
 use Rattle.std.specs.declared.option.Option.{Option}
-use Rattle.board_lines.specs.declared.event.HostEvent.{HostEvent}
+use Rattle.board_terms.specs.declared.event.HostEvent.{HostEvent}
 use Rattle.joint_run.specs.Cycle.{outside_cycle}
 use Rattle.joint_run.specs.Due.{made_first}
 use Rattle.joint_run.specs.declared.due.Due.{Due}

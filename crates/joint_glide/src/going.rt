@@ -1,8 +1,8 @@
 //! Joint steps, as many at once as there are before something may happen.
 
 ghost use Rattle.std.specs.Prelude.{◌+◌, ◌<◌, ◌^◌, OnOk};
-ghost use Rattle.joint_glide.specs.Quiet.{HasGone};
-ghost use Rattle.joint_run.specs.Due.{told};
+ghost use Rattle.joint_glide.specs.Uneventful.{HasGone};
+ghost use Rattle.joint_run.specs.Due.{with_seen};
 
 use crate::still::still_to;
 use crate::stretch::stretch;
@@ -17,16 +17,16 @@ pub fn go_on(
     joint: &mut Joint,
     due: &Due,
     seen: &mut Seen,
-    tick: u16,
+    tick_pc: u16,
     most: u64,
 ) -> Result<(), Stuck>
     requires near { joint.old.cycle + most < 2 ^ 62 }
-    ensures gone { HasGone due.now tick most joint.old (told result seen.new) joint.new }
+    ensures gone { HasGone due.now tick_pc most joint.old (with_seen result seen.new) joint.new }
     ensures some { OnOk result (0 < seen.new.cycles) }
     ensures few { OnOk result (seen.new.cycles < 3) }
 {
     let room = still_to(joint, due, most) - joint.cycle();
-    if stretch(joint, due, seen, tick, room)? {
+    if stretch(joint, due, seen, tick_pc, room)? {
         return Ok(());
     }
     joint.step_into(due, seen)

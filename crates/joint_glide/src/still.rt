@@ -6,7 +6,7 @@ ghost use Rattle.joint_run.specs.Cycle.{outside_wires};
 ghost use Rattle.joint_run.specs.Due.{made_first};
 ghost use Rattle.joint_run.specs.Joint.{lights_of};
 
-use board_lines::{Edge, HostEvent};
+use board_terms::{Edge, HostEvent};
 use host_wakes::sleeps_to;
 use joint_run::{Due, Joint, lights};
 

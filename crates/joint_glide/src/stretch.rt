@@ -2,13 +2,13 @@
 
 ghost use Rattle.std.specs.Prelude.{◌≡◌, ◌+◌, ◌*◌, ◌<◌, ◌≤◌, ◌^◌, ℕ, IfOk, Some};
 ghost use Rattle.joint_glide.specs.Calls.{pins_now};
-ghost use Rattle.joint_glide.specs.Quiet.{is_at, told_quietly, HasStretched};
+ghost use Rattle.joint_glide.specs.Uneventful.{is_at, seen_uneventfully, HasStretched};
 ghost use Rattle.joint_glide.specs.Still.{IsStillTo};
 ghost use Rattle.joint_run.specs.Cycle.{outside_wires};
 ghost use Rattle.mcs48_core.specs.Leap.{spun};
 ghost use Rattle.mcs48_core.specs.Step.{stepped, IsStep};
 
-use board_lines::Lines;
+use board_terms::Lines;
 use joint_run::{Due, Joint, Seen};
 use mcs48_core::{Pins, Stuck};
 
@@ -74,15 +74,15 @@ fn counter(joint: &Joint) -> u16
 
 /// Whether the counter is at the tick's place.
 #[inline(always)]
-fn is_at(joint: &Joint, tick: u16) -> bool
-    ensures { result ≡ is_at tick joint.now }
+fn is_at(joint: &Joint, tick_pc: u16) -> bool
+    ensures { result ≡ is_at tick_pc joint.now }
 {
-    counter(joint) % 2048 == tick
+    counter(joint) % 2048 == tick_pc
 }
 
 /// A step of so many cycles was quiet, with the wires at these levels.
-fn tell(seen: &mut Seen, cycles: u8, line: Lines)
-    ensures { seen.new ≡ told_quietly cycles line }
+fn report(seen: &mut Seen, cycles: u8, line: Lines)
+    ensures { seen.new ≡ seen_uneventfully cycles line }
 {
     seen.cycles = cycles;
     seen.edges = 0;
@@ -99,12 +99,12 @@ pub(crate) fn stretch(
     joint: &mut Joint,
     due: &Due,
     seen: &mut Seen,
-    tick: u16,
+    tick_pc: u16,
     room: u64,
 ) -> Result<bool, Stuck>
     requires near { joint.old.cycle + room < 2 ^ 62 }
     requires still { IsStillTo due.now joint.old (joint.old.cycle + room) }
-    ensures stretched { HasStretched due.now tick room joint.old result seen.new joint.new }
+    ensures stretched { HasStretched due.now tick_pc room joint.old result seen.new joint.new }
 {
     let line = joint.lines();
     let latch = port_2(joint);
@@ -126,9 +126,9 @@ pub(crate) fn stretch(
         }
         passed += cycles as u64;
         steps += 1;
-        if is_at(joint, tick) {
+        if is_at(joint, tick_pc) {
             joint.count(steps, passed);
-            tell(seen, cycles, line);
+            report(seen, cycles, line);
             return Ok(true);
         }
         if counter(joint) == place {

@@ -1,7 +1,7 @@
 -- The cycles of a step pass, by the latch of port 2 and by the events that were handed in.
 use Rattle.std.proofs.Common.{◌≡◌, ℕ, List, subst}
-use Rattle.board_lines.specs.declared.event.HostEvent.{HostEvent}
-use Rattle.board_lines.specs.declared.lines.Lines.{Lines}
+use Rattle.board_terms.specs.declared.event.HostEvent.{HostEvent}
+use Rattle.board_terms.specs.declared.lines.Lines.{Lines}
 use Rattle.host_turn.specs.declared.stamped.Stamped.{Stamped}
 use Rattle.mcs48_core.specs.Cpu.{Cpu}
 use Rattle.joint_run.specs.Due.{ended, HasPassed, IsSeen}
@@ -20,7 +20,7 @@ passed_by m due cycles p2 events new said answer latch same h =
     subst (λ (es : List HostEvent). HasPassed cycles m.cycle m.mcu.p2 es m.outside new said answer) same
     (subst (λ (p : ℕ). HasPassed cycles m.cycle p events m.outside new said answer) latch h)
 
--- what is told of a step, by the machine before it
+-- what is reported of a step, by the machine before it
 pub seen_by : (m : Machine) (cpu : Cpu) (cycles : ℕ) (due : Due) (after : Machine) (seen : Seen) → after ≡ record m { mcu = cpu }
     → IsSeen (without_edges due) after (ended cycles due after) seen
     → IsSeen (without_edges due) m (came (without_edges due) m cycles cpu) seen

@@ -6,10 +6,10 @@ use Rattle.std.specs.List.{filter}
 use Rattle.std.proofs.lemmas.Bool.Decides.{nat_tests}
 use Rattle.std.proofs.lemmas.List.{take-append-drop}
 use Rattle.std.proofs.Math.Seq.{take-add}
-use Rattle.board_lines.specs.declared.event.Edge.{Edge}
-use Rattle.board_lines.specs.Edges.{is_made, AreInOrder}
-use Rattle.board_lines.specs.Matrix.{turned, turned_by}
-use Rattle.board_lines.proofs.Shown.{later_not, tail_in_order}
+use Rattle.board_terms.specs.declared.event.Edge.{Edge}
+use Rattle.board_terms.specs.Edges.{is_made, AreInOrder}
+use Rattle.board_terms.specs.Matrix.{turned, turned_by}
+use Rattle.board_terms.proofs.Shown.{later_not, tail_in_order}
 use Rattle.joint_run.specs.Due.{made_first}
 
 none_after : (cycle : ℕ) (e : Edge) (es : List Edge) → AreInOrder (e ∷ es) → is_made cycle e ≡ false → filter (is_made cycle) es ≡ []
@@ -30,14 +30,14 @@ first_made cycle (e ∷ es) order =
     ] refl
 
 module _ (cycle : ℕ) where
-  -- behind edges that are all made
-  pub behind_made : (xs ys : List Edge) → made_first cycle xs ≡ xs → made_first cycle (xs ++ ys) ≡ xs ++ made_first cycle ys
-  behind_made [] ys h = refl
-  behind_made (e ∷ es) ys h =
+  -- after edges that are all made
+  pub after_made : (xs ys : List Edge) → made_first cycle xs ≡ xs → made_first cycle (xs ++ ys) ≡ xs ++ made_first cycle ys
+  after_made [] ys h = refl
+  after_made (e ∷ es) ys h =
       let none : List Edge = [] in
       elim (is_made cycle e) as (λ b. (if b then e ∷ made_first cycle es else none) ≡ e ∷ es
       → (if b then e ∷ made_first cycle (es ++ ys) else none) ≡ e ∷ (es ++ made_first cycle ys)) [
-        | true ↦ λ g. ap (λ v. e ∷ v) (behind_made es ys (cc g))
+        | true ↦ λ g. ap (λ v. e ∷ v) (after_made es ys (cc g))
         | false ↦ λ g. absurd (cc g)
       ] h
 
@@ -99,7 +99,7 @@ module _ (edges : List Edge) (order : AreInOrder edges) (made cycle : ℕ) (due 
   made_now =
       first_made cycle edges order
       ∙ ap (λ es. made_first cycle es) (sym (take-append-drop made edges))
-      ∙ behind_made cycle (take made edges) (drop made edges) reached
+      ∙ after_made cycle (take made edges) (drop made edges) reached
       ∙ ap (λ es. take made edges ++ made_first cycle es) (sym (take-append-drop (length due) (drop made edges)))
       ∙ ap (λ es. take made edges ++ es)
       (before_unmade cycle (take (length due) (drop made edges)) (drop (length due) (drop made edges)) all)
@@ -116,4 +116,4 @@ module _ (edges : List Edge) (order : AreInOrder edges) (made cycle : ℕ) (due 
       → cycle ≤ later → made_first later (take made edges ++ made_first cycle due) ≡ take made edges ++ made_first cycle due
   reached_now later l =
       all_later cycle later l (take made edges ++ made_first cycle due)
-      (behind_made cycle (take made edges) (made_first cycle due) reached ∙ ap (λ es. take made edges ++ es) (made_twice cycle due))
+      (after_made cycle (take made edges) (made_first cycle due) reached ∙ ap (λ es. take made edges ++ es) (made_twice cycle due))

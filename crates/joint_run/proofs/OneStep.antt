@@ -3,10 +3,10 @@ use Rattle.std.proofs.Common.{◌≡◌, ◌<◌, ℕ, suc, ◌+◌, List, [], �
 use Rattle.std.specs.Prelude.{slice_get, IfOk, OnOk}
 use Rattle.std.specs.declared.option.Option.{Option}
 use Rattle.std.specs.declared.result.Result.{Result}
-use Rattle.board_lines.specs.declared.event.Edge.{Edge}
-use Rattle.board_lines.specs.declared.event.HostEvent.{HostEvent}
-use Rattle.board_lines.specs.Edges.{AreInOrder}
-use Rattle.board_lines.specs.Matrix.{all_up, turned_by}
+use Rattle.board_terms.specs.declared.event.Edge.{Edge}
+use Rattle.board_terms.specs.declared.event.HostEvent.{HostEvent}
+use Rattle.board_terms.specs.Edges.{AreInOrder}
+use Rattle.board_terms.specs.Matrix.{all_up, turned_by}
 use Rattle.mcs48_core.specs.Cpu.{Cpu}
 use Rattle.mcs48_core.specs.declared.levels.Pins.{Pins}
 use Rattle.mcs48_core.specs.declared.stepping.Stuck.{Stuck}
@@ -17,10 +17,10 @@ use Rattle.joint_run.specs.declared.machine.Machine.{Machine}
 use Rattle.joint_run.specs.Run.{World, after_cycles, seen, after_step, step_on, run_at}
 use Rattle.joint_run.specs.Joint.{Beside, keys_at, pins_by, joint_pins, joint_cycle, joint_board, joint_start_of}
 use Rattle.joint_run.specs.Due.{beside, outside_of, passed, made_first, keys_in_step, due_board}
-use Rattle.joint_run.specs.Due.{world_of, due_step, machine_after, told, IsSeen, IsJointStep}
+use Rattle.joint_run.specs.Due.{world_of, due_step, machine_after, with_seen, IsSeen, IsJointStep}
 use Rattle.joint_run.specs.History.{IsInRunFrom, IsDueOf, GoesOn, IsNext, IsStepOfRun}
 use Rattle.joint_run.proofs.Made.{made_now, taken_now, reached_now, turned_on}
-use Rattle.joint_run.proofs.Runs.{next_one, next_two, behind, same_cycles}
+use Rattle.joint_run.proofs.Runs.{next_one, next_two, afterwards, same_cycles}
 
 pins_are : (edges : List Edge) (p1 p2 cycle : ℕ) (s : Beside) → joint_pins edges p1 p2 cycle s ≡ pins_by (keys_at edges cycle) p1 p2 s
 unfolding joint_pins
@@ -30,10 +30,10 @@ pins_are edges p1 p2 cycle s = refl
 abbrev pub AreFew : Result Seen Stuck → Type 0
 AreFew result = IfOk result (λ seen. (0 < seen.cycles) × (seen.cycles < 3))
 
-pub are_few_told : (result : Result (Unit {0}) Stuck) (seen : Seen)
-    → OnOk result (0 < seen.cycles) → OnOk result (seen.cycles < 3) → AreFew (told result seen)
-are_few_told (Ok done) seen some few = (some, few)
-are_few_told (Err stuck) seen some few = tt
+pub are_few_seen : (result : Result (Unit {0}) Stuck) (seen : Seen)
+    → OnOk result (0 < seen.cycles) → OnOk result (seen.cycles < 3) → AreFew (with_seen result seen)
+are_few_seen (Ok done) seen some few = (some, few)
+are_few_seen (Err stuck) seen some few = tt
 
 module _ (held : Cpu) (edges : List Edge) (events : List HostEvent) (order : AreInOrder edges) (m : Machine) (made : ℕ) (w : World Beside)
     (r : IsInRunFrom held edges events m made w) (due : Due) (d : IsDueOf edges events made w due) where
@@ -74,7 +74,7 @@ module _ (held : Cpu) (edges : List Edge) (events : List HostEvent) (order : Are
   abbrev done : ℕ
   done = w.board.pc.side.done
 
-  board_same : (n : Stepped) → 0 < n.cycles → n.cycles < 3 → (came n).board ≡ behind done w.board.pc.side.log (alone n)
+  board_same : (n : Stepped) → 0 < n.cycles → n.cycles < 3 → (came n).board ≡ afterwards done w.board.pc.side.log (alone n)
   board_same n some few =
       ap (λ c. after_cycles n.cycles c (joint_cycle events n.cpu.p2) w.board) (sym r.cycle)
       ∙ ap (λ o. after_cycles n.cycles m.cycle (joint_cycle events n.cpu.p2) (beside o done w.board.pc.side.log)) (sym r.outside)
@@ -94,7 +94,7 @@ module _ (held : Cpu) (edges : List Edge) (events : List HostEvent) (order : Are
       → GoesOn held edges events made w seen new
   goes n seen new run e s some few =
       let count : m.cycle + seen.cycles ≡ m.cycle + n.cycles = s.cycles in
-      let same : (came n).board ≡ behind done w.board.pc.side.log (alone n) =
+      let same : (came n).board ≡ afterwards done w.board.pc.side.log (alone n) =
       board_same n (omega (arith, some, count)) (omega (arith, few, count)) in
       let on : m.steps + 1 ≡ suc m.steps = omega arith in
       let edges_now : take (made + seen.edges) edges ≡ take made edges ++ firsts = taken_edges seen.edges s.edges in

@@ -1,10 +1,10 @@
--- A cycle of the joint run is a cycle of what stands outside the processor, and what it does and says.
+-- A cycle of the joint run is a cycle of what is outside the processor, and what it does and says.
 use Rattle.std.proofs.Common.{◌≡◌, ℕ, ◌+◌, List, [], ◌++◌, append_assoc, Bool, true, false, refl, ap, sym, ◌∙◌}
 use Rattle.std.specs.Prelude.{if◌then◌else◌, slice_get}
 use Rattle.std.specs.declared.option.Option.{Option}
-use Rattle.board_lines.specs.declared.event.HostEvent.{HostEvent}
-use Rattle.board_lines.specs.declared.lines.Lines.{Lines}
-use Rattle.ctl_link.specs.declared.port.Port.{Port}
+use Rattle.board_terms.specs.declared.event.HostEvent.{HostEvent}
+use Rattle.board_terms.specs.declared.lines.Lines.{Lines}
+use Rattle.ctl_link.specs.declared.port.LinkEnd.{LinkEnd}
 use Rattle.ctl_wire.specs.declared.wire.Wire.{Wire}
 use Rattle.ctl_wire.specs.Cycles.{port_looked}
 use Rattle.ctl_wire.specs.Wire.{is_breakable}
@@ -50,7 +50,7 @@ cycle_is events p2 now o done log =
     let lights : List Stamped = lights_said now o.shown (lights_of p2) in
     let s : Side Wire = record { port = o.desk.port; masked = o.desk.masked; bios = o.desk.bios; done = done; log = log ++ lights } in
     let line : Lines = outside_wires p2 o in
-    let p : Port Wire = port_looked now o.clock line o.desk.port in
+    let p : LinkEnd Wire = port_looked now o.clock line o.desk.port in
     let c : Cycled Wire = cycled is_breakable now (slice_get events done) (looked_outside now line o).desk in
     opened events p2 now o done log
     ∙ ap (λ t. record { pc = record { side = t; clock = line.clk }; shown = lights_of p2 }) (going events now (record s { port = p }))

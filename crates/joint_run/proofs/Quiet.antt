@@ -6,8 +6,8 @@ use Rattle.std.proofs.lemmas.Bool.{not-true, not_from_false}
 use Rattle.std.proofs.lemmas.Bool.Decides.{nat_tests}
 use Rattle.std.proofs.Math.Bool.{and-true}
 use Rattle.std.specs.declared.option.Option.{Option}
-use Rattle.board_lines.specs.declared.event.HostEvent.{HostEvent}
-use Rattle.board_lines.specs.declared.lines.Lines.{Lines}
+use Rattle.board_terms.specs.declared.event.HostEvent.{HostEvent}
+use Rattle.board_terms.specs.declared.lines.Lines.{Lines}
 use Rattle.ctl_link.specs.declared.link.Link.{Link}
 use Rattle.ctl_link.specs.declared.link.Link.TheVariants.{Free, Hold, Ask, Request, Busy}
 use Rattle.ctl_wire.specs.declared.wire.Wire.{Wire}
@@ -95,7 +95,7 @@ link_free now p2 next o q = and-left (is_free o.desk.port.link) (is_idle o.desk.
 
 -- a quiet cycle, with any latch and any lights
 module _ (line : Lines) (lit now : ℕ) (next : Option HostEvent) (o : Outside) where
-  -- what a cycle comes to, by the clock's level and what the host and the controller did in it
+  -- the outcome of a cycle, by the clock's level and what the host and the controller did in it
   abbrev ended : Bool → Cycled Wire → Passed
   ended clock c = record {
     outside = record { desk = c.desk; clock = clock; shown = lit };

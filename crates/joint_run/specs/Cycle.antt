@@ -1,8 +1,8 @@
 -- A cycle outside the processor, by the host's next event.
 use Rattle.std.specs.Prelude.{ℕ, Bool, List, ◌++◌, not, ◌&&◌, ◌==◌}
 use Rattle.std.specs.declared.option.Option.{Option}
-use Rattle.board_lines.specs.declared.event.HostEvent.{HostEvent}
-use Rattle.board_lines.specs.declared.lines.Lines.{Lines}
+use Rattle.board_terms.specs.declared.event.HostEvent.{HostEvent}
+use Rattle.board_terms.specs.declared.lines.Lines.{Lines}
 use Rattle.ctl_wire.specs.declared.wire.Wire.{Wire}
 use Rattle.ctl_wire.specs.Cycles.{port_looked}
 use Rattle.ctl_wire.specs.Wire.{drive, is_breakable}
@@ -29,7 +29,7 @@ looked_outside now line o = record o {
   clock = line.clk;
 }
 
--- what a cycle comes to: the state after it, what was said, in order, and whether the host's next event was done
+-- the outcome of a cycle: the state after it, what was said, in order, and whether the host's next event was done
 pub record Passed : Type 0 where
   pub outside : Outside
   pub items : List Stamped

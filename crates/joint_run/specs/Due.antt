@@ -3,11 +3,11 @@ use Rattle.std.specs.Prelude.{◌≡◌, ℕ, ◌+◌, ◌%◌, Bool, true, List
 use Rattle.std.specs.Prelude.{Some, None, Ok, Err}
 use Rattle.std.specs.declared.option.Option.{Option}
 use Rattle.std.specs.declared.result.Result.{Result}
-use Rattle.board_lines.specs.declared.event.Edge.{Edge}
-use Rattle.board_lines.specs.declared.event.HostEvent.{HostEvent}
-use Rattle.board_lines.specs.declared.lines.Lines.{Lines}
-use Rattle.board_lines.specs.Edges.{is_made}
-use Rattle.board_lines.specs.Matrix.{all_up, turned_by}
+use Rattle.board_terms.specs.declared.event.Edge.{Edge}
+use Rattle.board_terms.specs.declared.event.HostEvent.{HostEvent}
+use Rattle.board_terms.specs.declared.lines.Lines.{Lines}
+use Rattle.board_terms.specs.Edges.{is_made}
+use Rattle.board_terms.specs.Matrix.{all_up, turned_by}
 use Rattle.ctl_wire.specs.declared.wire.Wire.{Wire}
 use Rattle.host_turn.specs.declared.stamped.Stamped.{Stamped}
 use Rattle.host_turn.specs.Cycle.{desk_at_start}
@@ -137,7 +137,7 @@ ended cycles due m = record {
   cycle = m.cycle + cycles;
 }
 
--- a call of `step`: where the processor is stuck the counter and the byte are answered, and nothing has changed
+-- a call of `step`: if the processor is stuck the counter and the byte are answered, and nothing has changed
 abbrev pub IsJointStep : Due → Machine → Option (World Beside) → Result Seen Stuck → Machine → Type 0
 IsJointStep due old (Some w) (Ok seen) new = (new ≡ machine_after due old w) × IsSeen due old w seen
 IsJointStep due old (Some w) (Err stuck) new = ⊥
@@ -146,9 +146,9 @@ IsJointStep due old None (Err stuck) new =
     (stuck ≡ record { pc = old.mcu.pc; byte = slice_index old.image.bytes (old.mcu.pc % 2048) }) × (new ≡ old)
 
 -- what a step that is reported in a place of the caller's answers
-abbrev pub told : Result (Unit {0}) Stuck → Seen → Result Seen Stuck
-told (Ok done) seen = Ok seen
-told (Err stuck) seen = Err stuck
+abbrev pub with_seen : Result (Unit {0}) Stuck → Seen → Result Seen Stuck
+with_seen (Ok done) seen = Ok seen
+with_seen (Err stuck) seen = Err stuck
 
 -- nothing was done and said yet
 abbrev pub nothing_seen : Seen

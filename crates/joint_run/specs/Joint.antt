@@ -1,11 +1,11 @@
 -- The keyboard's processor on its board, joined to the controller, the host and INT 09h.
 use Rattle.std.specs.Prelude.{ℕ, ◌+◌, Bool, true, List, if◌then◌else◌}
 use Rattle.std.specs.List.{filter}
-use Rattle.board_lines.specs.declared.event.Edge.{Edge}
-use Rattle.board_lines.specs.declared.event.HostEvent.{HostEvent}
-use Rattle.board_lines.specs.declared.lines.Lines.{Lines}
-use Rattle.board_lines.specs.Edges.{is_made}
-use Rattle.board_lines.specs.Matrix.{all_up, turned_by, rows_of}
+use Rattle.board_terms.specs.declared.event.Edge.{Edge}
+use Rattle.board_terms.specs.declared.event.HostEvent.{HostEvent}
+use Rattle.board_terms.specs.declared.lines.Lines.{Lines}
+use Rattle.board_terms.specs.Edges.{is_made}
+use Rattle.board_terms.specs.Matrix.{all_up, turned_by, rows_of}
 use Rattle.host_turn.specs.declared.stamped.Stamped.{Stamped}
 use Rattle.host_turn.specs.Run.{says_lights}
 use Rattle.mcs48_core.specs.declared.levels.Pins.{Pins}
@@ -24,7 +24,7 @@ pub record Beside : Type 0 where
 abbrev pub latch_of : ℕ → Lines
 latch_of p2 = record { clk = bit 0 p2; dat = bit 1 p2 }
 
--- bits 4, 5 and 6 of port 2 light Scroll, Num and Caps where they are 0; in the lights' value these are bits 0, 1, 2
+-- bits 4, 5 and 6 of port 2 light Scroll, Num and Caps if they are 0; in the lights' value these are bits 0, 1, 2
 abbrev pub lights_of : ℕ → ℕ
 lights_of p2 = (if bit 4 p2 then 0 else 1) + (if bit 5 p2 then 0 else 2) + (if bit 6 p2 then 0 else 4)
 

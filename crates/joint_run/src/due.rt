@@ -4,7 +4,7 @@ ghost use Rattle.std.specs.Prelude.{◌≡◌};
 ghost use Rattle.joint_run.specs.Due.{nothing_seen};
 
 use arrayvec::ArrayVec;
-use board_lines::{Edge, HostEvent, Lines};
+use board_terms::{Edge, HostEvent, Lines};
 use host_turn::Stamped;
 
 /// The next events of a history, in their order: edges that aren't made yet, and the host's events that aren't done

@@ -3,7 +3,7 @@
 ghost use Rattle.std.specs.Prelude.{◌≡◌, ◌+◌, ◌<◌, ◌≤◌, ◌^◌, ℕ, IfOk, OnErr, OnOk, Some, true};
 ghost use Rattle.int09.specs.Bios.{start};
 ghost use Rattle.joint_run.specs.Cycle.{is_let_go, outside_wires};
-ghost use Rattle.joint_run.specs.Due.{due_step, ended, machine_after, powered_on, powered_on_from, told, IsJointStep, IsSeen};
+ghost use Rattle.joint_run.specs.Due.{due_step, ended, machine_after, powered_on, powered_on_from, with_seen, IsJointStep, IsSeen};
 ghost use Rattle.joint_run.specs.Edgeless.{without_edges};
 ghost use Rattle.joint_run.specs.Filled.{filled};
 ghost use Rattle.joint_run.specs.History.{IsFirstOfRun, IsFirstOfRunFrom, IsStepOfRun};
@@ -15,7 +15,7 @@ ghost use Rattle.mcs48_core.specs.Step.{stepped, IsStep};
 use crate::due::{Due, Seen};
 use crate::machine::Machine;
 use crate::outside::Outside;
-use board_lines::{Lines, Matrix};
+use board_terms::{Lines, Matrix};
 use ctl_core::Controller;
 use int09::Bios;
 use mcs48_core::{Mcu, Pins, Stuck, reset};
@@ -162,8 +162,8 @@ impl Joint {
     #[inline(never)]
     pub fn step_into(&mut self, due: &Due, seen: &mut Seen) -> Result<(), Stuck>
         requires near { self.old.cycle < 2 ^ 62 }
-        ensures step { IsJointStep due.now self.old (due_step due.now self.old) (told result seen.new) self.new }
-        ensures run { IsStepOfRun due.now self.old (told result seen.new) self.new }
+        ensures step { IsJointStep due.now self.old (due_step due.now self.old) (with_seen result seen.new) self.new }
+        ensures run { IsStepOfRun due.now self.old (with_seen result seen.new) self.new }
         ensures unchanged { OnErr result (self.new ≡ self.old) }
         ensures some { OnOk result (0 < seen.new.cycles) }
         ensures few { OnOk result (seen.new.cycles < 3) }
@@ -176,8 +176,8 @@ impl Joint {
     #[inline(always)]
     pub fn step_inlined<const SITE: u8>(&mut self, due: &Due, seen: &mut Seen) -> Result<(), Stuck>
         requires near { self.old.cycle < 2 ^ 62 }
-        ensures step { IsJointStep due.now self.old (due_step due.now self.old) (told result seen.new) self.new }
-        ensures run { IsStepOfRun due.now self.old (told result seen.new) self.new }
+        ensures step { IsJointStep due.now self.old (due_step due.now self.old) (with_seen result seen.new) self.new }
+        ensures run { IsStepOfRun due.now self.old (with_seen result seen.new) self.new }
         ensures unchanged { OnErr result (self.new ≡ self.old) }
         ensures some { OnOk result (0 < seen.new.cycles) }
         ensures few { OnOk result (seen.new.cycles < 3) }
@@ -221,7 +221,7 @@ impl Joint {
         self.machine.steps += steps;
     }
 
-    /// The cycles of a step pass, 1 or 2, whose part the processor has made, and in which no edge is made. It is told in
+    /// The cycles of a step pass, 1 or 2, whose part the processor has made, and in which no edge is made. It is reported in
     /// `seen`.
     pub fn end_step(&mut self, cycles: u8, due: &Due, seen: &mut Seen)
         requires near { self.old.cycle < 2 ^ 62 }

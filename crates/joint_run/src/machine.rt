@@ -1,9 +1,9 @@
 //! The joint machine's parts, and a step of them.
 
 ghost use Rattle.std.specs.Prelude.{◌≡◌, ◌+◌, ◌<◌, ◌≤◌, ◌^◌, ℕ, [], length, false, IfOk, OnErr, OnOk, Some};
-ghost use Rattle.board_lines.specs.Matrix.{turned_by};
+ghost use Rattle.board_terms.specs.Matrix.{turned_by};
 ghost use Rattle.ctl_link.specs.Empty.{IsEmptyUnlessHeld};
-ghost use Rattle.joint_run.specs.Due.{beside, due_step, ended, machine_after, made_first, told, IsJointStep, IsSeen};
+ghost use Rattle.joint_run.specs.Due.{beside, due_step, ended, machine_after, made_first, with_seen, IsJointStep, IsSeen};
 ghost use Rattle.joint_run.specs.Edgeless.{without_edges};
 ghost use Rattle.joint_run.specs.Joint.{pins_by};
 ghost use Rattle.mcs48_core.specs.Leap.{spun};
@@ -12,7 +12,7 @@ ghost use Rattle.mcs48_core.specs.Step.{stepped, IsStep};
 use crate::due::{Due, Seen};
 use crate::outside::Outside;
 use arrayvec::ArrayVec;
-use board_lines::{Edge, Matrix};
+use board_terms::{Edge, Matrix};
 use host_turn::Stamped;
 use mcs48_core::{Mcu, Pins, Stuck};
 use mcs48_isa::Image;
@@ -176,7 +176,7 @@ impl Machine {
         requires steps { self.old.steps ≤ self.old.cycle }
         requires empty { IsEmptyUnlessHeld self.old.outside.desk.port }
         ensures step { let rest = without_edges due.now in
-            IsJointStep rest self.old (due_step rest self.old) (told result seen.new) self.new }
+            IsJointStep rest self.old (due_step rest self.old) (with_seen result seen.new) self.new }
         ensures unchanged { OnErr result (self.new ≡ self.old) }
         ensures some { OnOk result (0 < seen.new.cycles) }
         ensures few { OnOk result (seen.new.cycles < 3) }
@@ -196,7 +196,7 @@ impl Machine {
         requires near { self.old.cycle < 2 ^ 62 }
         requires steps { self.old.steps ≤ self.old.cycle }
         requires empty { IsEmptyUnlessHeld self.old.outside.desk.port }
-        ensures step { IsJointStep due.now self.old (due_step due.now self.old) (told result seen.new) self.new }
+        ensures step { IsJointStep due.now self.old (due_step due.now self.old) (with_seen result seen.new) self.new }
         ensures unchanged { OnErr result (self.new ≡ self.old) }
         ensures some { OnOk result (0 < seen.new.cycles) }
         ensures few { OnOk result (seen.new.cycles < 3) }
@@ -226,7 +226,7 @@ impl Machine {
         requires near { self.old.cycle < 2 ^ 62 }
         requires steps { self.old.steps ≤ self.old.cycle }
         requires empty { IsEmptyUnlessHeld self.old.outside.desk.port }
-        ensures step { IsJointStep due.now self.old (due_step due.now self.old) (told result seen.new) self.new }
+        ensures step { IsJointStep due.now self.old (due_step due.now self.old) (with_seen result seen.new) self.new }
         ensures unchanged { OnErr result (self.new ≡ self.old) }
         ensures some { OnOk result (0 < seen.new.cycles) }
         ensures few { OnOk result (seen.new.cycles < 3) }

@@ -12,8 +12,8 @@ ghost use Rattle.pc_wires.specs.Wires.{joined};
 ghost use Rattle.joint_run.specs.Cycle.{is_let_go, is_quiet, looked_outside, outside_cycle, outside_wires};
 
 use arrayvec::ArrayVec;
-use board_lines::{HostEvent, Lines};
-use ctl_link::{Link, Port};
+use board_terms::{HostEvent, Lines};
+use ctl_link::{Link, LinkEnd};
 use ctl_wire::{Wire, drive_of, fall};
 use host_turn::{Desk, Stamped};
 use int09::Bios;
@@ -87,10 +87,10 @@ fn copied_link(link: &Link<Wire>) -> Link<Wire>
 }
 
 /// A controller of its own, with its link in the same state.
-fn copied_port(port: &Port<Wire>) -> Port<Wire>
+fn copied_port(port: &LinkEnd<Wire>) -> LinkEnd<Wire>
     ensures { result ≡ port.now }
 {
-    Port {
+    LinkEnd {
         core: port.core.copied(),
         filled: port.filled,
         link: copied_link(&port.link),
@@ -149,7 +149,7 @@ impl Outside {
         line.clk && line.dat && matches!(self.desk.port.link, Link::Free)
     }
 
-    /// The lights that port 2 lights are shown; they are said where they changed.
+    /// The lights that port 2 lights are shown; they are said if they changed.
     fn show(&mut self, now: u64, p2: u8, items: &mut ArrayVec<Stamped, 16>)
         requires room { length items.old.items < 16 }
         ensures shown { self.new ≡ record self.old { shown = lights_of p2 } }

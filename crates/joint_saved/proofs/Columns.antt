@@ -1,7 +1,7 @@
 -- A matrix is read from the rows of its columns.
 use Rattle.std.proofs.Common.{◌≡◌, ◌<◌, ℕ, Bool, List, [], ◌∷◌, length, get_or, refl, ap, sym, ◌∙◌, arith}
-use Rattle.board_lines.proofs.Columns.{reads_column}
-use Rattle.board_lines.specs.Columns.{keys_in}
+use Rattle.board_terms.proofs.Columns.{reads_column}
+use Rattle.board_terms.specs.Columns.{keys_in}
 use Rattle.joint_saved.specs.Saved.{columns_of}
 
 twelve : (xs : List ℕ) → length xs ≡ 12

@@ -23,9 +23,9 @@ use Rattle.std.specs.Prelude.{List, [], ◌∷◌, ◌++◌, length, slice_index
 use Rattle.std.specs.declared.option.Option.{Option}
 use Rattle.std.specs.declared.result.Result.{Result}
 use Rattle.std.specs.Int.{w64, to_le_bytes}
-use Rattle.board_lines.specs.Columns.{keys_in}
-use Rattle.board_lines.specs.Matrix.{rows_of}
-use Rattle.board_lines.specs.declared.event.Edge.{Edge}
+use Rattle.board_terms.specs.Columns.{keys_in}
+use Rattle.board_terms.specs.Matrix.{rows_of}
+use Rattle.board_terms.specs.declared.event.Edge.{Edge}
 use Rattle.ctl_link.specs.Empty.{fits}
 use Rattle.ctl_link.specs.declared.link.Link.{Link}
 use Rattle.ctl_wire.specs.declared.wire.Wire.{Wire}

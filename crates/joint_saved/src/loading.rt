@@ -14,7 +14,7 @@ ghost use Rattle.joint_saved.specs.declared.unloaded.Unloaded.TheVariants.{Memor
 use crate::saving::SAVED;
 use crate::unloaded::Unloaded;
 use arrayvec::ArrayVec;
-use board_lines::{Edge, Matrix};
+use board_terms::{Edge, Matrix};
 use ctl_link::{Link, Port as LinkPort};
 use ctl_wire::Wire;
 use host_turn::Stamped;

@@ -7,7 +7,7 @@ use Rattle.std.specs.declared.result.Result.{Result}
 use Rattle.std.specs.declared.vec.Vec.{Vec}
 use Rattle.board_probes.specs.Probes.{Watch}
 use Rattle.io_edge.specs.Said.{Shown}
-use Rattle.io_edge.specs.Shelf.{Told, after_fetch}
+use Rattle.io_edge.specs.Shelf.{Shelved, after_fetch}
 use Rattle.key_file.specs.KeyFile.{history_of}
 use Rattle.layout_reader.specs.Documents.{layout_of_document}
 use Rattle.layout_reader.specs.Layouts.{KeyLayout}
@@ -31,64 +31,64 @@ use Rattle.kbd48_app.specs.Plans.{Gives, Fetches, Runs, debug_plan, keys_next}
 use Rattle.kbd48_app.specs.Plans.{pair_plan, probe_plan, with_history, with_layout}
 use Rattle.app_answers.specs.Spoken.{IsSpoken, May, still_to_say}
 use Rattle.app_answers.specs.Taking.{Taking}
-use Rattle.app_runs.specs.Telling.{MayTell, MayTellRun}
+use Rattle.app_runs.specs.RunOfText.{MaySayOfText, MaySayOfRun}
 use Rattle.app_words.specs.Words.{command_of}
 use Rattle.kbd48_app.proofs.FilesAreFound.{end_of_history, found_so}
 use Rattle.kbd48_app.proofs.WordsAreNames.{ends_over_debug, ends_over_file, ends_over_pair, ends_over_probe}
 use Rattle.kbd48_app.proofs.RunPlans.{LayoutOutcome, plan_from}
-use Rattle.app_answers.proofs.AreSpoken.{left_behind, left_so, spoken_on, unsaid_so}
+use Rattle.app_answers.proofs.AreSpoken.{left_after, left_so, spoken_on, unsaid_so}
 
--- behind both files
-module _ (command : RunCommand) (first second : List ℕ) (shelf on last : Option Told)
+-- after both files
+module _ (command : RunCommand) (first second : List ℕ) (shelf on last : Option Shelved)
     (file keys : Vec ℕ Global) (layout : KeyLayout) (text : List ℕ)
     (gives : MayGive kinds.Layout first shelf (Ok file)) (fetched : on ≡ option_map after_fetch shelf)
     (is : layout_of_document file.items ≡ Ok layout)
     (given : MayGive kinds.Keys second on (Ok keys)) (then : last ≡ option_map after_fetch on) (same : text ≡ keys.items) where
-  ran_over : (answer : Answer) (probes : List Watch) (left : Left) → MayTell command layout text answer probes left
+  ran_over : (answer : Answer) (probes : List Watch) (left : Left) → MaySayOfText command layout text answer probes left
       → MayEnd (pair_plan (OverRun command) first second) shelf answer last probes left
-  ran_over answer probes left tells =
+  ran_over answer probes left says_so =
       found_so kinds.Layout first (plan_from (Runs command) second) shelf on last answer probes left file gives fetched
       (subst (λ (o : LayoutOutcome). MayEnd (with_layout (keys_next (Runs command) second) o) on answer last probes left) (sym is)
       (found_so kinds.Keys second (λ t. with_history (Runs command layout) (history_of layout t)) on last last answer probes left keys given
       then
       (subst (λ (t : List ℕ). MayEnd (with_history (Runs command layout) (history_of layout t)) last answer last probes left)
-      same (end_of_history (MayTellRun command layout probes) (Runs command layout) last answer probes left
-      (λ history h. (h.0, refl, h.1)) (history_of layout text) tells))))
+      same (end_of_history (MaySayOfRun command layout probes) (Runs command layout) last answer probes left
+      (λ history h. (h.0, refl, h.1)) (history_of layout text) says_so))))
 
   pub ran_spoken : (probes left : List Watch) (result : Result Spoken Refusal) (x y : Shown)
-      → IsSpoken (λ answer taking log. MayTell command layout text answer probes (left_behind left taking log)) result x y
+      → IsSpoken (λ answer taking log. MaySayOfText command layout text answer probes (left_after left taking log)) result x y
       → IsSpoken (λ answer taking log.
-      MayEnd (pair_plan (OverRun command) first second) shelf answer last probes (left_behind left taking log)) result x y
+      MayEnd (pair_plan (OverRun command) first second) shelf answer last probes (left_after left taking log)) result x y
   ran_spoken probes left result x y h =
-      spoken_on (λ answer taking log. MayTell command layout text answer probes (left_behind left taking log))
-      (λ answer taking log. MayEnd (pair_plan (OverRun command) first second) shelf answer last probes (left_behind left taking log))
-      (λ answer taking log k. ran_over answer probes (left_behind left taking log) k) result x y h
+      spoken_on (λ answer taking log. MaySayOfText command layout text answer probes (left_after left taking log))
+      (λ answer taking log. MayEnd (pair_plan (OverRun command) first second) shelf answer last probes (left_after left taking log))
+      (λ answer taking log k. ran_over answer probes (left_after left taking log) k) result x y h
 
 -- a command over two files, by what it is
-pub pair_by : (c d : PairCommand) (first second : List ℕ) (shelf after : Option Told) (probes left : List Watch)
+pub pair_by : (c d : PairCommand) (first second : List ℕ) (shelf after : Option Shelved) (probes left : List Watch)
     (result : Result Spoken Refusal) (x y : Shown) → c ≡ d
-    → IsSpoken (λ answer taking log. MayEnd (pair_plan d first second) shelf answer after probes (left_behind left taking log)) result x y
-    → IsSpoken (λ answer taking log. MayEnd (pair_plan c first second) shelf answer after probes (left_behind left taking log)) result x y
+    → IsSpoken (λ answer taking log. MayEnd (pair_plan d first second) shelf answer after probes (left_after left taking log)) result x y
+    → IsSpoken (λ answer taking log. MayEnd (pair_plan c first second) shelf answer after probes (left_after left taking log)) result x y
 pair_by c d first second shelf after probes left result x y is h =
     subst (λ (k : PairCommand).
-    IsSpoken (λ answer taking log. MayEnd (pair_plan k first second) shelf answer after probes (left_behind left taking log))
+    IsSpoken (λ answer taking log. MayEnd (pair_plan k first second) shelf answer after probes (left_after left taking log))
     result x y) (sym is) h
 
 -- one that leaves the probes alone, and says nothing itself
-pub pair_unsaid : (c d : PairCommand) (first second : List ℕ) (shelf after : Option Told) (probes : List Watch)
+pub pair_unsaid : (c d : PairCommand) (first second : List ℕ) (shelf after : Option Shelved) (probes : List Watch)
     (said : Result (Vec ℕ Global) Refusal) (result : Result Spoken Refusal)
     (x : Shown) → c ≡ d → result ≡ still_to_say said
     → ((all : List Watch) (taking : Taking) → MayEnd (pair_plan d first second) shelf (answer_of said) after all (left_so all taking))
-    → IsSpoken (λ answer taking log. MayEnd (pair_plan c first second) shelf answer after probes (left_behind probes taking log)) result x x
+    → IsSpoken (λ answer taking log. MayEnd (pair_plan c first second) shelf answer after probes (left_after probes taking log)) result x x
 pair_unsaid c d first second shelf after probes said result x is so h =
     pair_by c d first second shelf after probes probes result x x is
-    (unsaid_so (λ answer taking log. MayEnd (pair_plan d first second) shelf answer after probes (left_behind probes taking log))
+    (unsaid_so (λ answer taking log. MayEnd (pair_plan d first second) shelf answer after probes (left_after probes taking log))
     said result x so (h probes))
 
 -- the same of the words
-module _ (words : List (String Global)) (shelf after : Option Told) where
+module _ (words : List (String Global)) (shelf after : Option Shelved) where
   abbrev pub MaySay : List Watch → List Watch → May
-  MaySay probes left answer taking log = MayAnswer (map string_bytes words) shelf answer after probes (left_behind left taking log)
+  MaySay probes left answer taking log = MayAnswer (map string_bytes words) shelf answer after probes (left_after left taking log)
 
   pub file_spoken : (command : FileCommand) (word : String Global) (name : List ℕ) (probes : List Watch)
       (said : Result (Vec ℕ Global) Refusal) (result : Result Spoken Refusal) (x : Shown)
@@ -109,14 +109,14 @@ module _ (words : List (String Global)) (shelf after : Option Told) where
       → command_of (map string_bytes words) ≡ Some (OverPair command)
       → 2 < length words → word ≡ slice_index_or words 1 word → word' ≡ slice_index_or words 2 word'
       → name ≡ string_bytes word → name' ≡ string_bytes word'
-      → IsSpoken (λ answer taking log. MayEnd (pair_plan command name name') shelf answer after probes (left_behind left taking log))
+      → IsSpoken (λ answer taking log. MayEnd (pair_plan command name name') shelf answer after probes (left_after left taking log))
       result x y
       → IsSpoken (MaySay probes left) result x y
   pair_spoken command word word' name name' probes left result x y is more at at' same same' h =
-      spoken_on (λ answer taking log. MayEnd (pair_plan command name name') shelf answer after probes (left_behind left taking log))
+      spoken_on (λ answer taking log. MayEnd (pair_plan command name name') shelf answer after probes (left_after left taking log))
       (MaySay probes left)
       (λ answer taking log k.
-      ends_over_pair words command word word' name name' shelf after answer probes (left_behind left taking log)
+      ends_over_pair words command word word' name name' shelf after answer probes (left_after left taking log)
       is more at at' same same' k) result x y h
 
   pub debug_spoken : (word word' word'' : String Global) (name name' name'' : List ℕ) (probes left : List Watch)
@@ -145,7 +145,7 @@ module _ (words : List (String Global)) (shelf after : Option Told) where
       is more at_a at_b at_c at_d is_a is_b is_c is_d (h taking))
 
 -- `sample` fetches nothing
-pub sample_spoken : (words : List (String Global)) (shelf : Option Told) (count n : ℕ) (probes left : List Watch)
+pub sample_spoken : (words : List (String Global)) (shelf : Option Shelved) (count n : ℕ) (probes left : List Watch)
     (result : Result Spoken Refusal) (x y : Shown)
     → command_of (map string_bytes words) ≡ Some (Sample count)
     → n ≡ count → IsSpoken (λ answer taking log. MayAnswerSample n answer probes left × (log ≡ [])) result x y
@@ -153,5 +153,5 @@ pub sample_spoken : (words : List (String Global)) (shelf : Option Told) (count 
 sample_spoken words shelf count n probes left result x y is same h =
     spoken_on (λ answer taking log. MayAnswerSample n answer probes left × (log ≡ [])) (MaySay words shelf shelf probes left)
     (λ answer taking log k.
-    subst (λ (c : Option Command). MayEndAs c (map string_bytes words) shelf answer shelf probes (left_behind left taking log)) (sym is)
+    subst (λ (c : Option Command). MayEndAs c (map string_bytes words) shelf answer shelf probes (left_after left taking log)) (sym is)
     (subst (λ (m : ℕ). MayAnswerSample m answer probes left) same k.0, refl, k.1)) result x y h

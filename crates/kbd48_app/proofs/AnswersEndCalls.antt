@@ -6,7 +6,7 @@ use Rattle.board_probes.specs.Probes.{Watch}
 use Rattle.io_edge.proofs.Pieces.{AreLines, said_then_broken, said_then_said}
 use Rattle.io_edge.specs.Faults.{Rose}
 use Rattle.io_edge.specs.Said.{IsBrokenOff, IsSaid, Shown}
-use Rattle.io_edge.specs.Shelf.{Told}
+use Rattle.io_edge.specs.Shelf.{Shelved}
 use Rattle.mcs48_core.specs.declared.stepping.Stuck.{Stuck as Place}
 use Rattle.app_words.specs.declared.exit.Exit.{Exit}
 use Rattle.app_words.specs.declared.exit.Exit.TheVariants as exits
@@ -18,7 +18,7 @@ use Rattle.kbd48_app.specs.Answers.{MayAnswer}
 use Rattle.app_answers.specs.FileAnswers.{Answer}
 use Rattle.app_words.specs.Refusals.{exit_of, line_of}
 use Rattle.app_answers.specs.Says.{Says, exit_said, text_said}
-use Rattle.app_answers.specs.Spoken.{Concludes, IsSpoken, IsStuckBehind, May, Prints}
+use Rattle.app_answers.specs.Spoken.{Concludes, IsSpoken, IsStuckAfter, May, Prints}
 use Rattle.app_answers.specs.Taking.{Taking, Whole, CutOff, taking_of}
 use Rattle.kbd48_app.proofs.LogsAreLines.{lines_before}
 
@@ -109,7 +109,7 @@ read_ends (Err refusal) y z exit h is =
 abbrev AreLinesBefore : May → Type 0
 AreLinesBefore may = (answer : Answer) (taking : Taking) (log : List ℕ) → may answer taking log → AreLines log
 
--- a call that ends so has said this answer behind a log
+-- a call that ends so has said this answer after a log
 abbrev Ended : May → Shown → Shown → Exit → Type 0
 Ended may x z exit = (log : List ℕ) × (answer : Answer) × may answer (taking_of exit x z) log × Says log answer x z exit
 
@@ -125,7 +125,7 @@ cut_off may answer log x z exit is h = subst (λ (t : Taking). may answer t log)
 
 -- of a run that is stuck its line is said now
 stuck_concluded : (may : May) → AreLinesBefore may → (place : Place) (x y z : Shown) (exit : Exit)
-    → IsStuckBehind may (Err (refusals.Stuck place)) x y
+    → IsStuckAfter may (Err (refusals.Stuck place)) x y
     → Prints (line_of (refusals.Stuck place)) exits.Stuck y z exit → Ended may x z exit
 stuck_concluded may lines place x y z exit h (inl same) =
     let stuck : Answer = Err (refusals.Stuck place) in (
@@ -178,21 +178,21 @@ concluded may lines (Ok (Said (Err fault))) x y z exit h k = (
 concluded may lines (Ok (Stuck place)) x y z exit h k = stuck_concluded may lines place x y z exit h k
 
 -- the same of words
-abbrev pub MaySo : List (List ℕ) → Option Told → Option Told → List Watch → List Watch → May
+abbrev pub MaySo : List (List ℕ) → Option Shelved → Option Shelved → List Watch → List Watch → May
 MaySo words shelf after probes left answer taking log =
     MayAnswer words shelf answer after probes (record { probes = left; taking = taking; log = log })
 
 -- a call has ended so, having said this before its answer
-abbrev pub EndedBehind : List ℕ → List (List ℕ) → Option Told → Option Told → List Watch → List Watch → Shown → Shown → Exit → Type 0
-EndedBehind log words shelf after probes left x z exit =
+abbrev pub EndedAfter : List ℕ → List (List ℕ) → Option Shelved → Option Shelved → List Watch → List Watch → Shown → Shown → Exit → Type 0
+EndedAfter log words shelf after probes left x z exit =
     (answer : Answer)
     × MayAnswer words shelf answer after probes (record { probes = left; taking = taking_of exit x z; log = log })
     × Says log answer x z exit
 
-abbrev pub HasEnded : List (List ℕ) → Option Told → Option Told → List Watch → List Watch → Shown → Shown → Exit → Type 0
-HasEnded words shelf after probes left x z exit = (log : List ℕ) × EndedBehind log words shelf after probes left x z exit
+abbrev pub HasEnded : List (List ℕ) → Option Shelved → Option Shelved → List Watch → List Watch → Shown → Shown → Exit → Type 0
+HasEnded words shelf after probes left x z exit = (log : List ℕ) × EndedAfter log words shelf after probes left x z exit
 
-pub has_ended : (words : List (List ℕ)) (shelf after : Option Told) (probes left : List Watch)
+pub has_ended : (words : List (List ℕ)) (shelf after : Option Shelved) (probes left : List Watch)
     (result : Result Spoken Refusal) (x y z : Shown) (exit : Exit)
     → IsSpoken (MaySo words shelf after probes left) result x y
     → Concludes result y z exit → HasEnded words shelf after probes left x z exit

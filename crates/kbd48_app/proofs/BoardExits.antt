@@ -2,11 +2,11 @@
 use Rattle.std.proofs.Common.{◌≡◌, ℕ, List, None, Some, Ok, inr, refl, ap, ◌∙◌}
 use Rattle.std.specs.declared.option.Option.{Option}
 use Rattle.board_run.proofs.EndOf.{end_found, end_of, outcome_of}
-use Rattle.board_run.specs.Running.{IsOutcome, Outcome}
+use Rattle.board_run.specs.BoardOutcomes.{IsOutcome, Outcome}
 use Rattle.story_run.specs.declared.ending.End.{End}
 use Rattle.story_run.specs.declared.ending.End.TheVariants.{Over, Stuck}
 use Rattle.hexfile.specs.Hex.{hex_of}
-use Rattle.io_edge.specs.Shelf.{Told, after_fetch, fetched, Found}
+use Rattle.io_edge.specs.Shelf.{Shelved, after_fetch, fetched, Found}
 use Rattle.key_file.specs.Histories.{KeyHistory}
 use Rattle.key_file.specs.KeyFile.{history_of}
 use Rattle.layout_reader.specs.Documents.{layout_of_document}
@@ -24,18 +24,18 @@ use Rattle.kbd48_app.proofs.ExitAndCause.{IsCaused}
 use Rattle.kbd48_app.proofs.PlansEnd.{board_exit, leads}
 use Rattle.kbd48_app.specs.Causes.{Fault, HasFault, exit_at}
 use Rattle.kbd48_app.proofs.ProgramExits.{program_caused}
-use Rattle.kbd48_app.proofs.ProgramPlans.{fault_led_by_program, image_found, leads_all, read_behind}
+use Rattle.kbd48_app.proofs.ProgramPlans.{fault_led_by_program, image_found, leads_all, read_after}
 use Rattle.kbd48_app.proofs.RunExits.{ReadsBoth}
 use Rattle.kbd48_app.proofs.RunPlans.{HistoryOutcome, IsReadThird, IsScriptLed, first_found, history_exit, second_found}
 
--- no file is read behind the key file
+-- no file is read after the key file
 none_third : (wanted : BoardRun) (image : List ℕ) → IsReadThird (λ layout. Boards wanted image)
 none_third wanted image read file layout history after h = absurd h
 
 no_script : (n : ℕ) (wanted : BoardRun) (image : List ℕ) → IsScriptLed n (λ layout. Boards wanted image)
 no_script n wanted image script at layout history after h is = absurd h
 
-module _ (n : ℕ) (wanted : BoardRun) (first second last : List ℕ) (shelf : Told) where
+module _ (n : ℕ) (wanted : BoardRun) (first second last : List ℕ) (shelf : Shelved) where
   pub fault_led_by_board : (fault : Fault) → HasFault n fault (program_plan (Boards wanted) first second last) shelf
       → leads n (program_plan (Boards wanted) first second last) shelf ≡ exit_at fault
   fault_led_by_board fault h =
@@ -61,8 +61,8 @@ module _ (n : ℕ) (wanted : BoardRun) (first second last : List ℕ) (shelf : T
       → leads n (program_plan (Boards wanted) first second last) shelf ≡ exits.Stuck
   board_stuck bytes image document text layout history run place hex is doc has keys reads made stuck =
       let found = image_found (Boards wanted) first second last shelf n (none_third wanted) (no_script n wanted) bytes hex in
-      let doc' = read_behind (Boards wanted) first second last shelf image (bytes, found, is) kinds.Layout document (λ e. cc) doc in
-      let keys' = read_behind (Boards wanted) first second last shelf image (bytes, found, is) kinds.Keys text (λ e. cc) keys in
+      let doc' = read_after (Boards wanted) first second last shelf image (bytes, found, is) kinds.Layout document (λ e. cc) doc in
+      let keys' = read_after (Boards wanted) first second last shelf image (bytes, found, is) kinds.Keys text (λ e. cc) keys in
       let then = first_found n (λ of. Boards wanted image) (none_third wanted image) (no_script n wanted image)
       second last (after_fetch shelf) document doc' in
       let at = second_found n (λ of. Boards wanted image) (none_third wanted image) (no_script n wanted image)
@@ -71,7 +71,7 @@ module _ (n : ℕ) (wanted : BoardRun) (first second last : List ℕ) (shelf : T
       ∙ ap board_exit (end_found (board_story wanted image history) run made) ∙ ap (λ (e : End). board_exit (Some e)) stuck
 
 -- the exit of a run has its cause
-end_caused : (n : ℕ) (wanted : BoardRun) (plan : Plan) (shelf : Told) (bytes image : List ℕ) (layout : KeyLayout) (history : KeyHistory)
+end_caused : (n : ℕ) (wanted : BoardRun) (plan : Plan) (shelf : Shelved) (bytes image : List ℕ) (layout : KeyLayout) (history : KeyHistory)
     → Reads kinds.Hex bytes plan shelf → hex_of bytes ≡ Ok image → ReadsBoth n (Some (Board wanted)) plan shelf layout history
     → (end : Option End) → end_of (board_story wanted image history) ≡ end → IsCaused n (Some (Board wanted)) plan shelf (board_exit end)
 end_caused n wanted plan shelf bytes image layout history hex is both None e = tt
@@ -80,7 +80,7 @@ end_caused n wanted plan shelf bytes image layout history hex is both (Some (Stu
     let run = outcome_of (board_story wanted image history) (Stuck place) e in
     inr (wanted, refl, bytes, hex, image, is, both.0, both.1, layout, both.2, both.3, both.4, history, both.5, run.0, run.1, place, run.2)
 
-pub board_caused : (n : ℕ) (wanted : BoardRun) (first second last : List ℕ) (shelf : Told)
+pub board_caused : (n : ℕ) (wanted : BoardRun) (first second last : List ℕ) (shelf : Shelved)
     → IsCaused n (Some (Board wanted)) (program_plan (Boards wanted) first second last) shelf
     (leads n (program_plan (Boards wanted) first second last) shelf)
 board_caused n wanted first second last shelf =

@@ -9,7 +9,7 @@ use Rattle.std.specs.declared.vec.Vec.{Vec}
 use Rattle.board_probes.specs.Probes.{Watch}
 use Rattle.hexfile.specs.Hex.{HexOutcome, hex_of}
 use Rattle.io_edge.specs.Said.{Shown}
-use Rattle.io_edge.specs.Shelf.{Told, after_fetch}
+use Rattle.io_edge.specs.Shelf.{Shelved, after_fetch}
 use Rattle.key_file.specs.Histories.{KeyHistory}
 use Rattle.key_file.specs.KeyFile.{history_of}
 use Rattle.layout_reader.specs.Documents.{layout_of_document}
@@ -27,25 +27,25 @@ use Rattle.kbd48_app.specs.Plans.{Plan, Boards, keys_next, program_next, program
 use Rattle.kbd48_app.specs.Plans.{with_layout}
 use Rattle.app_answers.specs.Spoken.{IsSpoken}
 use Rattle.app_answers.specs.Taking.{Taking}
-use Rattle.app_boards.specs.Telling.{MayTellBoard}
+use Rattle.app_boards.specs.BoardOfText.{MaySayOfBoard}
 use Rattle.app_words.specs.Words.{command_of}
 use Rattle.app_boards.proofs.BoardsAreSaid.{MayRun}
 use Rattle.kbd48_app.proofs.FilesAreFound.{end_of_history, found_so, keys_unfound}
 use Rattle.kbd48_app.proofs.WordsAreNames.{ends_over_board}
 use Rattle.kbd48_app.proofs.RunPlans.{LayoutOutcome, plan_from}
 use Rattle.kbd48_app.proofs.AnswersAreSpoken.{MaySay}
-use Rattle.app_answers.proofs.AreSpoken.{spoken_on, left_behind, left_so}
+use Rattle.app_answers.proofs.AreSpoken.{spoken_on, left_after, left_so}
 
--- behind all three files
-module _ (wanted : BoardRun) (first second third : List ℕ) (shelf on mid last : Option Told)
+-- after all three files
+module _ (wanted : BoardRun) (first second third : List ℕ) (shelf on mid last : Option Shelved)
     (file document keys : Vec ℕ Global) (image : List ℕ) (layout : KeyLayout) (text : List ℕ)
     (gives : MayGive kinds.Hex first shelf (Ok file)) (fetched : on ≡ option_map after_fetch shelf) (is : hex_of file.items ≡ Ok image)
     (gives' : MayGive kinds.Layout second on (Ok document)) (fetched' : mid ≡ option_map after_fetch on)
     (has : layout_of_document document.items ≡ Ok layout)
     (gives'' : MayGive kinds.Keys third mid (Ok keys)) (fetched'' : last ≡ option_map after_fetch mid) (same : text ≡ keys.items) where
-  over_three : (answer : Answer) (probes : List Watch) (left : Left) → MayTellBoard wanted image layout text answer probes left
+  over_three : (answer : Answer) (probes : List Watch) (left : Left) → MaySayOfBoard wanted image layout text answer probes left
       → MayEnd (program_plan (Boards wanted) first second third) shelf answer last probes left
-  over_three answer probes left tells =
+  over_three answer probes left says_so =
       let next : KeyLayout → KeyHistory → Plan = λ of. Boards wanted image in
       found_so kinds.Hex first (λ b. with_image (program_next (Boards wanted) second third) (hex_of b))
       shelf on last answer probes left file gives fetched
@@ -56,19 +56,19 @@ module _ (wanted : BoardRun) (first second third : List ℕ) (shelf on mid last 
       last last answer probes left keys gives'' fetched''
       (subst (λ (t : List ℕ). MayEnd (with_history (Boards wanted image) (history_of layout t)) last answer last probes left)
       same (end_of_history (MayRun wanted image probes) (Boards wanted image) last answer probes left (λ history h. (h, refl))
-      (history_of layout text) tells))))))
+      (history_of layout text) says_so))))))
 
   pub three_spoken : (probes left : List Watch) (result : Result Spoken Refusal) (x y : Shown)
-      → IsSpoken (λ answer taking log. MayTellBoard wanted image layout text answer probes (left_behind left taking log)) result x y
+      → IsSpoken (λ answer taking log. MaySayOfBoard wanted image layout text answer probes (left_after left taking log)) result x y
       → IsSpoken (λ answer taking log.
-      MayEnd (program_plan (Boards wanted) first second third) shelf answer last probes (left_behind left taking log)) result x y
+      MayEnd (program_plan (Boards wanted) first second third) shelf answer last probes (left_after left taking log)) result x y
   three_spoken probes left result x y h =
-      spoken_on (λ answer taking log. MayTellBoard wanted image layout text answer probes (left_behind left taking log))
-      (λ answer taking log. MayEnd (program_plan (Boards wanted) first second third) shelf answer last probes (left_behind left taking log))
-      (λ answer taking log k. over_three answer probes (left_behind left taking log) k) result x y h
+      spoken_on (λ answer taking log. MaySayOfBoard wanted image layout text answer probes (left_after left taking log))
+      (λ answer taking log. MayEnd (program_plan (Boards wanted) first second third) shelf answer last probes (left_after left taking log))
+      (λ answer taking log k. over_three answer probes (left_after left taking log) k) result x y h
 
 -- the key file wasn't fetched
-module _ (wanted : BoardRun) (first second third : List ℕ) (shelf on mid last : Option Told)
+module _ (wanted : BoardRun) (first second third : List ℕ) (shelf on mid last : Option Shelved)
     (file document : Vec ℕ Global) (image : List ℕ) (layout : KeyLayout)
     (gives : MayGive kinds.Hex first shelf (Ok file)) (fetched : on ≡ option_map after_fetch shelf) (is : hex_of file.items ≡ Ok image)
     (gives' : MayGive kinds.Layout second on (Ok document)) (fetched' : mid ≡ option_map after_fetch on)
@@ -83,30 +83,30 @@ module _ (wanted : BoardRun) (first second third : List ℕ) (shelf on mid last 
 
   pub keys_unread : (result : Result Spoken Refusal) (x : Shown) → IsErrAnd result (λ (r : Refusal). r ≡ refusal)
       → IsSpoken (λ answer taking log.
-      MayEnd (program_plan (Boards wanted) first second third) shelf answer last probes (left_behind probes taking log)) result x x
+      MayEnd (program_plan (Boards wanted) first second third) shelf answer last probes (left_after probes taking log)) result x x
   keys_unread (Ok said) x same = absurd same
   keys_unread (Err r) x same =
       subst (λ (k : Refusal).
       IsSpoken (λ answer taking log.
-      MayEnd (program_plan (Boards wanted) first second third) shelf answer last probes (left_behind probes taking log))
+      MayEnd (program_plan (Boards wanted) first second third) shelf answer last probes (left_after probes taking log))
       (Err k) x x)
       (sym same) (without_keys, refl)
 
 -- the same of the words
-pub board_spoken : (words : List (String Global)) (shelf after : Option Told) (wanted : BoardRun)
+pub board_spoken : (words : List (String Global)) (shelf after : Option Shelved) (wanted : BoardRun)
     (word word' word'' : String Global) (name name' name'' : List ℕ) (probes left : List Watch)
     (result : Result Spoken Refusal) (x y : Shown)
     → command_of (map string_bytes words) ≡ Some (Board wanted) → 3 < length words → word ≡ slice_index_or words 1 word
     → word' ≡ slice_index_or words 2 word'
     → word'' ≡ slice_index_or words 3 word'' → name ≡ string_bytes word → name' ≡ string_bytes word' → name'' ≡ string_bytes word''
     → IsSpoken (λ answer taking log.
-    MayEnd (program_plan (Boards wanted) name name' name'') shelf answer after probes (left_behind left taking log)) result x y
+    MayEnd (program_plan (Boards wanted) name name' name'') shelf answer after probes (left_after left taking log)) result x y
     → IsSpoken (MaySay words shelf after probes left) result x y
 board_spoken words shelf after wanted word word' word'' name name' name'' probes left result x y is more at at' at'' same same' same'' h =
     spoken_on (λ answer taking log.
-    MayEnd (program_plan (Boards wanted) name name' name'') shelf answer after probes (left_behind left taking log))
+    MayEnd (program_plan (Boards wanted) name name' name'') shelf answer after probes (left_after left taking log))
     (MaySay words shelf after probes left)
     (λ answer taking log k.
     ends_over_board words wanted word word' word'' name name' name'' shelf after answer probes
-    (left_behind left taking log) is more at at' at'' same same' same'' k)
+    (left_after left taking log) is more at at' at'' same same' same'' k)
     result x y h

@@ -2,9 +2,9 @@
 use Rattle.std.proofs.Common.{◌≡◌, ℕ, List, Some, None, inl, inr, refl, ap, subst, ◌∙◌}
 use Rattle.std.specs.declared.option.Option.{Option}
 use Rattle.fw_compile.specs.Image.{image_of}
-use Rattle.fw_debug.specs.Sessions.{Debuggee, of_layout, of_program, with_fill}
+use Rattle.debugger.specs.Sessions.{Debuggee, of_layout, of_program, with_fill}
 use Rattle.joint_feed.specs.Stories.{story}
-use Rattle.io_edge.specs.Shelf.{Told, Fetched, Fails, Long, Found, after_fetch, fetched}
+use Rattle.io_edge.specs.Shelf.{Shelved, Fetched, Fails, Long, Found, after_fetch, fetched}
 use Rattle.app_words.specs.declared.exit.Exit.{Exit}
 use Rattle.app_words.specs.declared.exit.Exit.TheVariants as exits
 use Rattle.app_words.specs.declared.kind.Kind.{Kind}
@@ -40,9 +40,9 @@ fetch_led : (fails long : Type 0) (on : List ℕ → Type 0) (exit : List ℕ �
     → (fails → exits.Read ≡ wanted) → (long → exits.Input ≡ wanted)
     → ((bytes : List ℕ) → on bytes → exit bytes ≡ wanted)
     → (outcome : Fetched) → OnFetched fails long on outcome → on_fetched exits.Read exits.Input exit outcome ≡ wanted
-fetch_led fails long on exit wanted read input behind Fails h = read h
-fetch_led fails long on exit wanted read input behind Long h = input h
-fetch_led fails long on exit wanted read input behind (Found bytes) h = behind bytes h
+fetch_led fails long on exit wanted read input afterwards Fails h = read h
+fetch_led fails long on exit wanted read input afterwards Long h = input h
+fetch_led fails long on exit wanted read input afterwards (Found bytes) h = afterwards bytes h
 
 -- a command over one file reads an image, a source or a layout
 abbrev IsOfFile : Kind → Type 0
@@ -60,8 +60,8 @@ is_of_file Listing = tt
 is_of_file Assemble = tt
 is_of_file Compile = tt
 
--- behind what is debugged comes a script
-script_alone : (name : List ℕ) (s : Debuggee) (read : Kind) (file : List ℕ) (shelf : Told)
+-- after what is debugged comes a script
+script_alone : (name : List ℕ) (s : Debuggee) (read : Kind) (file : List ℕ) (shelf : Shelved)
     → Reads read file (script_next name s) shelf → kinds.Script ≡ read
 script_alone name s read file shelf h =
     elim (fetch_read read file kinds.Script name (Debugs s) shelf h) [
@@ -71,7 +71,7 @@ script_alone name s read file shelf h =
 
 module _ (n : ℕ) where
   -- a fetch that fails, and a file that is too long
-  pub unserved : (p : Plan) (shelf : Told) → IsUnserved p shelf → leads n p shelf ≡ exits.Read
+  pub unserved : (p : Plan) (shelf : Shelved) → IsUnserved p shelf → leads n p shelf ≡ exits.Read
   unserved (Gives said) shelf h = absurd h
   unserved (Certifies image text) shelf h = absurd h
   unserved (Spells layout text) shelf h = absurd h
@@ -84,7 +84,7 @@ module _ (n : ℕ) where
       (λ bytes. leads n (next bytes) (after_fetch shelf)) exits.Read (λ fails. refl) (λ long. absurd long)
       (λ bytes. unserved (next bytes) (after_fetch shelf)) (fetched shelf name (limit_of kind)) h
 
-  pub too_long : (long : Kind) (p : Plan) (shelf : Told) → IsTooLong long p shelf → leads n p shelf ≡ exits.Input
+  pub too_long : (long : Kind) (p : Plan) (shelf : Shelved) → IsTooLong long p shelf → leads n p shelf ≡ exits.Input
   too_long long (Gives said) shelf h = absurd h
   too_long long (Certifies image text) shelf h = absurd h
   too_long long (Spells layout text) shelf h = absurd h
@@ -98,7 +98,7 @@ module _ (n : ℕ) where
       (λ bytes. too_long long (next bytes) (after_fetch shelf)) (fetched shelf name (limit_of kind)) h
 
   -- the file of a command over one file
-  file_read : (command : FileCommand) (words : List (List ℕ)) (shelf : Told) (read : Kind) (file : List ℕ)
+  file_read : (command : FileCommand) (words : List (List ℕ)) (shelf : Shelved) (read : Kind) (file : List ℕ)
       → Reads read file (plan_of (Some (OverFile command)) words) shelf
       → (kind_of command ≡ read)
       × (leads n (plan_of (Some (OverFile command)) words) shelf ≡ exit_said (file_said command file))
@@ -110,7 +110,7 @@ module _ (n : ℕ) where
       ]
 
   -- its first fault
-  file_led : (fault : Fault) (command : FileCommand) (words : List (List ℕ)) (shelf : Told)
+  file_led : (fault : Fault) (command : FileCommand) (words : List (List ℕ)) (shelf : Shelved)
       → HasFault n fault (plan_of (Some (OverFile command)) words) shelf
       → leads n (plan_of (Some (OverFile command)) words) shelf ≡ exit_at fault
   file_led (InHex fault) command words shelf h =
@@ -132,7 +132,7 @@ module _ (n : ℕ) where
       absurd (subst IsOfFile (file_read command words shelf kinds.Text h.4 h.5).0 (is_of_file command))
 
   -- the first fault of a script
-  script_led : (name : List ℕ) (s : Debuggee) (script : List ℕ) (fault : ℕ × ℕ) (shelf : Told)
+  script_led : (name : List ℕ) (s : Debuggee) (script : List ℕ) (fault : ℕ × ℕ) (shelf : Shelved)
       → Reads kinds.Script script (script_next name s) shelf → script_fault n script ≡ Some fault
       → leads n (script_next name s) shelf ≡ exits.Input
   script_led name s script fault shelf h is =
@@ -160,7 +160,7 @@ module _ (n : ℕ) where
       script_led name (with_fill fill (of_program (story image history))) script fault shelf h is
 
   -- the first fault of a file leads to its exit
-  pub fault_led : (fault : Fault) (command : Option Command) (words : List (List ℕ)) (shelf : Told)
+  pub fault_led : (fault : Fault) (command : Option Command) (words : List (List ℕ)) (shelf : Shelved)
       → HasFault n fault (plan_of command words) shelf → leads n (plan_of command words) shelf ≡ exit_at fault
   fault_led fault None words shelf h = absurd (faulty_file n fault (plan_of None words) shelf h).1
   fault_led fault (Some (Feed bytes)) words shelf h =
@@ -186,7 +186,7 @@ module _ (n : ℕ) where
       n (probe_read fill name) (probe_led fill name) fault h
 
   -- a run of the processor that stops
-  step_stuck : (command : Option Command) (words : List (List ℕ)) (shelf : Told)
+  step_stuck : (command : Option Command) (words : List (List ℕ)) (shelf : Shelved)
       → StepIsStuck command (plan_of command words) shelf
       → leads n (plan_of command words) shelf ≡ exits.Stuck
   step_stuck command words shelf h =
@@ -197,7 +197,7 @@ module _ (n : ℕ) where
       ∙ ((file_read (Step h.0) words shelf kinds.Hex h.2 read).1 ∙ stop_answered h.0 h.2 h.4 h.6 h.5 h.7)
 
   -- a run on the board that does
-  board_is_stuck : (command : Option Command) (words : List (List ℕ)) (shelf : Told)
+  board_is_stuck : (command : Option Command) (words : List (List ℕ)) (shelf : Shelved)
       → BoardIsStuck command (plan_of command words) shelf
       → leads n (plan_of command words) shelf ≡ exits.Stuck
   board_is_stuck command words shelf h =
@@ -209,7 +209,7 @@ module _ (n : ℕ) where
       ∙ board_stuck n h.0 (name_in words) (second_in words) (third_in words) shelf h.2 h.4 h.6 h.10 h.8 h.12 h.14 h.16
       (read kinds.Hex h.2 h.3) h.5 (read kinds.Layout h.6 h.7) h.9 (read kinds.Keys h.10 h.11) h.13 h.15 h.17
 
-  pub stuck : (command : Option Command) (words : List (List ℕ)) (shelf : Told)
+  pub stuck : (command : Option Command) (words : List (List ℕ)) (shelf : Shelved)
       → IsStuck command (plan_of command words) shelf
       → leads n (plan_of command words) shelf ≡ exits.Stuck
   stuck command words shelf (inl h) = step_stuck command words shelf h

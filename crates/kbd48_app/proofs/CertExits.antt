@@ -2,7 +2,7 @@
 use Rattle.std.proofs.Common.{◌≡◌, ℕ, List, Ok, Err, inl, inr, refl, ap}
 use Rattle.std.specs.declared.option.Option.{Option}
 use Rattle.hexfile.specs.Hex.{HexOutcome, hex_of}
-use Rattle.io_edge.specs.Shelf.{Told, after_fetch}
+use Rattle.io_edge.specs.Shelf.{Shelved, after_fetch}
 use Rattle.app_words.specs.declared.exit.Exit.TheVariants as exits
 use Rattle.app_words.specs.declared.kind.Kind.TheVariants as kinds
 use Rattle.app_words.specs.declared.words.Command.{Command}
@@ -17,7 +17,7 @@ use Rattle.kbd48_app.proofs.FileFaults.{cert_fault, hex_fault}
 use Rattle.kbd48_app.proofs.PlansEnd.{leads}
 use Rattle.kbd48_app.proofs.PlansWithinPlans.{IsWithin, fetch_caused, whole}
 
-module _ (n : ℕ) (command : Option Command) (plan : Plan) (shelf : Told) where
+module _ (n : ℕ) (command : Option Command) (plan : Plan) (shelf : Shelved) where
   -- a certificate for an image
   judged : (bytes image text : List ℕ) → hex_of bytes ≡ Ok image → Reads kinds.Hex bytes plan shelf
       → Reads kinds.Cert text plan shelf → IsCaused n command plan shelf (exit_said (cert_said image text))
@@ -29,8 +29,8 @@ module _ (n : ℕ) (command : Option Command) (plan : Plan) (shelf : Told) where
             (cert_fault n plan shelf fault.0 (bytes, read, image, is, text, read', fault.1))
       ]
 
-  -- behind the image's file
-  image_exit : (second bytes : List ℕ) (after : Told) (outcome : HexOutcome) → hex_of bytes ≡ outcome
+  -- after the image's file
+  image_exit : (second bytes : List ℕ) (after : Shelved) (outcome : HexOutcome) → hex_of bytes ≡ outcome
       → Reads kinds.Hex bytes plan shelf → IsWithin (with_image (cert_next second) outcome) after plan shelf
       → IsCaused n command plan shelf (leads n (with_image (cert_next second) outcome) after)
   image_exit second bytes after (Ok image) is read within =
@@ -38,7 +38,7 @@ module _ (n : ℕ) (command : Option Command) (plan : Plan) (shelf : Told) where
       (λ text read' more. judged bytes image text is read read')
   image_exit second bytes after (Err fault) is read within = hex_fault n plan shelf fault (bytes, read, is)
 
-pub cert_caused : (n : ℕ) (command : Option Command) (first second : List ℕ) (shelf : Told)
+pub cert_caused : (n : ℕ) (command : Option Command) (first second : List ℕ) (shelf : Shelved)
     → IsCaused n command (pair_plan Certify first second) shelf (leads n (pair_plan Certify first second) shelf)
 cert_caused n command first second shelf =
     let plan = pair_plan Certify first second in

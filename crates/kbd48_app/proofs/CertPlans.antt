@@ -7,7 +7,7 @@ use Rattle.cycle_cert.specs.Faults.{number_of}
 use Rattle.first_fault.specs.FirstFault.{Fault as FirstFault}
 use Rattle.hexfile.specs.Hex.{HexOutcome, hex_of}
 use Rattle.hexfile.specs.declared.fault.HexFault.{HexFault}
-use Rattle.io_edge.specs.Shelf.{Told, Fetched, Found, after_fetch, fetched}
+use Rattle.io_edge.specs.Shelf.{Shelved, Fetched, Found, after_fetch, fetched}
 use Rattle.app_words.specs.declared.exit.Exit.TheVariants as exits
 use Rattle.app_words.specs.declared.kind.Kind.{Kind}
 use Rattle.app_words.specs.declared.kind.Kind.TheVariants as kinds
@@ -26,13 +26,13 @@ use Rattle.kbd48_app.proofs.FetchesReach.{fetch_read, leads_found}
 abbrev plan_from : List ℕ → List ℕ → Plan
 plan_from second bytes = with_image (cert_next second) (hex_of bytes)
 
--- the certificate is read behind an image
-abbrev IsReadSecond : Kind → List ℕ → List ℕ → Told → HexOutcome → Type 0
+-- the certificate is read after an image
+abbrev IsReadSecond : Kind → List ℕ → List ℕ → Shelved → HexOutcome → Type 0
 IsReadSecond read file second shelf outcome =
     (kinds.Cert ≡ read) × (image : List ℕ) × (outcome ≡ Ok image)
     × (fetched shelf second (limit_of kinds.Cert) ≡ Found file)
 
-second_read : (read : Kind) (file second : List ℕ) (shelf : Told) (outcome : HexOutcome)
+second_read : (read : Kind) (file second : List ℕ) (shelf : Shelved) (outcome : HexOutcome)
     → Reads read file (with_image (cert_next second) outcome) shelf → IsReadSecond read file second shelf outcome
 second_read read file second shelf (Ok image) h =
     elim (fetch_read read file kinds.Cert second (Certifies image) shelf h) [
@@ -42,12 +42,12 @@ second_read read file second shelf (Ok image) h =
 second_read read file second shelf (Err fault) h = absurd h
 
 -- a file that `cert` reads is the image's or the certificate
-abbrev IsRead : Kind → List ℕ → List ℕ → Told → Fetched → Type 0
+abbrev IsRead : Kind → List ℕ → List ℕ → Shelved → Fetched → Type 0
 IsRead read file second shelf outcome =
     ((kinds.Hex ≡ read) × (outcome ≡ Found file))
     ⊎ ((bytes : List ℕ) × (outcome ≡ Found bytes) × IsReadSecond read file second shelf (hex_of bytes))
 
-is_read : (read : Kind) (file first second : List ℕ) (shelf : Told)
+is_read : (read : Kind) (file first second : List ℕ) (shelf : Shelved)
     → Reads read file (pair_plan Certify first second) shelf
     → IsRead read file second (after_fetch shelf) (fetched shelf first (limit_of kinds.Hex))
 is_read read file first second shelf h =
@@ -66,7 +66,7 @@ IsOfCert kinds.Cert = Unit {0}
 IsOfCert kinds.Script = ⊥
 IsOfCert kinds.Text = ⊥
 
-is_of_cert : (read : Kind) (file first second : List ℕ) (shelf : Told)
+is_of_cert : (read : Kind) (file first second : List ℕ) (shelf : Shelved)
     → Reads read file (pair_plan Certify first second) shelf → IsOfCert read
 is_of_cert read file first second shelf h =
     elim (is_read read file first second shelf h) [
@@ -92,7 +92,7 @@ pub cert_exits : (image text : List ℕ)
     ⊎ ((fault : ℕ × ℕ) × (cert_said image text ≡ Err (Cert fault.0 fault.1)))
 cert_exits image text = exits_by number_of (certificate_said image text)
 
-module _ (n : ℕ) (first second : List ℕ) (shelf : Told) where
+module _ (n : ℕ) (first second : List ℕ) (shelf : Shelved) where
   -- where the plan leads, by what the two fetches come to, where there are so many probes
   leads_both : (bytes image text : List ℕ) → fetched shelf first (limit_of kinds.Hex) ≡ Found bytes
       → hex_of bytes ≡ Ok image → fetched (after_fetch shelf) second (limit_of kinds.Cert) ≡ Found text

@@ -3,7 +3,7 @@ use Rattle.std.proofs.Common.{◌≡◌, ℕ, suc, ◌<◌, ◌≤◌, List, [],
 use Rattle.std.specs.declared.option.Option.{Option}
 use Rattle.board_probes.specs.Probes.{Watch}
 use Rattle.io_edge.specs.Said.{Shown}
-use Rattle.io_edge.specs.Shelf.{Told, Fetched, Fails, Long, Found, after_fetch, fetched}
+use Rattle.io_edge.specs.Shelf.{Shelved, Fetched, Fails, Long, Found, after_fetch, fetched}
 use Rattle.app_words.specs.declared.exit.Exit.{Exit}
 use Rattle.app_words.specs.declared.kind.Kind.{Kind}
 use Rattle.app_words.specs.declared.refusal.Refusal.TheVariants.{Read, TooLong, Memory}
@@ -17,28 +17,28 @@ use Rattle.kbd48_app.specs.Reached.{on_fetched, fetches_of, after_fetches, Makes
 use Rattle.app_answers.specs.Says.{Says, exit_said}
 use Rattle.app_words.specs.Words.{command_of}
 
--- the same by the answer: all of them, or the first ones where memory was wanting
-abbrev MakesSo : List (List ℕ × ℕ) → Told → Option Told → Answer → Type 0
+-- the same by the answer: all of them, or the first ones where memory was lacking
+abbrev MakesSo : List (List ℕ × ℕ) → Shelved → Option Shelved → Answer → Type 0
 MakesSo fetches shelf after answer =
     (n : ℕ) × (n ≤ length fetches) × (after ≡ Some (after_fetches n shelf)) × ((n ≡ length fetches) ⊎ ((0 < n) × (answer ≡ Err Memory)))
 
 -- one fetch, and then those of the rest
-one_more : (first : List ℕ × ℕ) (rest : List (List ℕ × ℕ)) (shelf : Told) (after : Option Told) (answer : Answer)
+one_more : (first : List ℕ × ℕ) (rest : List (List ℕ × ℕ)) (shelf : Shelved) (after : Option Shelved) (answer : Answer)
     → MakesSo rest (after_fetch shelf) after answer → MakesSo (first ∷ rest) shelf after answer
 one_more first rest shelf after answer h =
     (suc h.0, omega (arith, h.1), h.2, elim h.3 [ inl all ↦ inl (omega (arith, all)) | inr part ↦ inr (omega arith, part.1) ])
 
--- a fetch behind which no other was made
-only_one : (first : List ℕ × ℕ) (shelf : Told) (after : Option Told) (answer : Answer)
+-- a fetch after which no other was made
+only_one : (first : List ℕ × ℕ) (shelf : Shelved) (after : Option Shelved) (answer : Answer)
     → after ≡ Some (after_fetch shelf) → MakesSo (first ∷ []) shelf after answer
 only_one first shelf after answer is = (1, omega arith, is, inl refl)
 
-cut_off : (first : List ℕ × ℕ) (rest : List (List ℕ × ℕ)) (shelf : Told) (after : Option Told) (answer : Answer)
+cut_off : (first : List ℕ × ℕ) (rest : List (List ℕ × ℕ)) (shelf : Shelved) (after : Option Shelved) (answer : Answer)
     → after ≡ Some (after_fetch shelf) → answer ≡ Err Memory → MakesSo (first ∷ rest) shelf after answer
 cut_off first rest shelf after answer is memory = (1, omega arith, is, inr (omega arith, memory))
 
-made_by : (first : List ℕ × ℕ) (kind : Kind) (shelf : Told) (on : List ℕ → Type 0) (rest : List ℕ → List (List ℕ × ℕ))
-    (after : Option Told) (end : Type 0) (answer : Answer) → (end → after ≡ Some (after_fetch shelf))
+made_by : (first : List ℕ × ℕ) (kind : Kind) (shelf : Shelved) (on : List ℕ → Type 0) (rest : List ℕ → List (List ℕ × ℕ))
+    (after : Option Shelved) (end : Type 0) (answer : Answer) → (end → after ≡ Some (after_fetch shelf))
     → ((bytes : List ℕ) → on bytes → MakesSo (rest bytes) (after_fetch shelf) after answer) → (outcome : Fetched)
     → OnFetched ((answer ≡ Err Read) × end) ((answer ≡ Err (TooLong kind)) × end)
     (λ bytes. ((answer ≡ Err Memory) × end) ⊎ on bytes) outcome
@@ -51,7 +51,7 @@ made_by first kind shelf on rest after end answer came goes (Found bytes) h =
       | inr more ↦ one_more first (rest bytes) shelf after answer (goes bytes more)
     ]
 
-made : (p : Plan) (shelf : Told) (answer : Answer) (after : Option Told) (probes : List Watch) (left : Left)
+made : (p : Plan) (shelf : Shelved) (answer : Answer) (after : Option Shelved) (probes : List Watch) (left : Left)
     → MayEnd p (Some shelf) answer after probes left → MakesSo (fetches_of p shelf) shelf after answer
 made (Gives said) shelf answer after probes left h = (0, omega arith, h.1.0, inl refl)
 made (Certifies image text) shelf answer after probes left h = (0, omega arith, h.1.0, inl refl)
@@ -70,13 +70,13 @@ made (Fetches kind name next) shelf answer after probes left h =
     OnFetched ((answer ≡ Err Read) × end) ((answer ≡ Err (TooLong kind)) × end) (λ bytes. ((answer ≡ Err Memory) × end) ⊎ on bytes) o)
     h.1 h.2)
 
-made_as : (command : Option Command) (words : List (List ℕ)) (shelf : Told) (answer : Answer) (after : Option Told) (probes : List Watch)
+made_as : (command : Option Command) (words : List (List ℕ)) (shelf : Shelved) (answer : Answer) (after : Option Shelved) (probes : List Watch)
     (left : Left)
     → MayEndAs command words (Some shelf) answer after probes left → MakesSo (fetches_of (plan_of command words) shelf) shelf after answer
 made_as None words shelf answer after probes left h = (0, omega arith, h.1.0, inl refl)
 made_as (Some command) words shelf answer after probes left h = made (plan_of (Some command) words) shelf answer after probes left h
 
-by_exit : (fetches : List (List ℕ × ℕ)) (shelf : Told) (after : Option Told) (log : List ℕ) (answer : Answer) (taken taken' : Shown)
+by_exit : (fetches : List (List ℕ × ℕ)) (shelf : Shelved) (after : Option Shelved) (log : List ℕ) (answer : Answer) (taken taken' : Shown)
     (exit : Exit) → Says log answer taken taken' exit → MakesSo fetches shelf after answer → Makes fetches shelf after exit
 by_exit fetches shelf after log answer taken taken' exit says h = (
   h.0,
@@ -88,7 +88,7 @@ by_exit fetches shelf after log answer taken taken' exit says h = (
   ],
 )
 
-pub makes : (words : List (List ℕ)) (shelf : Told) (taken taken' : Shown) (exit : Exit) (after : Option Told) (probes : List Watch)
+pub makes : (words : List (List ℕ)) (shelf : Shelved) (taken taken' : Shown) (exit : Exit) (after : Option Shelved) (probes : List Watch)
     (left : Left) → (answer : Answer) × MayAnswer words (Some shelf) answer after probes left × Says left.log answer taken taken' exit
     → Makes (fetches_of (plan words) shelf) shelf after exit
 makes words shelf taken taken' exit after probes left h =

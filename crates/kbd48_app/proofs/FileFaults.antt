@@ -3,12 +3,12 @@ use Rattle.std.proofs.Common.{ℕ, inr, refl}
 use Rattle.hexfile.specs.declared.fault.HexFault.{HexFault}
 use Rattle.layout_reader.specs.Faults.{Refusal as LayoutRefusal}
 use Rattle.key_file.specs.declared.fault.KeyFault.TheVariants.{Input}
-use Rattle.io_edge.specs.Shelf.{Told}
+use Rattle.io_edge.specs.Shelf.{Shelved}
 use Rattle.kbd48_app.specs.Causes.{HasAsmFault, HasCertFault, HasFileFault, HasHexFault, HasKeyFault, HasLayoutFault}
 use Rattle.kbd48_app.specs.Causes.{HasScriptFault, HasTextFault, InAsm, InCert, InHex, InKeys, InLayout, InScript, InText}
 use Rattle.kbd48_app.specs.Plans.{Plan}
 
-module _ (probes : ℕ) (plan : Plan) (shelf : Told) where
+module _ (probes : ℕ) (plan : Plan) (shelf : Shelved) where
   pub hex_fault : (fault : HexFault) → HasHexFault fault plan shelf → HasFileFault probes plan shelf
   hex_fault fault has = inr (InHex fault, refl, has)
 

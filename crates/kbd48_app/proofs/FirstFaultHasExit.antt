@@ -1,6 +1,6 @@
 -- The first fault of a file that a plan reaches, whatever the file's kind.
 use Rattle.std.proofs.Common.{ℕ, List}
-use Rattle.io_edge.specs.Shelf.{Told}
+use Rattle.io_edge.specs.Shelf.{Shelved}
 use Rattle.app_words.specs.declared.kind.Kind.{Kind}
 use Rattle.app_words.specs.declared.kind.Kind.TheVariants as kinds
 use Rattle.kbd48_app.specs.Causes.{Fault, HasFault, InHex, InAsm, InLayout, InCert, InKeys, InScript, InText}
@@ -18,7 +18,7 @@ kind_in (InScript fault) = kinds.Script
 kind_in (InText fault) = kinds.Text
 
 -- the file
-pub faulty_file : (n : ℕ) (fault : Fault) (plan : Plan) (shelf : Told) → HasFault n fault plan shelf
+pub faulty_file : (n : ℕ) (fault : Fault) (plan : Plan) (shelf : Shelved) → HasFault n fault plan shelf
     → (file : List ℕ) × Reads (kind_in fault) file plan shelf
 faulty_file n (InHex fault) plan shelf h = (h.0, h.1)
 faulty_file n (InAsm fault) plan shelf h = (h.0, h.1)

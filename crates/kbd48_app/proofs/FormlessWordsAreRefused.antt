@@ -2,7 +2,7 @@
 use Rattle.std.proofs.Common.{◌≡◌, ℕ, List, [], length, Some, None, Ok, Err, inl, inr, refl, ap, sym, ◌∙◌, ◌⊎◌}
 use Rattle.std.specs.declared.option.Option.{Option}
 use Rattle.std.specs.declared.result.Result.{Result}
-use Rattle.board_run.specs.Running.{Outcome}
+use Rattle.board_run.specs.BoardOutcomes.{Outcome}
 use Rattle.story_run.specs.declared.ending.End.{End}
 use Rattle.story_run.specs.declared.ending.End.TheVariants.{Over, Stuck}
 use Rattle.hexfile.specs.Hex.{HexOutcome, hex_of}
@@ -14,9 +14,9 @@ use Rattle.layout_reader.specs.Documents.{layout_of_document}
 use Rattle.layout_reader.specs.Faults.{Refusal as LayoutRefusal}
 use Rattle.layout_reader.specs.Layouts.{KeyLayout}
 use Rattle.board_probes.specs.Probes.{Watch}
-use Rattle.fw_debug.specs.Sessions.{Debuggee}
+use Rattle.debugger.specs.Sessions.{Debuggee}
 use Rattle.io_edge.specs.Said.{Shown}
-use Rattle.io_edge.specs.Shelf.{Told, Fetched, Fails, Long, Found, after_fetch}
+use Rattle.io_edge.specs.Shelf.{Shelved, Fetched, Fails, Long, Found, after_fetch}
 use Rattle.app_words.specs.declared.exit.Exit.{Exit}
 use Rattle.app_words.specs.declared.exit.Exit.TheVariants as exits
 use Rattle.app_words.specs.declared.refusal.Refusal.TheVariants.{Words, Read, TooLong, Memory}
@@ -98,7 +98,7 @@ never_session None s script answer probes left h is =
       | inr said ↦ let e : exits.Done ≡ exits.Words = sym (ap exit_said said.2) ∙ is in cc
     ]
 
-never_ends : (p : Plan) → Never p → (shelf after : Option Told) (answer : Answer) (probes : List Watch) (left : Left)
+never_ends : (p : Plan) → Never p → (shelf after : Option Shelved) (answer : Answer) (probes : List Watch) (left : Left)
     → MayEnd p shelf answer after probes left → exit_said answer ≡ exits.Words → ⊥
 never_ends (Gives said) never shelf after answer probes left h is = never_said said answer never h.0 is
 never_ends (Certifies image text) never shelf after answer probes left h is =
@@ -119,7 +119,7 @@ never_ends (Runs command layout history) never shelf after answer probes left h 
 never_ends (Boards wanted image history) never shelf after answer probes left h is =
     elim h.0 [
       | inl memory ↦ let e : exits.Memory ≡ exits.Words = sym (ap exit_said memory.0) ∙ is in cc
-      | inr told ↦ never_board wanted.told told.0 told.0.end (sym (ap exit_said told.3) ∙ is)
+      | inr reported ↦ never_board wanted.prints_what reported.0 reported.0.end (sym (ap exit_said reported.3) ∙ is)
     ]
 never_ends (Samples count) never shelf after answer probes left h is =
     elim h.0 [
@@ -174,14 +174,14 @@ never_command (Probe fill) words = λ bytes.
     (third_in words) (layout_of_document document))
     (hex_of bytes)
 
-only_none : (command : Option Command) (words : List (List ℕ)) (shelf after : Option Told) (answer : Answer) (probes : List Watch)
+only_none : (command : Option Command) (words : List (List ℕ)) (shelf after : Option Shelved) (answer : Answer) (probes : List Watch)
     (left : Left) → MayEndAs command words shelf answer after probes left → exit_said answer ≡ exits.Words → command ≡ None
 only_none None words shelf after answer probes left h is = refl
 only_none (Some command) words shelf after answer probes left h is =
     absurd (never_ends (plan_of (Some command) words) (never_command command words) shelf after answer probes left h is)
 
 -- the words are refused only where they have no form
-pub words_only : (words : List (List ℕ)) (shelf after : Option Told) (probes : List Watch) (left : Left) (taken taken' : Shown)
+pub words_only : (words : List (List ℕ)) (shelf after : Option Shelved) (probes : List Watch) (left : Left) (taken taken' : Shown)
     (exit : Exit) → (answer : Answer) × MayAnswer words shelf answer after probes left × Says left.log answer taken taken' exit
     → exit ≡ exits.Words → command_of words ≡ None
 words_only words shelf after probes left taken taken' exit h is =
@@ -190,13 +190,13 @@ words_only words shelf after probes left taken taken' exit h is =
       | inr write ↦ absurd (cc)
     ]
 
-none_refused : (command : Option Command) (words : List (List ℕ)) (shelf after : Option Told) (answer : Answer) (probes : List Watch)
+none_refused : (command : Option Command) (words : List (List ℕ)) (shelf after : Option Shelved) (answer : Answer) (probes : List Watch)
     (left : Left) → MayEndAs command words shelf answer after probes left → command ≡ None → answer ≡ Err Words
 none_refused None words shelf after answer probes left h is = h.0
 none_refused (Some command) words shelf after answer probes left h is = absurd cc
 
 -- and wherever they have none
-pub words_refused : (words : List (List ℕ)) (shelf after : Option Told) (probes : List Watch) (left : Left) (taken taken' : Shown)
+pub words_refused : (words : List (List ℕ)) (shelf after : Option Shelved) (probes : List Watch) (left : Left) (taken taken' : Shown)
     (exit : Exit) → (answer : Answer) × MayAnswer words shelf answer after probes left × Says left.log answer taken taken' exit
     → command_of words ≡ None → (exit ≡ exits.Words) ⊎ (exit ≡ exits.Write)
 words_refused words shelf after probes left taken taken' exit h is =

@@ -4,7 +4,7 @@ pub mod CausesHaveExits
 pub mod FirstFaultHasExit
 pub mod FetchesReach
 pub mod PlansWithinPlans
-pub mod ExitsTell
+pub mod ExitsSay
 pub mod FetchesAreMade
 pub mod FormlessWordsAreRefused
 pub mod ServedCallsSucceed
@@ -29,4 +29,4 @@ pub mod AnswersAreSpoken
 pub mod LogsAreLines
 pub mod BoardExits
 pub mod BoardsAreSaid
-pub mod BoardTellsRun
+pub mod BoardSaysRun

@@ -1,15 +1,15 @@
--- Commands that take all their memory before the first step: where it is wanting, no probe has looked, and nothing was
+-- Commands that take all their memory before the first step: where it is lacking, no probe has looked, and nothing was
 -- said.
 use Rattle.std.proofs.Common.{◌≡◌, ◌⊎◌, ℕ, true, List, [], ◌++◌, None, Some, Ok, Err, inl, inr, sym, subst, ◌∙◌}
 use Rattle.std.specs.Option.{option_map}
 use Rattle.std.specs.declared.option.Option.{Option}
-use Rattle.board_run.specs.Running.{Outcome}
+use Rattle.board_run.specs.BoardOutcomes.{Outcome}
 use Rattle.story_run.specs.declared.ending.End.{End}
 use Rattle.story_run.specs.declared.ending.End.TheVariants.{Over, Stuck}
 use Rattle.board_probes.specs.Probes.{Watch}
 use Rattle.hexfile.specs.Hex.{HexOutcome, hex_of}
 use Rattle.io_edge.specs.Said.{Shown, TakesAll}
-use Rattle.io_edge.specs.Shelf.{Told, Fetched, Fails, Long, Found, after_fetch}
+use Rattle.io_edge.specs.Shelf.{Shelved, Fetched, Fails, Long, Found, after_fetch}
 use Rattle.key_file.specs.Histories.{KeyHistory}
 use Rattle.key_file.specs.KeyFile.{history_of}
 use Rattle.layout_reader.specs.Documents.{layout_of_document}
@@ -32,11 +32,11 @@ use Rattle.app_boards.specs.BoardTexts.{board_said}
 use Rattle.app_answers.specs.FileAnswers.{Answer}
 use Rattle.kbd48_app.specs.Plans.{Plan, Boards, Fetches, Runs, Samples, history_plan, keys_next, pair_plan, program_plan}
 use Rattle.kbd48_app.specs.Plans.{with_history, with_image, with_layout}
-use Rattle.app_runs.specs.RunTexts.{AreLeftWanting}
+use Rattle.app_runs.specs.RunTexts.{AreLeftWithoutMemory}
 use Rattle.app_words.specs.Refusals.{line_of}
 use Rattle.app_answers.specs.Says.{text_said}
 use Rattle.app_words.specs.Words.{command_of, name_in, second_in, takes_memory_first, third_in}
-use Rattle.kbd48_app.proofs.AnswersEndCalls.{EndedBehind, memory_said}
+use Rattle.kbd48_app.proofs.AnswersEndCalls.{EndedAfter, memory_said}
 use Rattle.kbd48_app.proofs.OneText.{no_refusal}
 use Rattle.kbd48_app.proofs.RunPlans.{HistoryOutcome, LayoutOutcome, plan_from}
 
@@ -45,10 +45,10 @@ abbrev AreFirst : List Watch → Left → Type 0
 AreFirst probes left = (left.probes ≡ probes) × (left.log ≡ [])
 
 abbrev KeepsFirst : Plan → Type 0
-KeepsFirst p = (shelf : Option Told) (answer : Answer) (after : Option Told) (probes : List Watch) (left : Left)
+KeepsFirst p = (shelf : Option Shelved) (answer : Answer) (after : Option Shelved) (probes : List Watch) (left : Left)
     → MayEnd p shelf answer after probes left → answer ≡ Err Memory → AreFirst probes left
 
-fetch_by : (kind : Kind) (answer : Answer) (on after : Option Told) (probes : List Watch) (left : Left) (more : List ℕ → Type 0)
+fetch_by : (kind : Kind) (answer : Answer) (on after : Option Shelved) (probes : List Watch) (left : Left) (more : List ℕ → Type 0)
     → ((bytes : List ℕ) → more bytes → AreFirst probes left) → (outcome : Fetched)
     → OnFetched ((answer ≡ Err Read) × IsKept on after probes left) ((answer ≡ Err (TooLong kind)) × IsKept on after probes left)
     (λ bytes. ((answer ≡ Err Memory) × IsKept on after probes left) ⊎ more bytes) outcome → AreFirst probes left
@@ -67,10 +67,10 @@ fetch_keeps kind name next goes shelf answer after probes left h is =
     fetch_by kind answer on after probes left (λ bytes. MayEnd (next bytes) on answer after probes left)
     (λ bytes more. goes bytes on answer after probes left more is) h.0 h.2
 
--- a command over a run that leaves them as they were where memory is wanting
+-- a command over a run that leaves them as they were where memory runs out
 module _ (command : RunCommand)
     (keeps : (layout : KeyLayout) (history : KeyHistory) (probes left : List Watch)
-    → AreLeftWanting command layout history probes left → left ≡ probes) where
+    → AreLeftWithoutMemory command layout history probes left → left ≡ probes) where
   history_keeps : (layout : KeyLayout) (outcome : HistoryOutcome) → KeepsFirst (with_history (Runs command layout) outcome)
   history_keeps layout (Ok history) shelf answer after probes left h is =
       elim h.0 [
@@ -102,7 +102,7 @@ not_memory wanted run (Stuck place) is = cc
 -- the run of a program on the board
 board_keeps : (wanted : BoardRun) (image : List ℕ) (history : KeyHistory) → KeepsFirst (Boards wanted image history)
 board_keeps wanted image history shelf answer after probes left h is =
-    elim h.0 [ inl memory ↦ (memory.2, memory.1) | inr told ↦ absurd (not_memory wanted.told told.0 told.0.end (sym told.3 ∙ is)) ]
+    elim h.0 [ inl memory ↦ (memory.2, memory.1) | inr reported ↦ absurd (not_memory wanted.prints_what reported.0 reported.0.end (sym reported.3 ∙ is)) ]
 
 program_history_keeps : (wanted : BoardRun) (image : List ℕ) (outcome : HistoryOutcome)
     → KeepsFirst (with_history (Boards wanted image) outcome)
@@ -128,8 +128,8 @@ program_keeps wanted image layout keys =
     fetch_keeps kinds.Hex image (λ bytes. with_image (λ read. history_plan (λ of. Boards wanted read) layout keys) (hex_of bytes))
     (λ bytes. program_image_keeps wanted layout keys (hex_of bytes))
 
-keeps_as : (command : Option Command) (words : List (List ℕ)) (shelf : Option Told) (answer : Answer)
-    (after : Option Told) (probes : List Watch) (left : Left)
+keeps_as : (command : Option Command) (words : List (List ℕ)) (shelf : Option Shelved) (answer : Answer)
+    (after : Option Shelved) (probes : List Watch) (left : Left)
     → takes_memory_first command ≡ true → MayEndAs command words shelf answer after probes left → answer ≡ Err Memory → AreFirst probes left
 keeps_as None words shelf answer after probes left first h is = absurd cc
 keeps_as (Some (Feed bytes)) words shelf answer after probes left first h is = absurd cc
@@ -147,8 +147,8 @@ keeps_as (Some (Board wanted)) words shelf answer after probes left first h is =
 keeps_as (Some Debug) words shelf answer after probes left first h is = absurd cc
 keeps_as (Some (Probe fill)) words shelf answer after probes left first h is = absurd cc
 
-pub lacks_first : (log : List ℕ) (words : List (List ℕ)) (shelf after : Option Told) (probes left : List Watch) (x z : Shown) (exit : Exit)
-    → EndedBehind log words shelf after probes left x z exit
+pub lacks_first : (log : List ℕ) (words : List (List ℕ)) (shelf after : Option Shelved) (probes left : List Watch) (x z : Shown) (exit : Exit)
+    → EndedAfter log words shelf after probes left x z exit
     → takes_memory_first (command_of words) ≡ true → exit ≡ exits.Memory → (left ≡ probes) × TakesAll x.taken z.taken (line_of Memory)
 lacks_first log words shelf after probes left x z exit h first is =
     elim h.2 [

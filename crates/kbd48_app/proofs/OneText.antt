@@ -1,9 +1,9 @@
--- Over a shelf that tells its files two commands over a layout and a key file say one text, where of each layout and
+-- Over a shelf whose files are known two commands over a layout and a key file say one text, where of each layout and
 -- history they say one.
 use Rattle.std.proofs.Common.{◌≡◌, ◌⊎◌, ℕ, List, [], Some, Ok, Err, inl, inr, subst}
 use Rattle.std.specs.declared.option.Option.{Option}
 use Rattle.board_probes.specs.Probes.{Watch}
-use Rattle.io_edge.specs.Shelf.{Told, Fetched, Fails, Long, Found, after_fetch, fetched}
+use Rattle.io_edge.specs.Shelf.{Shelved, Fetched, Fails, Long, Found, after_fetch, fetched}
 use Rattle.key_file.specs.Histories.{KeyHistory}
 use Rattle.key_file.specs.KeyFile.{history_of}
 use Rattle.layout_reader.specs.Documents.{layout_of_document}
@@ -34,7 +34,7 @@ no_text a b text refusal (inr said) = absurd (no_refusal text refusal said)
 
 -- what two plans print over one shelf that tells its files is one text
 abbrev pub PrintsOne : Plan → Plan → Type 0
-PrintsOne p q = (shelf : Told) (a b : List ℕ) (after later : Option Told) (probes : List Watch) (left others : Left)
+PrintsOne p q = (shelf : Shelved) (a b : List ℕ) (after later : Option Shelved) (probes : List Watch) (left others : Left)
     → MayEnd p (Some shelf) (Ok a) after probes left → MayEnd q (Some shelf) (Ok b) later probes others → a ≡ b
 
 -- what was found, of two fetches that come to the same
@@ -45,11 +45,11 @@ found_one a b f g fails fails' long long' unfetched cut h Fails e k = absurd (un
 found_one a b f g fails fails' long long' unfetched cut h Long e k = absurd (cut e)
 found_one a b f g fails fails' long long' unfetched cut h (Found bytes) e k = h bytes e k
 
--- behind a fetch
+-- after a fetch
 fetch_one : (kind : Kind) (name : List ℕ) (next other : List ℕ → Plan) → ((bytes : List ℕ) → PrintsOne (next bytes) (other bytes))
     → PrintsOne (Fetches kind name next) (Fetches kind name other)
 fetch_one kind name next other h shelf a b after later probes left others e k =
-    let on : Option Told = Some (after_fetch shelf) in
+    let on : Option Shelved = Some (after_fetch shelf) in
     let end : Type 0 = (after ≡ on) × (left.probes ≡ probes) × (left.log ≡ []) in
     let end' : Type 0 = (later ≡ on) × (others.probes ≡ probes) × (others.log ≡ []) in
     let f : List ℕ → Type 0 = λ bytes. ((Ok a ≡ Err Memory) × end) ⊎ MayEnd (next bytes) on (Ok a) after probes left in
@@ -72,13 +72,13 @@ fetch_one kind name next other h shelf a b after later probes left others e k =
 module _ (c d : RunCommand)
     (h : (layout : KeyLayout) (history : KeyHistory) (a b : List ℕ) (probes : List Watch) (left others : Left)
     → MayAnswerRun c layout history (Ok a) probes left → MayAnswerRun d layout history (Ok b) probes others → a ≡ b) where
-  -- behind the key file
+  -- after the key file
   history_one : (layout : KeyLayout) (outcome : HistoryOutcome)
       → PrintsOne (with_history (Runs c layout) outcome) (with_history (Runs d layout) outcome)
   history_one layout (Ok history) shelf a b after later probes left others e k = h layout history a b probes left others e.0 k.0
   history_one layout (Err fault) shelf a b after later probes left others e k = no_text a b a (keys_refusal fault) e.0
 
-  -- behind the layout
+  -- after the layout
   layout_one : (keys : List ℕ) (outcome : LayoutOutcome)
       → PrintsOne (with_layout (keys_next (Runs c) keys) outcome) (with_layout (keys_next (Runs d) keys) outcome)
   layout_one keys (Ok layout) shelf a b after later probes left others e k =

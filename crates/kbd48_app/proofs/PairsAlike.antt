@@ -3,7 +3,7 @@ use Rattle.std.proofs.Common.{◌≡◌, ◌⊎◌, ℕ, List, Ok, Err, inl, inr
 use Rattle.std.specs.Option.{option_map}
 use Rattle.std.specs.declared.option.Option.{Option}
 use Rattle.board_probes.specs.Probes.{Watch}
-use Rattle.io_edge.specs.Shelf.{Told, Fetched, Fails, Long, Found, after_fetch}
+use Rattle.io_edge.specs.Shelf.{Shelved, Fetched, Fails, Long, Found, after_fetch}
 use Rattle.key_file.specs.Histories.{KeyHistory}
 use Rattle.key_file.specs.KeyFile.{history_of}
 use Rattle.layout_reader.specs.Documents.{layout_of_document}
@@ -24,14 +24,14 @@ use Rattle.kbd48_app.proofs.RunPlans.{HistoryOutcome, LayoutOutcome, plan_from}
 
 -- one plan may end with what another may, over `R`, which says of an answer how the probes are left by the other and by it
 abbrev pub EndsAlike : (Answer → List Watch → List Watch → Type 0) → Plan → Plan → Type 0
-EndsAlike R p q = (shelf : Option Told) (answer : Answer) (after : Option Told) (probes left : List Watch)
+EndsAlike R p q = (shelf : Option Shelved) (answer : Answer) (after : Option Shelved) (probes left : List Watch)
     → MayEnd p shelf answer after probes (leaving left)
     → (kept : List Watch) × MayEnd q shelf answer after probes (leaving kept) × R answer kept left
 
 module _ (R : Answer → List Watch → List Watch → Type 0) (same : (answer : Answer) (left : List Watch) → R answer left left) where
-  -- behind a fetch
+  -- after a fetch
   fetch_by : (kind : Kind) (name : List ℕ) (next other : List ℕ → Plan) → ((bytes : List ℕ) → EndsAlike R (next bytes) (other bytes))
-      → (shelf : Option Told) (answer : Answer) (after : Option Told) (probes left : List Watch) (outcome : Fetched)
+      → (shelf : Option Shelved) (answer : Answer) (after : Option Shelved) (probes left : List Watch) (outcome : Fetched)
       → MayFetch shelf name (limit_of kind) outcome
       → OnFetched ((answer ≡ Err Read) × IsKept (option_map after_fetch shelf) after probes (leaving left))
       ((answer ≡ Err (TooLong kind)) × IsKept (option_map after_fetch shelf) after probes (leaving left))
@@ -55,14 +55,14 @@ module _ (R : Answer → List Watch → List Watch → Type 0) (same : (answer :
       (h : (layout : KeyLayout) (history : KeyHistory) (answer : Answer) (probes left : List Watch)
       → MayAnswerRun c layout history answer probes (leaving left)
       → (kept : List Watch) × MayAnswerRun d layout history answer probes (leaving kept) × R answer kept left) where
-    -- behind the key file
+    -- after the key file
     history_alike : (layout : KeyLayout) (outcome : HistoryOutcome)
         → EndsAlike R (with_history (Runs c layout) outcome) (with_history (Runs d layout) outcome)
     history_alike layout (Ok history) shelf answer after probes left e =
         let k = h layout history answer probes left e.0 in (k.0, (k.1, e.1, e.2), k.2)
     history_alike layout (Err fault) shelf answer after probes left e = (left, e, same answer left)
 
-    -- behind the layout
+    -- after the layout
     layout_alike : (keys : List ℕ) (outcome : LayoutOutcome)
         → EndsAlike R (with_layout (keys_next (Runs c) keys) outcome) (with_layout (keys_next (Runs d) keys) outcome)
     layout_alike keys (Ok layout) shelf answer after probes left e =

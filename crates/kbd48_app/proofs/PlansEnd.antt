@@ -1,16 +1,16 @@
--- How a plan ends over a shelf that tells its files.
+-- How a plan ends over a shelf whose files are known.
 use Rattle.std.proofs.Common.{◌≡◌, ℕ, Bool, true, false, List, [], length, Some, None, Err, inl, inr, refl, ap, subst, sym, ◌∙◌, ◌⊎◌}
 use Rattle.std.specs.declared.option.Option.{Option}
 use Rattle.board_run.proofs.EndOf.{end_found, end_of}
-use Rattle.board_run.specs.Running.{Outcome}
+use Rattle.board_run.specs.BoardOutcomes.{Outcome}
 use Rattle.story_run.specs.declared.ending.End.{End}
 use Rattle.story_run.specs.declared.ending.End.TheVariants.{Over, Stuck}
 use Rattle.board_probes.specs.Probes.{Watch}
-use Rattle.fw_debug.specs.Sessions.{Debuggee}
+use Rattle.debugger.specs.Sessions.{Debuggee}
 use Rattle.io_edge.specs.Said.{Shown}
 use Rattle.layout_reader.specs.Layouts.{KeyLayout}
 use Rattle.typed_log.specs.Typing.{first_without}
-use Rattle.io_edge.specs.Shelf.{Told, Fetched, Fails, Long, Found, after_fetch, fetched}
+use Rattle.io_edge.specs.Shelf.{Shelved, Fetched, Fails, Long, Found, after_fetch, fetched}
 use Rattle.app_words.specs.declared.exit.Exit.{Exit}
 use Rattle.app_words.specs.declared.exit.Exit.TheVariants as exits
 use Rattle.app_words.specs.declared.kind.Kind.{Kind}
@@ -46,8 +46,8 @@ board_led : (wanted : BoardCommand) (run : Outcome) (end : End) → exit_said (b
 board_led wanted run Over = refl
 board_led wanted run (Stuck place) = refl
 
--- the exit where memory isn't wanting, and there are so many probes
-abbrev pub leads : ℕ → Plan → Told → Exit
+-- the exit unless memory runs out, and there are so many probes
+abbrev pub leads : ℕ → Plan → Shelved → Exit
 leads n (Gives said) shelf = exit_said said
 leads n (Certifies image text) shelf = exit_said (cert_said image text)
 leads n (Spells layout text) shelf = exit_by (first_without layout text)
@@ -58,7 +58,7 @@ leads n (Debugs s script) shelf = exit_by (script_fault n script)
 leads n (Fetches kind name next) shelf =
     on_fetched exits.Read exits.Input (λ bytes. leads n (next bytes) (after_fetch shelf)) (fetched shelf name (limit_of kind))
 
--- an answer's exit is the one that a plan leads to, or memory was wanting
+-- an answer's exit is the one that a plan leads to, or memory was lacking
 abbrev pub IsLed : Exit → Bool → Answer → Type 0
 IsLed exit lack answer = (exit_said answer ≡ exit) ⊎ ((answer ≡ Err Memory) × (lack ≡ true))
 
@@ -92,7 +92,7 @@ text_led layout text answer h =
       ]
     ]
 
-pub ends_so : (p : Plan) (shelf : Told) (answer : Answer) (after : Option Told) (probes : List Watch) (left : Left)
+pub ends_so : (p : Plan) (shelf : Shelved) (answer : Answer) (after : Option Shelved) (probes : List Watch) (left : Left)
     → MayEnd p (Some shelf) answer after probes left → IsLed (leads (length probes) p shelf) (may_lack p shelf) answer
 ends_so (Gives said) shelf answer after probes left h = said_led said answer h.0
 ends_so (Certifies image text) shelf answer after probes left h = said_led (cert_said image text) answer h.0.0
@@ -102,9 +102,9 @@ ends_so (Runs command layout history) shelf answer after probes left h =
 ends_so (Boards wanted image history) shelf answer after probes left h =
     elim h.0 [
       | inl memory ↦ inr (memory.0, refl)
-      | inr told ↦
-          let led = ap board_exit (end_found (board_story wanted image history) told.0 told.1) in
-          inl (ap exit_said told.3 ∙ board_led wanted.told told.0 told.0.end ∙ sym led)
+      | inr reported ↦
+          let led = ap board_exit (end_found (board_story wanted image history) reported.0 reported.1) in
+          inl (ap exit_said reported.3 ∙ board_led wanted.prints_what reported.0 reported.0.end ∙ sym led)
     ]
 ends_so (Samples count) shelf answer after probes left h =
     elim h.0 [ inl memory ↦ inr (memory.0, refl) | inr said ↦ inl (ap exit_said said.3) ]
@@ -123,17 +123,17 @@ ends_so (Fetches kind name next) shelf answer after probes left h =
     OnFetched ((answer ≡ Err Read) × end) ((answer ≡ Err (TooLong kind)) × end) (λ bytes. ((answer ≡ Err Memory) × end) ⊎ on bytes) o)
     h.1 h.2)
 
-ends_as : (command : Option Command) (words : List (List ℕ)) (shelf : Told) (answer : Answer) (after : Option Told) (probes : List Watch)
+ends_as : (command : Option Command) (words : List (List ℕ)) (shelf : Shelved) (answer : Answer) (after : Option Shelved) (probes : List Watch)
     (left : Left) → MayEndAs command words (Some shelf) answer after probes left
     → IsLed (leads (length probes) (plan_of command words) shelf) (may_lack (plan_of command words) shelf) answer
 ends_as None words shelf answer after probes left h = inl (ap exit_said h.0)
 ends_as (Some command) words shelf answer after probes left h = ends_so (plan_of (Some command) words) shelf answer after probes left h
 
--- the exit is the one that the plan leads to, or memory was wanting, or the sink failed
+-- the exit is the one that the plan leads to, or memory was lacking, or the sink failed
 abbrev pub IsExit : Exit → Bool → Exit → Type 0
 IsExit led lack exit = (exit ≡ led) ⊎ ((exit ≡ exits.Memory) × (lack ≡ true)) ⊎ (exit ≡ exits.Write)
 
-pub exits_so : (words : List (List ℕ)) (shelf : Told) (taken taken' : Shown) (exit : Exit) (after : Option Told) (probes : List Watch)
+pub exits_so : (words : List (List ℕ)) (shelf : Shelved) (taken taken' : Shown) (exit : Exit) (after : Option Shelved) (probes : List Watch)
     (left : Left) → (answer : Answer) × MayAnswer words (Some shelf) answer after probes left × Says left.log answer taken taken' exit
     → IsExit (leads (length probes) (plan words) shelf) (may_lack (plan words) shelf) exit
 exits_so words shelf taken taken' exit after probes left h =

@@ -7,12 +7,12 @@ use Rattle.std.specs.declared.option.Option.{Option}
 use Rattle.fw_compile.specs.Image.{image_of}
 use Rattle.board_probes.specs.Probes.{Watch}
 use Rattle.joint_feed.specs.Stories.{story}
-use Rattle.io_edge.specs.Shelf.{Told}
+use Rattle.io_edge.specs.Shelf.{Shelved}
 use Rattle.key_file.specs.Histories.{KeyHistory}
 use Rattle.layout_reader.specs.Layouts.{KeyLayout}
 use Rattle.link_model.specs.Expected.{expected_log}
 use Rattle.subsystem.specs.Agreement.{IsAsExpected}
-use Rattle.subsystem.specs.Running.{Outcome}
+use Rattle.subsystem.specs.LayoutOutcomes.{Outcome}
 use Rattle.subsystem.specs.Texts.{log_text}
 use Rattle.runs_agree.proofs.RunsAlike.{runs_alike}
 use Rattle.app_words.specs.declared.words.Command.{Command}
@@ -45,7 +45,7 @@ expected_for layout history answer probes left (inl none) = (left, inl (none.0, 
 expected_for layout history answer probes left (inr h) =
     (left, inr (h.0, h.1, (h.2.0, h.2.1, h.2.2 ∙ texts_alike layout history h.1 h.2.1, tt), h.3, h.4), refl)
 
--- what `expect` may say, `run` may; where memory is wanting it leaves the probes as they were
+-- what `expect` may say, `run` may; where memory runs out it leaves the probes as they were
 ran_for : (layout : KeyLayout) (history : KeyHistory) (answer : Answer) (probes left : List Watch)
     → MayAnswerRun Expect layout history answer probes (leaving left)
     → (kept : List Watch) × MayAnswerRun (Log false false) layout history answer probes (leaving kept)
@@ -70,7 +70,7 @@ one_for layout history a b probes left others (inr h) (inr k) =
 abbrev formed : Bool → RunCommand → Option Command
 formed b command = if b then Some (OverPair (OverRun command)) else None
 
-expected_by : (b : Bool) (layout keys : List ℕ) (shelf : Option Told) (answer : Answer) (after : Option Told) (probes left : List Watch)
+expected_by : (b : Bool) (layout keys : List ℕ) (shelf : Option Shelved) (answer : Answer) (after : Option Shelved) (probes left : List Watch)
     → MayEndAs (formed b (Log false false)) (run_words layout keys) shelf answer after probes (leaving left)
     → MayEndAs (formed b Expect) (expect_words layout keys) shelf answer after probes (leaving left)
 expected_by true layout keys shelf answer after probes left h =
@@ -79,7 +79,7 @@ expected_by true layout keys shelf answer after probes left h =
     subst (λ (v : List Watch). MayEndAs (formed true Expect) (expect_words layout keys) shelf answer after probes (leaving v)) k.2 k.1
 expected_by false layout keys shelf answer after probes left h = h
 
-ran_by : (b : Bool) (layout keys : List ℕ) (shelf : Option Told) (answer : Answer) (after : Option Told) (probes left : List Watch)
+ran_by : (b : Bool) (layout keys : List ℕ) (shelf : Option Shelved) (answer : Answer) (after : Option Shelved) (probes left : List Watch)
     → MayEndAs (formed b Expect) (expect_words layout keys) shelf answer after probes (leaving left)
     → (kept : List Watch) × MayEndAs (formed b (Log false false)) (run_words layout keys) shelf answer after probes (leaving kept)
     × ((kept ≡ left) ⊎ (answer ≡ Err Memory))
@@ -88,7 +88,7 @@ ran_by true layout keys shelf answer after probes left h =
     ran_for layout keys shelf answer after probes left h
 ran_by false layout keys shelf answer after probes left h = (left, h, inl refl)
 
-one_by : (b : Bool) (layout keys : List ℕ) (shelf : Told) (ran expected : List ℕ) (after later : Option Told)
+one_by : (b : Bool) (layout keys : List ℕ) (shelf : Shelved) (ran expected : List ℕ) (after later : Option Shelved)
     (probes : List Watch) (left others : Left)
     → MayEndAs (formed b (Log false false)) (run_words layout keys) (Some shelf) (Ok ran) after probes left
     → MayEndAs (formed b Expect) (expect_words layout keys) (Some shelf) (Ok expected) later probes others → ran ≡ expected

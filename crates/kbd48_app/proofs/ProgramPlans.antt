@@ -2,7 +2,7 @@
 use Rattle.std.proofs.Common.{◌≡◌, ℕ, List, Ok, Err, inl, inr, refl, ap, subst, ◌∙◌, ◌⊎◌}
 use Rattle.hexfile.specs.Hex.{HexOutcome, hex_of}
 use Rattle.hexfile.specs.declared.fault.HexFault.{HexFault}
-use Rattle.io_edge.specs.Shelf.{Told, Fetched, Found, after_fetch, fetched}
+use Rattle.io_edge.specs.Shelf.{Shelved, Fetched, Found, after_fetch, fetched}
 use Rattle.key_file.specs.Histories.{KeyHistory}
 use Rattle.key_file.specs.KeyFile.{history_of}
 use Rattle.layout_reader.specs.Documents.{layout_of_document}
@@ -22,27 +22,27 @@ use Rattle.kbd48_app.proofs.RunPlans.{IsOfRun, IsReadThird, IsScriptLed, fault_l
 use Rattle.kbd48_app.proofs.RunPlans.{leads_both as leads_run}
 
 -- what follows an image and a history
-abbrev pub Behind : Type 0
-Behind = List ℕ → KeyHistory → Plan
+abbrev pub Afterwards : Type 0
+Afterwards = List ℕ → KeyHistory → Plan
 
-abbrev pub program_from : Behind → List ℕ → List ℕ → List ℕ → Plan
+abbrev pub program_from : Afterwards → List ℕ → List ℕ → List ℕ → Plan
 program_from next second third bytes = with_image (program_next next second third) (hex_of bytes)
 
 -- an image is found, and has no fault
-abbrev pub HasImage : List ℕ → Told → List ℕ → Type 0
+abbrev pub HasImage : List ℕ → Shelved → List ℕ → Type 0
 HasImage first shelf image =
     (bytes : List ℕ) × (fetched shelf first (limit_of kinds.Hex) ≡ Found bytes) × (hex_of bytes ≡ Ok image)
 
-module _ (next : Behind) (first second third : List ℕ) (shelf : Told) where
-  -- what is read behind an image's file is read behind its image
-  behind_image : (read : Kind) (file bytes : List ℕ) (outcome : HexOutcome) → hex_of bytes ≡ outcome
+module _ (next : Afterwards) (first second third : List ℕ) (shelf : Shelved) where
+  -- what is read after an image's file is read after its image
+  after_image : (read : Kind) (file bytes : List ℕ) (outcome : HexOutcome) → hex_of bytes ≡ outcome
       → Reads read file (with_image (program_next next second third) outcome) (after_fetch shelf)
       → (image : List ℕ) × (hex_of bytes ≡ Ok image)
       × Reads read file (program_next next second third image) (after_fetch shelf)
-  behind_image read file bytes (Ok image) is h = (image, is, h)
-  behind_image read file bytes (Err fault) is h = absurd h
+  after_image read file bytes (Ok image) is h = (image, is, h)
+  after_image read file bytes (Err fault) is h = absurd h
 
-  -- the image's file is read, or one behind the image
+  -- the image's file is read, or one after the image
   abbrev IsRead : Kind → List ℕ → Type 0
   IsRead read file =
       ((kinds.Hex ≡ read) × (fetched shelf first (limit_of kinds.Hex) ≡ Found file))
@@ -55,21 +55,21 @@ module _ (next : Behind) (first second third : List ℕ) (shelf : Told) where
       elim (fetch_read read file kinds.Hex first (program_from next second third) shelf h) [
         | inl this ↦ inl this
         | inr more ↦
-            let b = behind_image read file more.0 (hex_of more.0) refl more.2 in
+            let b = after_image read file more.0 (hex_of more.0) refl more.2 in
             inr (b.0, (more.0, more.1, b.1), b.2)
       ]
 
-  -- a file of another kind is read behind the image
+  -- a file of another kind is read after the image
   has_image : (read : Kind) (file : List ℕ) → (kinds.Hex ≡ read → ⊥)
       → Reads read file (program_plan next first second third) shelf → (image : List ℕ) × HasImage first shelf image
   has_image read file other h =
       elim (is_read read file h) [ inl this ↦ absurd (other this.0) | inr more ↦ (more.0, more.1) ]
 
   module _ (image : List ℕ) (at : HasImage first shelf image) where
-    pub read_behind : (read : Kind) (file : List ℕ) → (kinds.Hex ≡ read → ⊥)
+    pub read_after : (read : Kind) (file : List ℕ) → (kinds.Hex ≡ read → ⊥)
         → Reads read file (program_plan next first second third) shelf
         → Reads read file (program_next next second third image) (after_fetch shelf)
-    read_behind read file other h =
+    read_after read file other h =
         elim (subst (λ (o : Fetched). OnFetched ⊥ ⊥ (λ b. ((kinds.Hex ≡ read) × (b ≡ file))
         ⊎ Reads read file (program_from next second third b) (after_fetch shelf)) o) at.1 h) [
           | inl this ↦ absurd (other this.0)
@@ -97,11 +97,11 @@ module _ (next : Behind) (first second third : List ℕ) (shelf : Told) where
 
   module _ (n : ℕ) (alone : (image : List ℕ) → IsReadThird (λ layout. next image))
       (led : (image : List ℕ) → IsScriptLed n (λ layout. next image)) where
-    -- a fault behind the image leads to its exit
-    led_behind : (fault : Fault) (image : List ℕ) → HasImage first shelf image
+    -- a fault after the image leads to its exit
+    led_after : (fault : Fault) (image : List ℕ) → HasImage first shelf image
         → HasFault n fault (program_next next second third image) (after_fetch shelf)
         → leads n (program_plan next first second third) shelf ≡ exit_at fault
-    led_behind fault image at h =
+    led_after fault image at h =
         leads_image image at n
         ∙ fault_led_by_run n (λ layout. next image) (alone image) (led image) second third (after_fetch shelf) fault h
 
@@ -128,7 +128,7 @@ module _ (next : Behind) (first second third : List ℕ) (shelf : Told) where
     none_read read file other h =
         let has = has_image read file other h in
         is_of_run read file (λ layout. next has.0) second third (after_fetch shelf) (alone has.0)
-        (read_behind has.0 has.1 read file other h)
+        (read_after has.0 has.1 read file other h)
 
     -- a fault leads to its exit
     pub fault_led_by_program : (fault : Fault) → HasFault n fault (program_plan next first second third) shelf
@@ -136,23 +136,23 @@ module _ (next : Behind) (first second third : List ℕ) (shelf : Told) where
     fault_led_by_program (InHex fault) h = hex_led fault h
     fault_led_by_program (InLayout fault) h =
         let has = has_image kinds.Layout h.0 (λ e. cc) h.1 in
-        led_behind (InLayout fault) has.0 has.1
-        (h.0, read_behind has.0 has.1 kinds.Layout h.0 (λ e. cc) h.1, h.2)
+        led_after (InLayout fault) has.0 has.1
+        (h.0, read_after has.0 has.1 kinds.Layout h.0 (λ e. cc) h.1, h.2)
     fault_led_by_program (InKeys fault) h =
         let has = has_image kinds.Layout h.0 (λ e. cc) h.1 in
-        led_behind (InKeys fault) has.0 has.1 (
+        led_after (InKeys fault) has.0 has.1 (
           h.0,
-          read_behind has.0 has.1 kinds.Layout h.0 (λ e. cc) h.1,
+          read_after has.0 has.1 kinds.Layout h.0 (λ e. cc) h.1,
           h.2,
           h.3,
           h.4,
-          read_behind has.0 has.1 kinds.Keys h.4 (λ e. cc) h.5,
+          read_after has.0 has.1 kinds.Keys h.4 (λ e. cc) h.5,
           h.6,
         )
     fault_led_by_program (InScript fault) h =
         let has = has_image kinds.Script h.0 (λ e. cc) h.1 in
-        led_behind (InScript fault) has.0 has.1
-        (h.0, read_behind has.0 has.1 kinds.Script h.0 (λ e. cc) h.1, h.2)
+        led_after (InScript fault) has.0 has.1
+        (h.0, read_after has.0 has.1 kinds.Script h.0 (λ e. cc) h.1, h.2)
     fault_led_by_program (InAsm fault) h = absurd (none_read kinds.Asm h.0 (λ e. cc) h.1)
     fault_led_by_program (InCert fault) h = absurd (none_read kinds.Cert h.4 (λ e. cc) h.5)
     fault_led_by_program (InText fault) h = absurd (none_read kinds.Text h.4 (λ e. cc) h.5)

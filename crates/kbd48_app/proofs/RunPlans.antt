@@ -1,7 +1,7 @@
 -- `run`, `expect` and `debug`, whose plans fetch a layout, and then a key file for it.
 use Rattle.std.proofs.Common.{◌≡◌, ℕ, List, Some, Ok, Err, inl, inr, refl, ap, subst, ◌∙◌, ◌⊎◌}
 use Rattle.std.specs.declared.result.Result.{Result}
-use Rattle.io_edge.specs.Shelf.{Told, Fetched, Found, after_fetch, fetched}
+use Rattle.io_edge.specs.Shelf.{Shelved, Fetched, Found, after_fetch, fetched}
 use Rattle.key_file.specs.Histories.{KeyHistory}
 use Rattle.key_file.specs.KeyFile.{history_of}
 use Rattle.key_file.specs.declared.fault.KeyFault.{KeyFault}
@@ -36,21 +36,21 @@ Following = KeyLayout → KeyHistory → Plan
 abbrev pub plan_from : Following → List ℕ → List ℕ → Plan
 plan_from next second bytes = with_layout (keys_next next second) (layout_of_document bytes)
 
--- the key file is read, or a file behind it
-abbrev IsReadSecond : Kind → List ℕ → Following → KeyLayout → Told → Fetched → Type 0
+-- the key file is read, or a file after it
+abbrev IsReadSecond : Kind → List ℕ → Following → KeyLayout → Shelved → Fetched → Type 0
 IsReadSecond read file next layout shelf outcome =
     ((kinds.Keys ≡ read) × (outcome ≡ Found file))
     ⊎ ((text : List ℕ) × (outcome ≡ Found text) × (history : KeyHistory) × (history_of layout text ≡ Ok history)
     × Reads read file (next layout history) shelf)
 
-behind_history : (read : Kind) (file text : List ℕ) (next : Following) (layout : KeyLayout) (shelf : Told)
+after_history : (read : Kind) (file text : List ℕ) (next : Following) (layout : KeyLayout) (shelf : Shelved)
     (outcome : HistoryOutcome) → history_of layout text ≡ outcome
     → Reads read file (with_history (next layout) outcome) shelf
     → (history : KeyHistory) × (history_of layout text ≡ Ok history) × Reads read file (next layout history) shelf
-behind_history read file text next layout shelf (Ok history) is h = (history, is, h)
-behind_history read file text next layout shelf (Err fault) is h = absurd h
+after_history read file text next layout shelf (Ok history) is h = (history, is, h)
+after_history read file text next layout shelf (Err fault) is h = absurd h
 
-second_read : (read : Kind) (file : List ℕ) (next : Following) (second : List ℕ) (layout : KeyLayout) (shelf : Told)
+second_read : (read : Kind) (file : List ℕ) (next : Following) (second : List ℕ) (layout : KeyLayout) (shelf : Shelved)
     → Reads read file (keys_next next second layout) shelf
     → IsReadSecond read file next layout (after_fetch shelf) (fetched shelf second (limit_of kinds.Keys))
 second_read read file next second layout shelf h =
@@ -58,40 +58,40 @@ second_read read file next second layout shelf h =
     (λ text. with_history (next layout) (history_of layout text)) shelf h) [
       | inl this ↦ inl this
       | inr more ↦
-          let b = behind_history read file more.0 next layout (after_fetch shelf)
+          let b = after_history read file more.0 next layout (after_fetch shelf)
           (history_of layout more.0) refl more.2 in
           inr (more.0, more.1, b.0, b.1, b.2)
     ]
 
--- the layout is read, or a file behind it
-abbrev IsRead : Kind → List ℕ → Following → List ℕ → Told → Fetched → Type 0
+-- the layout is read, or a file after it
+abbrev IsRead : Kind → List ℕ → Following → List ℕ → Shelved → Fetched → Type 0
 IsRead read file next second shelf outcome =
     ((kinds.Layout ≡ read) × (outcome ≡ Found file))
     ⊎ ((bytes : List ℕ) × (outcome ≡ Found bytes) × (layout : KeyLayout) × (layout_of_document bytes ≡ Ok layout)
     × IsReadSecond read file next layout (after_fetch shelf) (fetched shelf second (limit_of kinds.Keys)))
 
-behind_layout : (read : Kind) (file bytes second : List ℕ) (next : Following) (shelf : Told) (outcome : LayoutOutcome)
+after_layout : (read : Kind) (file bytes second : List ℕ) (next : Following) (shelf : Shelved) (outcome : LayoutOutcome)
     → layout_of_document bytes ≡ outcome → Reads read file (with_layout (keys_next next second) outcome) shelf
     → (layout : KeyLayout) × (layout_of_document bytes ≡ Ok layout)
     × IsReadSecond read file next layout (after_fetch shelf) (fetched shelf second (limit_of kinds.Keys))
-behind_layout read file bytes second next shelf (Ok layout) is h =
+after_layout read file bytes second next shelf (Ok layout) is h =
     (layout, is, second_read read file next second layout shelf h)
-behind_layout read file bytes second next shelf (Err fault) is h = absurd h
+after_layout read file bytes second next shelf (Err fault) is h = absurd h
 
-is_read : (read : Kind) (file : List ℕ) (next : Following) (first second : List ℕ) (shelf : Told)
+is_read : (read : Kind) (file : List ℕ) (next : Following) (first second : List ℕ) (shelf : Shelved)
     → Reads read file (history_plan next first second) shelf
     → IsRead read file next second (after_fetch shelf) (fetched shelf first (limit_of kinds.Layout))
 is_read read file next first second shelf h =
     elim (fetch_read read file kinds.Layout first (plan_from next second) shelf h) [
       | inl this ↦ inl this
       | inr more ↦
-          let b = behind_layout read file more.0 second next (after_fetch shelf)
+          let b = after_layout read file more.0 second next (after_fetch shelf)
           (layout_of_document more.0) refl more.2 in
           inr (more.0, more.1, b.0, b.1, b.2)
     ]
 
--- a file of another kind is read behind both
-read_third : (read : Kind) (file : List ℕ) (next : Following) (first second : List ℕ) (shelf : Told)
+-- a file of another kind is read after both
+read_third : (read : Kind) (file : List ℕ) (next : Following) (first second : List ℕ) (shelf : Shelved)
     → (kinds.Layout ≡ read → ⊥) → (kinds.Keys ≡ read → ⊥) → Reads read file (history_plan next first second) shelf
     → (bytes : List ℕ) × (fetched shelf first (limit_of kinds.Layout) ≡ Found bytes)
     × (layout : KeyLayout) × (layout_of_document bytes ≡ Ok layout)
@@ -117,37 +117,37 @@ IsOfRun kinds.Cert = ⊥
 IsOfRun kinds.Script = Unit {0}
 IsOfRun kinds.Text = ⊥
 
--- what is read behind both is a script
+-- what is read after both is a script
 abbrev pub IsReadThird : Following → Type 0
 IsReadThird next =
-    (read : Kind) (file : List ℕ) (layout : KeyLayout) (history : KeyHistory) (shelf : Told)
+    (read : Kind) (file : List ℕ) (layout : KeyLayout) (history : KeyHistory) (shelf : Shelved)
     → Reads read file (next layout history) shelf → kinds.Script ≡ read
 
-pub is_of_run : (read : Kind) (file : List ℕ) (next : Following) (first second : List ℕ) (shelf : Told) → IsReadThird next
+pub is_of_run : (read : Kind) (file : List ℕ) (next : Following) (first second : List ℕ) (shelf : Shelved) → IsReadThird next
     → Reads read file (history_plan next first second) shelf → IsOfRun read
 is_of_run read file next first second shelf third h =
     elim (is_read read file next first second shelf h) [
       | inl this ↦ subst IsOfRun this.0 tt
       | inr more ↦ elim more.4 [
         | inl this ↦ subst IsOfRun this.0 tt
-        | inr behind ↦
-            subst IsOfRun (third read file more.2 behind.2 (after_fetch (after_fetch shelf)) behind.4) tt
+        | inr afterwards ↦
+            subst IsOfRun (third read file more.2 afterwards.2 (after_fetch (after_fetch shelf)) afterwards.4) tt
       ]
     ]
 
 module _ (n : ℕ) (next : Following) where
   -- where the history of a key file leads, or its first fault
-  abbrev pub history_exit : KeyLayout → Told → HistoryOutcome → Exit
+  abbrev pub history_exit : KeyLayout → Shelved → HistoryOutcome → Exit
   history_exit layout shelf (Ok history) = leads n (next layout history) shelf
   history_exit layout shelf (Err fault) = exit_of (keys_refusal fault)
 
-  leads_history : (layout : KeyLayout) (shelf : Told) (outcome : HistoryOutcome)
+  leads_history : (layout : KeyLayout) (shelf : Shelved) (outcome : HistoryOutcome)
       → leads n (with_history (next layout) outcome) shelf ≡ history_exit layout shelf outcome
   leads_history layout shelf (Ok history) = refl
   leads_history layout shelf (Err fault) = refl
 
   -- where two files lead that are found
-  pub leads_both : (first second bytes text : List ℕ) (layout : KeyLayout) (shelf : Told)
+  pub leads_both : (first second bytes text : List ℕ) (layout : KeyLayout) (shelf : Shelved)
       → fetched shelf first (limit_of kinds.Layout) ≡ Found bytes → layout_of_document bytes ≡ Ok layout
       → fetched (after_fetch shelf) second (limit_of kinds.Keys) ≡ Found text
       → leads n (history_plan next first second) shelf
@@ -161,11 +161,11 @@ module _ (n : ℕ) (next : Following) where
   -- where a script leads that has a fault
   abbrev pub IsScriptLed : Type 0
   IsScriptLed =
-      (script : List ℕ) (fault : ℕ × ℕ) (layout : KeyLayout) (history : KeyHistory) (shelf : Told)
+      (script : List ℕ) (fault : ℕ × ℕ) (layout : KeyLayout) (history : KeyHistory) (shelf : Shelved)
       → Reads kinds.Script script (next layout history) shelf → script_fault n script ≡ Some fault
       → leads n (next layout history) shelf ≡ exits.Input
 
-  module _ (third : IsReadThird next) (led : IsScriptLed) (first second : List ℕ) (shelf : Told) where
+  module _ (third : IsReadThird next) (led : IsScriptLed) (first second : List ℕ) (shelf : Shelved) where
     -- the document is found
     pub first_found : (bytes : List ℕ) → Reads kinds.Layout bytes (history_plan next first second) shelf
         → fetched shelf first (limit_of kinds.Layout) ≡ Found bytes
@@ -174,9 +174,9 @@ module _ (n : ℕ) (next : Following) where
           | inl this ↦ this.1
           | inr more ↦ elim more.4 [
             | inl this ↦ let other : kinds.Keys ≡ kinds.Layout = this.0 in absurd cc
-            | inr behind ↦
+            | inr afterwards ↦
                 let other : kinds.Script ≡ kinds.Layout =
-                third kinds.Layout bytes more.2 behind.2 (after_fetch (after_fetch shelf)) behind.4 in absurd cc
+                third kinds.Layout bytes more.2 afterwards.2 (after_fetch (after_fetch shelf)) afterwards.4 in absurd cc
           ]
         ]
 
@@ -188,9 +188,9 @@ module _ (n : ℕ) (next : Following) where
           | inl this ↦ let other : kinds.Layout ≡ kinds.Keys = this.0 in absurd cc
           | inr more ↦ elim more.4 [
             | inl this ↦ this.1
-            | inr behind ↦
+            | inr afterwards ↦
                 let other : kinds.Script ≡ kinds.Keys =
-                third kinds.Keys text more.2 behind.2 (after_fetch (after_fetch shelf)) behind.4 in absurd cc
+                third kinds.Keys text more.2 afterwards.2 (after_fetch (after_fetch shelf)) afterwards.4 in absurd cc
           ]
         ]
 

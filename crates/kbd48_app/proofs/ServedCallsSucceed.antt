@@ -1,4 +1,4 @@
--- Where nothing stands in the way.
+-- Where nothing is in the way.
 use Rattle.std.proofs.Common.{◌≡◌, ℕ, ◌-◌, ◌^◌, ◌<◌, Bool, true, false, List, ◌++◌, length, Some, None, Ok}
 use Rattle.std.proofs.Common.{Err, IfSome, ap, sym, ◌∙◌, subst, inl, inr, refl, arith, ◌⊎◌}
 use Rattle.std.specs.declared.option.Option.{Option}
@@ -13,7 +13,7 @@ use Rattle.io_edge.specs.Faults.{Rose}
 use Rattle.io_edge.specs.MemorySink.{HeldBytes}
 use Rattle.io_edge.specs.Said.{said}
 use Rattle.io_edge.specs.Said.{Shown}
-use Rattle.io_edge.specs.Shelf.{Told, Fetched, after_fetch}
+use Rattle.io_edge.specs.Shelf.{Shelved, Fetched, after_fetch}
 use Rattle.app_words.specs.declared.exit.Exit.{Exit}
 use Rattle.app_words.specs.declared.exit.Exit.TheVariants as exits
 use Rattle.app_words.specs.declared.refusal.Refusal.TheVariants as refusals
@@ -35,9 +35,9 @@ use Rattle.kbd48_app.proofs.ExitAndCause.{caused_as}
 use Rattle.kbd48_app.proofs.CertPlans.{right_exit}
 use Rattle.kbd48_app.proofs.AnswersEndCalls.{never_write}
 use Rattle.kbd48_app.proofs.PlansEnd.{board_exit, leads, ends_so, exit_by}
-use Rattle.kbd48_app.proofs.ExitsTell.{caused}
+use Rattle.kbd48_app.proofs.ExitsSay.{caused}
 
--- where nothing stands in its way a plan leads to its end, or to a byte without an instruction
+-- where nothing is in its way a plan leads to its end, or to a byte without an instruction
 abbrev IsPast : Exit → Type 0
 IsPast exit = (exit ≡ exits.Done) ⊎ (exit ≡ exits.Stuck)
 
@@ -62,7 +62,7 @@ board_past None = inl refl
 board_past (Some Over) = inl refl
 board_past (Some (Stuck place)) = inr refl
 
-served_past : (n : ℕ) (p : Plan) (shelf : Told) → IsServed n p (Some shelf) → IsPast (leads n p shelf)
+served_past : (n : ℕ) (p : Plan) (shelf : Shelved) → IsServed n p (Some shelf) → IsPast (leads n p shelf)
 served_past n (Fetches kind name next) shelf h =
     subst (λ (o : Fetched). IsPast (on_fetched exits.Read exits.Input (λ bytes. leads n (next bytes) (after_fetch shelf)) o))
     (sym h.1) (served_past n (next h.0) (after_fetch shelf) h.2)
@@ -100,11 +100,11 @@ memory_left Debug = inr refl
 memory_left (Probe fill) = inr refl
 
 -- a byte without an instruction, where it has its cause
-stuck_left : (command : Option Command) (p : Plan) (shelf : Told) → IsStuck command p shelf → IsLeft command exits.Stuck
+stuck_left : (command : Option Command) (p : Plan) (shelf : Shelved) → IsStuck command p shelf → IsLeft command exits.Stuck
 stuck_left command p shelf (inl step) = subst (λ (c : Option Command). IsLeft c exits.Stuck) (sym step.1) (inr (inr refl))
 stuck_left command p shelf (inr board) = subst (λ (c : Option Command). IsLeft c exits.Stuck) (sym board.1) (inr (inr refl))
 
-past_left : (n : ℕ) (words : List (List ℕ)) (command : Command) (shelf : Told) (exit : Exit)
+past_left : (n : ℕ) (words : List (List ℕ)) (command : Command) (shelf : Shelved) (exit : Exit)
     → exit ≡ leads n (plan_of (Some command) words) shelf → IsPast exit → IsLeft (Some command) exit
 past_left n words command shelf exit led (inl done) =
     subst (λ (e : Exit). IsLeft (Some command) e) (sym done) (done_left command)
@@ -118,7 +118,7 @@ past_left n words command shelf exit led (inr stuck) =
 fed_left : (bytes text : List ℕ) (answer : Answer) → MayAnswerOf (Ok text) answer → IsLeft (Some (Feed bytes)) (exit_said answer)
 fed_left bytes text answer may = elim may [ inl memory ↦ inr (ap exit_said memory) | inr same ↦ inl (ap exit_said same) ]
 
-fileless_left : (n : ℕ) (words : List (List ℕ)) (command : Command) (after : Option Told)
+fileless_left : (n : ℕ) (words : List (List ℕ)) (command : Command) (after : Option Shelved)
     (answer : Answer) (probes : List Watch) (left : Left)
     → IsServed n (plan_of (Some command) words) None → MayEndAs (Some command) words None answer after probes left
     → IsLeft (Some command) (exit_said answer)
@@ -133,7 +133,7 @@ fileless_left n words (Board wanted) after answer probes left served may = absur
 fileless_left n words Debug after answer probes left served may = absurd served
 fileless_left n words (Probe fill) after answer probes left served may = absurd served
 
-answers_left : (words : List (List ℕ)) (command : Option Command) (shelf after : Option Told)
+answers_left : (words : List (List ℕ)) (command : Option Command) (shelf after : Option Shelved)
     (answer : Answer) (probes : List Watch) (left : Left)
     → IsServed (length probes) (plan_of command words) shelf → MayEndAs command words shelf answer after probes left
     → IsLeft command (exit_said answer)
@@ -152,7 +152,7 @@ not_risen : (before after : ℕ) → after ≡ before → before < 2 ^ 64 - 1 �
 not_risen before after same below rose = omega (arith, same, below, rose)
 
 -- where the call doesn't end with Write
-left_unwritten : (n : ℕ) (words : List (List ℕ)) (shelf end : Option Told) (probes : List Watch) (kept : Left) (taken taken' : Shown)
+left_unwritten : (n : ℕ) (words : List (List ℕ)) (shelf end : Option Shelved) (probes : List Watch) (kept : Left) (taken taken' : Shown)
     (exit : Exit) → length probes ≡ n → IsFaultless n words shelf → (exit ≡ exits.Write → ⊥)
     → (answer : Answer) × MayAnswer words shelf answer end probes kept × Says kept.log answer taken taken' exit
     → IsLeft (command_of words) exit
@@ -165,7 +165,7 @@ left_unwritten n words shelf end probes kept taken taken' exit many faultless un
       | inr part ↦ absurd (unwritten part.0)
     ]
 
-pub left : (n : ℕ) (words : List (List ℕ)) (shelf end : Option Told) (probes : List Watch) (kept : Left) (taken taken' : Shown)
+pub left : (n : ℕ) (words : List (List ℕ)) (shelf end : Option Shelved) (probes : List Watch) (kept : Left) (taken taken' : Shown)
     (exit : Exit) (before after : ℕ) → length probes ≡ n → IsFaultless n words shelf → after ≡ before → before < 2 ^ 64 - 1
     → (exit ≡ exits.Write → Rose before after)
     → (answer : Answer) × MayAnswer words shelf answer end probes kept × Says kept.log answer taken taken' exit
@@ -174,8 +174,8 @@ left n words shelf end probes kept taken taken' exit before after many faultless
     left_unwritten n words shelf end probes kept taken taken' exit many faultless
     (λ wrote. not_risen before after same below (write wrote)) says
 
--- of a sink that tells itself, where no put of what was said failed
-abbrev pub IsLeftUnfailed : ℕ → List (List ℕ) → Option Told → Option HeldBytes → Option HeldBytes → Exit → Type 0
+-- of a sink that shows itself, where no put of what was said failed
+abbrev pub IsLeftUnfailed : ℕ → List (List ℕ) → Option Shelved → Option HeldBytes → Option HeldBytes → Exit → Type 0
 IsLeftUnfailed n words shelf before after exit =
     IfSome before
     (λ sink. IsFaultless n words shelf
@@ -184,20 +184,20 @@ IsLeftUnfailed n words shelf before after exit =
 true_false : (b : Bool) → b ≡ true → b ≡ false → ⊥
 true_false b is not_so = cc
 
--- how the sink stands after what was said
+-- how the sink is after what was said
 stood : (log : List ℕ) (answer : Answer) (x y : Shown) (exit : Exit) → Says log answer x y exit
-    → IfSome x.told
-    (λ sink. (y.told ≡ Some (said (log ++ text_said answer) sink).sink)
+    → IfSome x.in_memory
+    (λ sink. (y.in_memory ≡ Some (said (log ++ text_said answer) sink).sink)
     × (exit ≡ exits.Write → (said (log ++ text_said answer) sink).failed ≡ true))
 stood log answer x y exit says =
-    elim x.told as (λ o.
+    elim x.in_memory as (λ o.
     ((exit ≡ exit_said answer)
-    × IfSome o (λ sink. (y.told ≡ Some (said (log ++ text_said answer) sink).sink)
+    × IfSome o (λ sink. (y.in_memory ≡ Some (said (log ++ text_said answer) sink).sink)
     × ((said (log ++ text_said answer) sink).failed ≡ false)))
     ⊎ ((exit ≡ exits.Write)
-    × IfSome o (λ sink. (y.told ≡ Some (said (log ++ text_said answer) sink).sink)
+    × IfSome o (λ sink. (y.in_memory ≡ Some (said (log ++ text_said answer) sink).sink)
     × ((said (log ++ text_said answer) sink).failed ≡ true)))
-    → IfSome o (λ sink. (y.told ≡ Some (said (log ++ text_said answer) sink).sink)
+    → IfSome o (λ sink. (y.in_memory ≡ Some (said (log ++ text_said answer) sink).sink)
     × (exit ≡ exits.Write → (said (log ++ text_said answer) sink).failed ≡ true))) [
       | None ↦ λ h. tt
       | Some sink ↦ λ h. elim h [
@@ -206,15 +206,15 @@ stood log answer x y exit says =
       ]
     ] (elim says [ inl whole ↦ inl (whole.0, whole.1.lines) | inr part ↦ inr (part.0, part.1.lines) ])
 
-pub left_told : (n : ℕ) (words : List (List ℕ)) (shelf end : Option Told) (probes : List Watch) (kept : Left) (taken taken' : Shown)
+pub left_reported : (n : ℕ) (words : List (List ℕ)) (shelf end : Option Shelved) (probes : List Watch) (kept : Left) (taken taken' : Shown)
     (exit : Exit) → length probes ≡ n
     → (answer : Answer) × MayAnswer words shelf answer end probes kept × Says kept.log answer taken taken' exit
-    → IsLeftUnfailed n words shelf taken.told taken'.told exit
-left_told n words shelf end probes kept taken taken' exit many says =
-    elim taken.told as (λ o.
-    IfSome o (λ sink. (taken'.told ≡ Some (said (kept.log ++ text_said says.0) sink).sink)
+    → IsLeftUnfailed n words shelf taken.in_memory taken'.in_memory exit
+left_reported n words shelf end probes kept taken taken' exit many says =
+    elim taken.in_memory as (λ o.
+    IfSome o (λ sink. (taken'.in_memory ≡ Some (said (kept.log ++ text_said says.0) sink).sink)
     × (exit ≡ exits.Write → (said (kept.log ++ text_said says.0) sink).failed ≡ true))
-    → IsLeftUnfailed n words shelf o taken'.told exit) [
+    → IsLeftUnfailed n words shelf o taken'.in_memory exit) [
       | None ↦ λ h. tt
       | Some sink ↦
           λ h. λ faultless. (

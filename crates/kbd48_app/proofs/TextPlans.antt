@@ -1,6 +1,6 @@
 -- `type`, whose plan fetches a layout, and then a text for it.
 use Rattle.std.proofs.Common.{◌≡◌, ℕ, List, Ok, Err, inl, inr, refl, ap, subst, ◌∙◌, ◌⊎◌}
-use Rattle.io_edge.specs.Shelf.{Told, Fetched, Found, after_fetch, fetched}
+use Rattle.io_edge.specs.Shelf.{Shelved, Fetched, Found, after_fetch, fetched}
 use Rattle.layout_reader.specs.Documents.{layout_of_document}
 use Rattle.layout_reader.specs.Faults.{Refusal as LayoutRefusal}
 use Rattle.layout_reader.specs.Layouts.{KeyLayout}
@@ -21,13 +21,13 @@ use Rattle.kbd48_app.proofs.RunPlans.{LayoutOutcome}
 abbrev plan_from : List ℕ → List ℕ → Plan
 plan_from second bytes = with_layout (text_next second) (layout_of_document bytes)
 
--- the text is read behind a layout
-abbrev IsReadSecond : Kind → List ℕ → List ℕ → Told → LayoutOutcome → Type 0
+-- the text is read after a layout
+abbrev IsReadSecond : Kind → List ℕ → List ℕ → Shelved → LayoutOutcome → Type 0
 IsReadSecond read file second shelf outcome =
     (kinds.Text ≡ read) × (layout : KeyLayout) × (outcome ≡ Ok layout)
     × (fetched shelf second (limit_of kinds.Text) ≡ Found file)
 
-second_read : (read : Kind) (file second : List ℕ) (shelf : Told) (outcome : LayoutOutcome)
+second_read : (read : Kind) (file second : List ℕ) (shelf : Shelved) (outcome : LayoutOutcome)
     → Reads read file (with_layout (text_next second) outcome) shelf → IsReadSecond read file second shelf outcome
 second_read read file second shelf (Ok layout) h =
     elim (fetch_read read file kinds.Text second (Spells layout) shelf h) [
@@ -37,12 +37,12 @@ second_read read file second shelf (Ok layout) h =
 second_read read file second shelf (Err fault) h = absurd h
 
 -- a file that `type` reads is the layout or the text
-abbrev IsRead : Kind → List ℕ → List ℕ → Told → Fetched → Type 0
+abbrev IsRead : Kind → List ℕ → List ℕ → Shelved → Fetched → Type 0
 IsRead read file second shelf outcome =
     ((kinds.Layout ≡ read) × (outcome ≡ Found file))
     ⊎ ((bytes : List ℕ) × (outcome ≡ Found bytes) × IsReadSecond read file second shelf (layout_of_document bytes))
 
-is_read : (read : Kind) (file first second : List ℕ) (shelf : Told)
+is_read : (read : Kind) (file first second : List ℕ) (shelf : Shelved)
     → Reads read file (pair_plan Spell first second) shelf
     → IsRead read file second (after_fetch shelf) (fetched shelf first (limit_of kinds.Layout))
 is_read read file first second shelf h =
@@ -62,7 +62,7 @@ IsOfText kinds.Cert = ⊥
 IsOfText kinds.Script = ⊥
 IsOfText kinds.Text = Unit {0}
 
-is_of_text : (read : Kind) (file first second : List ℕ) (shelf : Told)
+is_of_text : (read : Kind) (file first second : List ℕ) (shelf : Shelved)
     → Reads read file (pair_plan Spell first second) shelf → IsOfText read
 is_of_text read file first second shelf h =
     elim (is_read read file first second shelf h) [
@@ -70,7 +70,7 @@ is_of_text read file first second shelf h =
       | inr more ↦ subst IsOfText more.2.0 tt
     ]
 
-module _ (n : ℕ) (first second : List ℕ) (shelf : Told) where
+module _ (n : ℕ) (first second : List ℕ) (shelf : Shelved) where
   -- where the plan leads, by what the two fetches come to, where there are so many probes
   leads_both : (bytes text : List ℕ) (layout : KeyLayout) → fetched shelf first (limit_of kinds.Layout) ≡ Found bytes
       → layout_of_document bytes ≡ Ok layout → fetched (after_fetch shelf) second (limit_of kinds.Text) ≡ Found text

@@ -1,9 +1,9 @@
--- The words behind a command's own.
+-- The words after a command's own.
 use Rattle.std.proofs.Common.{◌≡◌, ℕ, ◌<◌, List, [], ◌∷◌, length, map, string_bytes}
 use Rattle.std.proofs.Common.{slice_index_or, String, Global, Some, ap, sym, subst, ◌∙◌, arith}
 use Rattle.std.specs.declared.option.Option.{Option}
 use Rattle.board_probes.specs.Probes.{Watch}
-use Rattle.io_edge.specs.Shelf.{Told}
+use Rattle.io_edge.specs.Shelf.{Shelved}
 use Rattle.app_words.specs.declared.words.BoardRun.{BoardRun}
 use Rattle.app_words.specs.declared.words.Command.{Command}
 use Rattle.app_words.specs.declared.words.Command.TheVariants.{OverFile, OverPair, Debug, Probe, Board}
@@ -25,7 +25,7 @@ name_is (first ∷ second ∷ others) word more at = ap string_bytes at
 
 -- a command over one file, whose name is the second word
 pub ends_over_file : (words : List (String Global)) (command : FileCommand) (word : String Global) (name : List ℕ)
-    (shelf after : Option Told) (answer : Answer) (probes : List Watch) (left : Left)
+    (shelf after : Option Shelved) (answer : Answer) (probes : List Watch) (left : Left)
     → command_of (map string_bytes words) ≡ Some (OverFile command) → 1 < length words → word ≡ slice_index_or words 1 word
     → name ≡ string_bytes word
     → MayEnd (Fetches (kind_of command) name (λ bytes. Gives (file_said command bytes))) shelf answer after probes left
@@ -51,7 +51,7 @@ second_name (first ∷ second ∷ third ∷ others) word more at = ap string_byt
 
 -- a command over two files, whose names are the second and the third word
 pub ends_over_pair : (words : List (String Global)) (command : PairCommand) (word word' : String Global) (name name' : List ℕ)
-    (shelf after : Option Told) (answer : Answer) (probes : List Watch) (left : Left)
+    (shelf after : Option Shelved) (answer : Answer) (probes : List Watch) (left : Left)
     → command_of (map string_bytes words) ≡ Some (OverPair command) → 2 < length words → word ≡ slice_index_or words 1 word
     → word' ≡ slice_index_or words 2 word' → name ≡ string_bytes word → name' ≡ string_bytes word'
     → MayEnd (pair_plan command name name') shelf answer after probes left
@@ -74,9 +74,9 @@ third_name (first ∷ second ∷ []) word more at = absurd (omega arith)
 third_name (first ∷ second ∷ third ∷ []) word more at = absurd (omega arith)
 third_name (first ∷ second ∷ third ∷ fourth ∷ others) word more at = ap string_bytes at
 
--- `debug`, whose names are the words behind its own
+-- `debug`, whose names are the words after its own
 pub ends_over_debug : (words : List (String Global)) (word word' word'' : String Global) (name name' name'' : List ℕ)
-    (shelf after : Option Told) (answer : Answer) (probes : List Watch) (left : Left) → command_of (map string_bytes words) ≡ Some Debug
+    (shelf after : Option Shelved) (answer : Answer) (probes : List Watch) (left : Left) → command_of (map string_bytes words) ≡ Some Debug
     → 3 < length words → word ≡ slice_index_or words 1 word → word' ≡ slice_index_or words 2 word' → word'' ≡ slice_index_or words 3 word''
     → name ≡ string_bytes word → name' ≡ string_bytes word' → name'' ≡ string_bytes word''
     → MayEnd (debug_plan name name' name'') shelf answer after probes left
@@ -92,9 +92,9 @@ ends_over_debug words word word' word'' name name' name'' shelf after answer pro
     (subst (λ (n : List ℕ). MayEnd (debug_plan n name' name'') shelf answer after probes left) first h)) in
     subst (λ (c : Option Command). MayEndAs c texts shelf answer after probes left) (sym is) named
 
--- `board`, whose names are the words behind its own
+-- `board`, whose names are the words after its own
 pub ends_over_board : (words : List (String Global)) (wanted : BoardRun) (word word' word'' : String Global)
-    (name name' name'' : List ℕ) (shelf after : Option Told) (answer : Answer) (probes : List Watch) (left : Left)
+    (name name' name'' : List ℕ) (shelf after : Option Shelved) (answer : Answer) (probes : List Watch) (left : Left)
     → command_of (map string_bytes words) ≡ Some (Board wanted) → 3 < length words → word ≡ slice_index_or words 1 word
     → word' ≡ slice_index_or words 2 word' → word'' ≡ slice_index_or words 3 word'' → name ≡ string_bytes word → name' ≡ string_bytes word'
     → name'' ≡ string_bytes word'' → MayEnd (program_plan (Boards wanted) name name' name'') shelf answer after probes left
@@ -120,9 +120,9 @@ fourth_name (first ∷ second ∷ third ∷ []) word more at = absurd (omega ari
 fourth_name (first ∷ second ∷ third ∷ fourth ∷ []) word more at = absurd (omega arith)
 fourth_name (first ∷ second ∷ third ∷ fourth ∷ fifth ∷ others) word more at = ap string_bytes at
 
--- `probe`, whose names are the words behind its own
+-- `probe`, whose names are the words after its own
 module _ (words : List (String Global)) (fill : ℕ) (a b c d : String Global) (image layout keys script : List ℕ)
-    (shelf after : Option Told) (answer : Answer) (probes : List Watch) (left : Left) where
+    (shelf after : Option Shelved) (answer : Answer) (probes : List Watch) (left : Left) where
   pub ends_over_probe : command_of (map string_bytes words) ≡ Some (Probe fill) → 4 < length words
       → a ≡ slice_index_or words 1 a → b ≡ slice_index_or words 2 b → c ≡ slice_index_or words 3 c → d ≡ slice_index_or words 4 d
       → image ≡ string_bytes a → layout ≡ string_bytes b → keys ≡ string_bytes c → script ≡ string_bytes d

@@ -4,7 +4,7 @@ use Rattle.std.specs.Prelude.{◌≡◌, ◌⊎◌, ℕ, List, [], None, Some, E
 use Rattle.std.specs.Option.{option_map}
 use Rattle.std.specs.declared.option.Option.{Option}
 use Rattle.board_probes.specs.Probes.{Watch}
-use Rattle.io_edge.specs.Shelf.{Told, Fetched, Fails, Long, Found, after_fetch}
+use Rattle.io_edge.specs.Shelf.{Shelved, Fetched, Fails, Long, Found, after_fetch}
 use Rattle.app_words.specs.declared.refusal.Refusal.TheVariants.{Words, Read, TooLong, Memory}
 use Rattle.app_words.specs.declared.words.Command.{Command}
 use Rattle.app_words.specs.Kinds.{limit_of}
@@ -25,13 +25,13 @@ OnFetched fails long found Long = long
 OnFetched fails long found (Found bytes) = found bytes
 
 -- the shelf has come so far, the probes are as they were, and nothing was said before the answer
-abbrev pub IsKept : Option Told → Option Told → List Watch → Left → Type 0
+abbrev pub IsKept : Option Shelved → Option Shelved → List Watch → Left → Type 0
 IsKept on after probes left = (after ≡ on) × (left.probes ≡ probes) × (left.log ≡ [])
 
--- how a plan may end over a shelf, which tells `after` when it has ended, and with probes, which are `left` then: a
+-- how a plan may end over a shelf, which shows `after` when it has ended, and with probes, which are `left` then: a
 -- fetch that fails, or finds too many bytes, ends it; if one finds a file, memory may run out for it, and else
 -- the plan goes on. The probes are left as they are, but by a run and a session
-abbrev pub MayEnd : Plan → Option Told → Answer → Option Told → List Watch → Left → Type 0
+abbrev pub MayEnd : Plan → Option Shelved → Answer → Option Shelved → List Watch → Left → Type 0
 MayEnd (Gives said) shelf answer after probes left = MayAnswerOf said answer × IsKept shelf after probes left
 MayEnd (Certifies image text) shelf answer after probes left =
     MayAnswerCert image text answer × IsKept shelf after probes left
@@ -55,10 +55,10 @@ MayEnd (Fetches kind name next) shelf answer after probes left =
     outcome
 
 -- how a call with these words may end: words without a form are refused
-abbrev pub MayEndAs : Option Command → List (List ℕ) → Option Told → Answer → Option Told → List Watch → Left → Type 0
+abbrev pub MayEndAs : Option Command → List (List ℕ) → Option Shelved → Answer → Option Shelved → List Watch → Left → Type 0
 MayEndAs None words shelf answer after probes left = (answer ≡ Err Words) × IsKept shelf after probes left
 MayEndAs (Some command) words shelf answer after probes left =
     MayEnd (plan_of (Some command) words) shelf answer after probes left
 
-abbrev pub MayAnswer : List (List ℕ) → Option Told → Answer → Option Told → List Watch → Left → Type 0
+abbrev pub MayAnswer : List (List ℕ) → Option Shelved → Answer → Option Shelved → List Watch → Left → Type 0
 MayAnswer words shelf answer after probes left = MayEndAs (command_of words) words shelf answer after probes left

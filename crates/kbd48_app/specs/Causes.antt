@@ -1,7 +1,7 @@
--- What causes each exit, of a shelf that tells its files: one definition a cause.
+-- What causes each exit, of a shelf whose files are known: one definition a cause.
 use Rattle.std.specs.Prelude.{◌≡◌, ◌⊎◌, ℕ, List, Some, Ok, Err}
 use Rattle.std.specs.declared.option.Option.{Option}
-use Rattle.board_run.specs.Running.{IsOutcome, Outcome}
+use Rattle.board_run.specs.BoardOutcomes.{IsOutcome, Outcome}
 use Rattle.story_run.specs.declared.ending.End.TheVariants.{Stuck as BoardStuck}
 use Rattle.hexfile.specs.Hex.{hex_of}
 use Rattle.hexfile.specs.declared.fault.HexFault.{HexFault}
@@ -15,7 +15,7 @@ use Rattle.key_file.specs.KeyFile.{history_of}
 use Rattle.key_file.specs.declared.fault.KeyFault.{KeyFault}
 use Rattle.key_file.specs.declared.fault.KeyFault.TheVariants.{Timing as TimingFault}
 use Rattle.mcs48_core.specs.declared.stepping.Stuck.{Stuck}
-use Rattle.io_edge.specs.Shelf.{Told}
+use Rattle.io_edge.specs.Shelf.{Shelved}
 use Rattle.app_words.specs.declared.exit.Exit.{Exit}
 use Rattle.app_words.specs.declared.exit.Exit.TheVariants as exits
 use Rattle.app_words.specs.declared.exit.Exit.TheVariants.{Memory, Write}
@@ -36,43 +36,43 @@ use Rattle.kbd48_app.specs.Reached.{IsTooLong, Reads}
 use Rattle.app_answers.specs.Stepping.{Stopped, after_steps}
 
 -- a HEX file is reached, and this is its first fault
-abbrev pub HasHexFault : HexFault → Plan → Told → Type 0
+abbrev pub HasHexFault : HexFault → Plan → Shelved → Type 0
 HasHexFault fault plan shelf = (bytes : List ℕ) × Reads Hex bytes plan shelf × (hex_of bytes ≡ Err fault)
 
 -- a source is reached, and this is its first fault, with its line
-abbrev pub HasAsmFault : ℕ × ℕ → Plan → Told → Type 0
+abbrev pub HasAsmFault : ℕ × ℕ → Plan → Shelved → Type 0
 HasAsmFault fault plan shelf = (bytes : List ℕ) × Reads Asm bytes plan shelf × (assembly_of bytes ≡ Err fault)
 
 -- a layout is reached, and this is its first fault, with its entry
-abbrev pub HasLayoutFault : LayoutRefusal → Plan → Told → Type 0
+abbrev pub HasLayoutFault : LayoutRefusal → Plan → Shelved → Type 0
 HasLayoutFault fault plan shelf =
     (bytes : List ℕ) × Reads Layout bytes plan shelf × (layout_of_document bytes ≡ Err fault)
 
 -- a certificate is reached, for the image of a HEX file, and this is its first fault, with its line
-abbrev pub HasCertFault : ℕ × ℕ → Plan → Told → Type 0
+abbrev pub HasCertFault : ℕ × ℕ → Plan → Shelved → Type 0
 HasCertFault fault plan shelf =
     (bytes : List ℕ) × Reads Hex bytes plan shelf × (image : List ℕ) × (hex_of bytes ≡ Ok image)
     × (text : List ℕ) × Reads Cert text plan shelf × (cert_said image text ≡ Err (refusals.Cert fault.0 fault.1))
 
 -- a key file is reached, for the layout of a document, and this is its first fault, with its line
-abbrev pub HasKeyFault : KeyFault → Plan → Told → Type 0
+abbrev pub HasKeyFault : KeyFault → Plan → Shelved → Type 0
 HasKeyFault fault plan shelf =
     (bytes : List ℕ) × Reads Layout bytes plan shelf × (layout : KeyLayout) × (layout_of_document bytes ≡ Ok layout)
     × (text : List ℕ) × Reads Keys text plan shelf × (history_of layout text ≡ Err fault)
 
 -- one of time, with two stamps
-abbrev pub IsUntimely : Plan → Told → Type 0
+abbrev pub IsUntimely : Plan → Shelved → Type 0
 IsUntimely plan shelf =
     (fault : ℕ × ℕ) × (stamps : ℕ × ℕ) × HasKeyFault (TimingFault fault.0 fault.1 stamps.0 stamps.1) plan shelf
 
 -- a script is reached, and this is its first fault, with its line, if there are so many probes
-abbrev pub HasScriptFault : ℕ → ℕ × ℕ → Plan → Told → Type 0
+abbrev pub HasScriptFault : ℕ → ℕ × ℕ → Plan → Shelved → Type 0
 HasScriptFault probes fault plan shelf =
     (script : List ℕ) × Reads Script script plan shelf × (script_fault probes script ≡ Some fault)
 
 -- a text is reached, for the layout of a document, and this is its first byte without a key: its number, from 1, and
 -- the byte
-abbrev pub HasTextFault : ℕ × ℕ → Plan → Told → Type 0
+abbrev pub HasTextFault : ℕ × ℕ → Plan → Shelved → Type 0
 HasTextFault fault plan shelf =
     (bytes : List ℕ) × Reads Layout bytes plan shelf × (layout : KeyLayout) × (layout_of_document bytes ≡ Ok layout)
     × (text : List ℕ) × Reads Text text plan shelf × (first_without layout text ≡ Some fault)
@@ -98,7 +98,7 @@ exit_at (InScript fault) = exits.Input
 exit_at (InText fault) = exits.Input
 
 -- the file is reached, and this is its first fault, if there are so many probes
-abbrev pub HasFault : ℕ → Fault → Plan → Told → Type 0
+abbrev pub HasFault : ℕ → Fault → Plan → Shelved → Type 0
 HasFault n (InHex fault) plan shelf = HasHexFault fault plan shelf
 HasFault n (InAsm fault) plan shelf = HasAsmFault fault plan shelf
 HasFault n (InLayout fault) plan shelf = HasLayoutFault fault plan shelf
@@ -108,13 +108,13 @@ HasFault n (InScript fault) plan shelf = HasScriptFault n fault plan shelf
 HasFault n (InText fault) plan shelf = HasTextFault fault plan shelf
 
 -- a file that is reached has too many bytes, or a first fault, which is none of time
-abbrev pub HasFileFault : ℕ → Plan → Told → Type 0
+abbrev pub HasFileFault : ℕ → Plan → Shelved → Type 0
 HasFileFault probes plan shelf =
     ((kind : Kind) × IsTooLong kind plan shelf)
     ⊎ ((fault : Fault) × (exit_at fault ≡ exits.Input) × HasFault probes fault plan shelf)
 
 -- one of the COUNT steps of `step`, over the image of the HEX file, meets a byte without an instruction
-abbrev pub StepIsStuck : Option Command → Plan → Told → Type 0
+abbrev pub StepIsStuck : Option Command → Plan → Shelved → Type 0
 StepIsStuck command plan shelf =
     (count : ℕ) × (command ≡ Some (OverFile (Step count)))
     × (bytes : List ℕ) × Reads Hex bytes plan shelf
@@ -123,7 +123,7 @@ StepIsStuck command plan shelf =
 
 -- the run of `board`, of the image of the HEX file, in a part that holds the byte of `--fill` at power-on, under the
 -- history of the key file for the layout, ends at such a byte
-abbrev pub BoardIsStuck : Option Command → Plan → Told → Type 0
+abbrev pub BoardIsStuck : Option Command → Plan → Shelved → Type 0
 BoardIsStuck command plan shelf =
     (wanted : BoardRun) × (command ≡ Some (Board wanted))
     × (bytes : List ℕ) × Reads Hex bytes plan shelf
@@ -135,7 +135,7 @@ BoardIsStuck command plan shelf =
     × (run : Outcome) × IsOutcome (board_story wanted image history) run
     × (stuck : Stuck) × (run.end ≡ BoardStuck stuck)
 
-abbrev pub IsStuck : Option Command → Plan → Told → Type 0
+abbrev pub IsStuck : Option Command → Plan → Shelved → Type 0
 IsStuck command plan shelf = StepIsStuck command plan shelf ⊎ BoardIsStuck command plan shelf
 
 -- a call ends with the exit of its cause, or with that of want of memory, or of a sink that fails

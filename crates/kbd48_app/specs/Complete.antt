@@ -3,7 +3,7 @@ use Rattle.std.specs.Prelude.{◌≡◌, ◌⊎◌, ℕ, List, None, Some, Ok, E
 use Rattle.std.specs.declared.option.Option.{Option}
 use Rattle.cycle_cert.specs.Answers.{answer_of as certificate_said}
 use Rattle.cycle_cert.specs.declared.checking.Proved.{Proved}
-use Rattle.io_edge.specs.Shelf.{Told, Found, after_fetch, fetched}
+use Rattle.io_edge.specs.Shelf.{Shelved, Found, after_fetch, fetched}
 use Rattle.typed_log.specs.Typing.{first_without}
 use Rattle.app_words.specs.declared.exit.Exit.{Exit}
 use Rattle.app_words.specs.declared.exit.Exit.TheVariants.{Done, Memory, Stuck}
@@ -25,7 +25,7 @@ IsNoFault (Err refusal) = ⊥
 -- nothing is in a plan's way, if there are so many probes: the shelf tells its files, each file that the plan
 -- fetches is there within its limit, and none has a fault: what is said of the files is no refusal, a certificate is
 -- found right, a text has a key for each byte, and a script breaks no rule
-abbrev pub IsServed : ℕ → Plan → Option Told → Type 0
+abbrev pub IsServed : ℕ → Plan → Option Shelved → Type 0
 IsServed probes (Fetches kind name next) None = ⊥
 IsServed probes (Fetches kind name next) (Some shelf) =
     (bytes : List ℕ) × (fetched shelf name (limit_of kind) ≡ Found bytes)
@@ -37,7 +37,7 @@ IsServed probes (Debugs s script) shelf = script_fault probes script ≡ None
 IsServed probes leaf shelf = Unit {0}
 
 -- the words have a form, and what they plan is served
-abbrev pub IsFaultless : ℕ → List (List ℕ) → Option Told → Type 0
+abbrev pub IsFaultless : ℕ → List (List ℕ) → Option Shelved → Type 0
 IsFaultless probes words shelf = IsServed probes (plan words) shelf
 
 -- the exits that are left then: all was done, memory ran out, or, in `step` and `board` alone, a byte without an

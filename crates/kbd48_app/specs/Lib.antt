@@ -2,7 +2,7 @@ pub mod Plans
 pub mod Asked
 pub mod Answers
 pub mod PrintAlike
-pub mod BoardTells
+pub mod BoardSays
 pub mod Reached
 pub mod Causes
 pub mod Complete

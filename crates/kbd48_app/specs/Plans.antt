@@ -10,7 +10,7 @@ use Rattle.key_file.specs.Histories.{KeyHistory}
 use Rattle.key_file.specs.KeyFile.{history_of}
 use Rattle.key_file.specs.declared.fault.KeyFault.{KeyFault}
 use Rattle.fw_compile.specs.Image.{image_of}
-use Rattle.fw_debug.specs.Sessions.{Debuggee, of_layout, of_program, with_fill}
+use Rattle.debugger.specs.Sessions.{Debuggee, of_layout, of_program, with_fill}
 use Rattle.joint_feed.specs.Stories.{story}
 use Rattle.app_words.specs.declared.kind.Kind.{Kind}
 use Rattle.app_words.specs.declared.kind.Kind.TheVariants as kinds

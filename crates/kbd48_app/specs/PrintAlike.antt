@@ -2,7 +2,7 @@
 use Rattle.std.specs.Prelude.{◌≡◌, ◌⊎◌, ℕ, List, [], ◌∷◌, Some, Ok, Err, codes}
 use Rattle.std.specs.declared.option.Option.{Option}
 use Rattle.board_probes.specs.Probes.{Watch}
-use Rattle.io_edge.specs.Shelf.{Told}
+use Rattle.io_edge.specs.Shelf.{Shelved}
 use Rattle.app_answers.specs.Leaving.{Left}
 use Rattle.kbd48_app.specs.Answers.{MayAnswer}
 use Rattle.app_answers.specs.FileAnswers.{Answer}
@@ -22,16 +22,16 @@ leaving probes = record { probes = probes; taking = Whole; log = [] }
 
 -- what one of them may answer, over any shelf and with any probes, the other may; an answer with a text leaves the
 -- probes alike. If memory runs out, `run` leaves them as they were, and `expect` after the first steps of its run.
--- Over a shelf that tells its files both print one text, whether all of it was taken or not
+-- Over a shelf whose files are known both print one text, whether all of it was taken or not
 pub record AnswerAlike (layout keys : List ℕ) : Type 0 where
-  pub expected : (shelf : Option Told) (answer : Answer) (after : Option Told) (probes left : List Watch)
+  pub expected : (shelf : Option Shelved) (answer : Answer) (after : Option Shelved) (probes left : List Watch)
       → MayAnswer (run_words layout keys) shelf answer after probes (leaving left)
       → MayAnswer (expect_words layout keys) shelf answer after probes (leaving left)
-  pub ran : (shelf : Option Told) (answer : Answer) (after : Option Told) (probes left : List Watch)
+  pub ran : (shelf : Option Shelved) (answer : Answer) (after : Option Shelved) (probes left : List Watch)
       → MayAnswer (expect_words layout keys) shelf answer after probes (leaving left)
       → (kept : List Watch) × MayAnswer (run_words layout keys) shelf answer after probes (leaving kept)
       × ((kept ≡ left) ⊎ (answer ≡ Err Memory))
-  pub one : (shelf : Told) (ran expected : List ℕ) (after later : Option Told) (probes : List Watch)
+  pub one : (shelf : Shelved) (ran expected : List ℕ) (after later : Option Shelved) (probes : List Watch)
       (left others : Left)
       → MayAnswer (run_words layout keys) (Some shelf) (Ok ran) after probes left
       → MayAnswer (expect_words layout keys) (Some shelf) (Ok expected) later probes others → ran ≡ expected

@@ -1,7 +1,7 @@
--- What a plan reaches on a shelf that tells its files.
+-- What a plan reaches on a shelf whose files are known.
 use Rattle.std.specs.Prelude.{◌≡◌, ◌⊎◌, ℕ, zero, suc, ◌<◌, ◌≤◌, Bool, true, false, List, [], ◌∷◌, length, Some}
 use Rattle.std.specs.declared.option.Option.{Option}
-use Rattle.io_edge.specs.Shelf.{Told, Fetched, Fails, Long, Found, after_fetch, fetched}
+use Rattle.io_edge.specs.Shelf.{Shelved, Fetched, Fails, Long, Found, after_fetch, fetched}
 use Rattle.app_words.specs.declared.exit.Exit.{Exit}
 use Rattle.app_words.specs.declared.exit.Exit.TheVariants.{Memory, Write}
 use Rattle.app_words.specs.declared.kind.Kind.{Kind}
@@ -16,13 +16,13 @@ on_fetched fails long found Long = long
 on_fetched fails long found (Found bytes) = found bytes
 
 -- a fetch that is reached fails
-abbrev pub IsUnserved : Plan → Told → Type 0
+abbrev pub IsUnserved : Plan → Shelved → Type 0
 IsUnserved (Fetches kind name next) shelf =
     OnFetched (Unit {0}) ⊥ (λ bytes. IsUnserved (next bytes) (after_fetch shelf)) (fetched shelf name (limit_of kind))
 IsUnserved leaf shelf = ⊥
 
 -- a file of this kind that is reached has too many bytes
-abbrev pub IsTooLong : Kind → Plan → Told → Type 0
+abbrev pub IsTooLong : Kind → Plan → Shelved → Type 0
 IsTooLong long (Fetches kind name next) shelf =
     OnFetched ⊥ (kind ≡ long)
     (λ bytes. IsTooLong long (next bytes) (after_fetch shelf))
@@ -30,7 +30,7 @@ IsTooLong long (Fetches kind name next) shelf =
 IsTooLong long leaf shelf = ⊥
 
 -- a file of this kind is reached, and has these bytes
-abbrev pub Reads : Kind → List ℕ → Plan → Told → Type 0
+abbrev pub Reads : Kind → List ℕ → Plan → Shelved → Type 0
 Reads read file (Fetches kind name next) shelf =
     OnFetched ⊥ ⊥
     (λ bytes. ((kind ≡ read) × (bytes ≡ file)) ⊎ Reads read file (next bytes) (after_fetch shelf))
@@ -38,25 +38,25 @@ Reads read file (Fetches kind name next) shelf =
 Reads read file leaf shelf = ⊥
 
 -- memory may run out: no file is named, or the first one is found
-abbrev pub may_lack : Plan → Told → Bool
+abbrev pub may_lack : Plan → Shelved → Bool
 may_lack (Fetches kind name next) shelf = on_fetched false false (λ bytes. true) (fetched shelf name (limit_of kind))
 may_lack leaf shelf = true
 
--- the names and the limits of the fetches that a plan comes to, in order, if memory isn't wanting
-abbrev pub fetches_of : Plan → Told → List (List ℕ × ℕ)
+-- the names and the limits of the fetches that a plan comes to, in order, unless memory runs out
+abbrev pub fetches_of : Plan → Shelved → List (List ℕ × ℕ)
 fetches_of (Fetches kind name next) shelf =
     (name, limit_of kind)
     ∷ on_fetched [] [] (λ bytes. fetches_of (next bytes) (after_fetch shelf)) (fetched shelf name (limit_of kind))
 fetches_of leaf shelf = []
 
 -- a shelf after so many fetches
-abbrev pub after_fetches : ℕ → Told → Told
+abbrev pub after_fetches : ℕ → Shelved → Shelved
 after_fetches zero shelf = shelf
 after_fetches (suc n) shelf = after_fetches n (after_fetch shelf)
 
 -- so many of these fetches were made, in their order, and no others: all of them, or, if memory ran out, the
 -- first ones
-abbrev pub Makes : List (List ℕ × ℕ) → Told → Option Told → Exit → Type 0
+abbrev pub Makes : List (List ℕ × ℕ) → Shelved → Option Shelved → Exit → Type 0
 Makes fetches shelf after exit =
     (n : ℕ) × (n ≤ length fetches) × (after ≡ Some (after_fetches n shelf))
     × ((n ≡ length fetches) ⊎ ((0 < n) × ((exit ≡ Memory) ⊎ (exit ≡ Write))))

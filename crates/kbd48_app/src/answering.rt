@@ -6,7 +6,7 @@ ghost use Rattle.app_answers.specs.Answers.{answer_of};
 ghost use Rattle.app_answers.specs.FileAnswers.{file_said};
 ghost use Rattle.app_answers.specs.Spoken.{IsSpoken};
 ghost use Rattle.app_answers.specs.Taking.{Taking};
-ghost use Rattle.app_runs.specs.Telling.{MayTell};
+ghost use Rattle.app_runs.specs.RunOfText.{MaySayOfText};
 ghost use Rattle.app_words.specs.Kinds.{limit_of, kind_of};
 ghost use Rattle.app_words.specs.Words.{command_of, leaves_probes};
 ghost use Rattle.board_probes.specs.Probes.{Watch};
@@ -34,7 +34,7 @@ fn over_file<F: Shelf>(
 ) -> Result<Vec<u8>, Refusal>
     ensures ends { (probes : List Watch) (taking : Taking) →
         MayEnd (Fetches (kind_of command) name.now (λ bytes. Gives (file_said command bytes)))
-        (F.told shelf.old) (answer_of result) (F.told shelf.new) probes (record { probes = probes; taking = taking; log = [] }) }
+        (F.in_memory shelf.old) (answer_of result) (F.in_memory shelf.new) probes (record { probes = probes; taking = taking; log = [] }) }
     ensures read { result ≡ Err Refusal.Read → Rose (F.faults shelf.old) (F.faults shelf.new) }
     ensures steady { (result ≡ Err Refusal.Read) ⊎ (F.faults shelf.new ≡ F.faults shelf.old) }
 {
@@ -50,7 +50,7 @@ fn over_cert<F: Shelf>(
     shelf: &mut F,
 ) -> Result<Vec<u8>, Refusal>
     ensures ends { (probes : List Watch) (taking : Taking) → MayEnd (pair_plan PairCommand.Certify image.now certificate.now)
-        (F.told shelf.old) (answer_of result) (F.told shelf.new) probes (record { probes = probes; taking = taking; log = [] }) }
+        (F.in_memory shelf.old) (answer_of result) (F.in_memory shelf.new) probes (record { probes = probes; taking = taking; log = [] }) }
     ensures read { result ≡ Err Refusal.Read → Rose (F.faults shelf.old) (F.faults shelf.new) }
     ensures steady { (result ≡ Err Refusal.Read) ⊎ (F.faults shelf.new ≡ F.faults shelf.old) }
 {
@@ -68,7 +68,7 @@ fn over_text<F: Shelf>(
     shelf: &mut F,
 ) -> Result<Vec<u8>, Refusal>
     ensures ends { (probes : List Watch) (taking : Taking) → MayEnd (pair_plan PairCommand.Spell layout.now text.now)
-        (F.told shelf.old) (answer_of result) (F.told shelf.new) probes (record { probes = probes; taking = taking; log = [] }) }
+        (F.in_memory shelf.old) (answer_of result) (F.in_memory shelf.new) probes (record { probes = probes; taking = taking; log = [] }) }
     ensures read { result ≡ Err Refusal.Read → Rose (F.faults shelf.old) (F.faults shelf.new) }
     ensures steady { (result ≡ Err Refusal.Read) ⊎ (F.faults shelf.new ≡ F.faults shelf.old) }
 {
@@ -91,8 +91,8 @@ fn over_run<F: Shelf, K: Sink>(
 ) -> Result<Spoken, Refusal>
     ensures ends { let before = map (λ b. watch b) probes.old.items in
         let after = map (λ b. watch b) probes.new.items in
-        IsSpoken (λ answer taking log. MayEnd (pair_plan (PairCommand.OverRun command) layout.now keys.now) (F.told shelf.old)
-        answer (F.told shelf.new) before (record { probes = after; taking = taking; log = log }))
+        IsSpoken (λ answer taking log. MayEnd (pair_plan (PairCommand.OverRun command) layout.now keys.now) (F.in_memory shelf.old)
+        answer (F.in_memory shelf.new) before (record { probes = after; taking = taking; log = log }))
         result (K.shown out.old) (K.shown out.new) }
     ensures untouched { leaves_probes (Some (Command.OverPair (PairCommand.OverRun command))) ≡ true
         → map (λ b. watch b) probes.new.items ≡ map (λ b. watch b) probes.old.items }
@@ -117,8 +117,8 @@ fn over_pair<F: Shelf, K: Sink>(
 ) -> Result<Spoken, Refusal>
     ensures ends { let before = map (λ b. watch b) probes.old.items in
         let after = map (λ b. watch b) probes.new.items in
-        IsSpoken (λ answer taking log. MayEnd (pair_plan command first.now second.now) (F.told shelf.old)
-        answer (F.told shelf.new) before (record { probes = after; taking = taking; log = log }))
+        IsSpoken (λ answer taking log. MayEnd (pair_plan command first.now second.now) (F.in_memory shelf.old)
+        answer (F.in_memory shelf.new) before (record { probes = after; taking = taking; log = log }))
         result (K.shown out.old) (K.shown out.new) }
     ensures untouched { leaves_probes (Some (Command.OverPair command)) ≡ true
         → map (λ b. watch b) probes.new.items ≡ map (λ b. watch b) probes.old.items }
@@ -144,8 +144,8 @@ pub fn answer<F: Shelf, K: Sink>(
 ) -> Result<Spoken, Refusal>
     ensures ends { let before = map (λ b. watch b) probes.old.items in
         let after = map (λ b. watch b) probes.new.items in
-        IsSpoken (λ answer taking log. MayAnswer (map string_bytes words.now) (F.told shelf.old)
-        answer (F.told shelf.new) before (record { probes = after; taking = taking; log = log }))
+        IsSpoken (λ answer taking log. MayAnswer (map string_bytes words.now) (F.in_memory shelf.old)
+        answer (F.in_memory shelf.new) before (record { probes = after; taking = taking; log = log }))
         result (K.shown out.old) (K.shown out.new) }
     ensures untouched { leaves_probes (command_of (map string_bytes words.now)) ≡ true
         → map (λ b. watch b) probes.new.items ≡ map (λ b. watch b) probes.old.items }

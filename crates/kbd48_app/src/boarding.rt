@@ -27,8 +27,8 @@ pub fn over_board<F: Shelf, K: Sink>(
 ) -> Result<Spoken, Refusal>
     ensures ends { let before = map (λ b. watch b) probes.old.items in
         let after = map (λ b. watch b) probes.new.items in
-        IsSpoken (λ answer taking log. MayEnd (program_plan (Boards wanted) image.now layout.now keys.now) (F.told shelf.old)
-        answer (F.told shelf.new) before (record { probes = after; taking = taking; log = log }))
+        IsSpoken (λ answer taking log. MayEnd (program_plan (Boards wanted) image.now layout.now keys.now) (F.in_memory shelf.old)
+        answer (F.in_memory shelf.new) before (record { probes = after; taking = taking; log = log }))
         result (K.shown out.old) (K.shown out.new) }
     ensures read { result ≡ Err Refusal.Read → Rose (F.faults shelf.old) (F.faults shelf.new) }
     ensures steady { (result ≡ Err Refusal.Read) ⊎ (F.faults shelf.new ≡ F.faults shelf.old) }

@@ -11,7 +11,7 @@ use app_answers::{fetch_file, history_in, image_in, layout_in};
 use app_boards::debug;
 use app_words::{Kind, Refusal};
 use board_probes::Probe;
-use fw_debug::{Debuggee, check_script};
+use debugger::{Debuggee, check_script};
 use io_edge::Shelf;
 use std::alloc::Global;
 
@@ -23,8 +23,8 @@ fn over_script<F: Shelf>(
     shelf: &mut F,
     probes: &mut Vec<Box<dyn Probe>>,
 ) -> Result<Vec<u8>, Refusal>
-    ensures ends { (taking : Taking) → MayEnd (script_next script.now debuggee) (F.told shelf.old)
-        (answer_of result) (F.told shelf.new) (map (λ b. watch b) probes.old.items)
+    ensures ends { (taking : Taking) → MayEnd (script_next script.now debuggee) (F.in_memory shelf.old)
+        (answer_of result) (F.in_memory shelf.new) (map (λ b. watch b) probes.old.items)
         (record { probes = map (λ b. watch b) probes.new.items; taking = taking; log = [] }) }
     ensures read { result ≡ Err Refusal.Read → Rose (F.faults shelf.old) (F.faults shelf.new) }
     ensures steady { (result ≡ Err Refusal.Read) ⊎ (F.faults shelf.new ≡ F.faults shelf.old) }
@@ -44,8 +44,8 @@ pub fn over_debug<F: Shelf>(
     shelf: &mut F,
     probes: &mut Vec<Box<dyn Probe>>,
 ) -> Result<Vec<u8>, Refusal>
-    ensures ends { (taking : Taking) → MayEnd (debug_plan layout.now keys.now script.now) (F.told shelf.old)
-        (answer_of result) (F.told shelf.new) (map (λ b. watch b) probes.old.items)
+    ensures ends { (taking : Taking) → MayEnd (debug_plan layout.now keys.now script.now) (F.in_memory shelf.old)
+        (answer_of result) (F.in_memory shelf.new) (map (λ b. watch b) probes.old.items)
         (record { probes = map (λ b. watch b) probes.new.items; taking = taking; log = [] }) }
     ensures read { result ≡ Err Refusal.Read → Rose (F.faults shelf.old) (F.faults shelf.new) }
     ensures steady { (result ≡ Err Refusal.Read) ⊎ (F.faults shelf.new ≡ F.faults shelf.old) }
@@ -70,8 +70,8 @@ pub fn over_probe<F: Shelf>(
     shelf: &mut F,
     probes: &mut Vec<Box<dyn Probe>>,
 ) -> Result<Vec<u8>, Refusal>
-    ensures ends { (taking : Taking) → MayEnd (probe_plan fill image.now layout.now keys.now script.now) (F.told shelf.old)
-        (answer_of result) (F.told shelf.new) (map (λ b. watch b) probes.old.items)
+    ensures ends { (taking : Taking) → MayEnd (probe_plan fill image.now layout.now keys.now script.now) (F.in_memory shelf.old)
+        (answer_of result) (F.in_memory shelf.new) (map (λ b. watch b) probes.old.items)
         (record { probes = map (λ b. watch b) probes.new.items; taking = taking; log = [] }) }
     ensures read { result ≡ Err Refusal.Read → Rose (F.faults shelf.old) (F.faults shelf.new) }
     ensures steady { (result ≡ Err Refusal.Read) ⊎ (F.faults shelf.new ≡ F.faults shelf.old) }

@@ -1,9 +1,9 @@
 //! Laws over two commands.
 
-ghost use Rattle.kbd48_app.specs.BoardTells.{BoardTellsRun, BoardTracesRun};
+ghost use Rattle.kbd48_app.specs.BoardSays.{BoardSaysRun, BoardTracesRun};
 ghost use Rattle.kbd48_app.specs.PrintAlike.{RunAndExpectPrintAlike};
 
-use runs_agree::boards_tell_runs;
+use runs_agree::boards_say_runs;
 
 /// `run` without options and `expect`, over two files: what one may answer, over any shelf, the other may, and over a
 /// shelf that tells its files both print one text. Nothing is done when it is called; the law is its contract.
@@ -15,9 +15,9 @@ pub fn run_and_expect_print_alike()
 /// accepted for it: the log of `board` has a line for each item that `run` says up to the end stamp, in the same order, with
 /// its stamp in place of its tick, and nothing follows it. And the text of `trace` begins with that of `board --trace`.
 /// Nothing is done when it is called; the law is its contract.
-pub fn board_tells_run()
-    ensures tell { BoardTellsRun }
+pub fn board_says_run()
+    ensures report { BoardSaysRun }
     ensures trace { BoardTracesRun }
 {
-    boards_tell_runs();
+    boards_say_runs();
 }

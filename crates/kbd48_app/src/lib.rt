@@ -12,5 +12,5 @@ mod debugging;
 mod law;
 mod top;
 
-pub use law::{board_tells_run, run_and_expect_print_alike};
+pub use law::{board_says_run, run_and_expect_print_alike};
 pub use top::kbd48;

@@ -68,7 +68,7 @@ fn answer_and_print<F: Shelf, K: Sink>(
         let first = K.shown out.old in
         let last = K.shown out.new in
         (log : List ℕ) × (answer : Answer)
-        × MayAnswer (texts words.now) (F.told shelf.old) answer (F.told shelf.new) before
+        × MayAnswer (texts words.now) (F.in_memory shelf.old) answer (F.in_memory shelf.new) before
         (record { probes = after; taking = taking_of result first last; log = log })
         × Says log answer first last result }
     ensures untouched { leaves_probes (asked words.now) ≡ true
@@ -108,7 +108,7 @@ pub fn kbd48<F: Shelf, K: Sink>(
         let first = K.shown out.old in
         let last = K.shown out.new in
         (log : List ℕ) × (answer : Answer)
-        × MayAnswer (texts words.now) (F.told shelf.old) answer (F.told shelf.new) before
+        × MayAnswer (texts words.now) (F.in_memory shelf.old) answer (F.in_memory shelf.new) before
         (record { probes = after; taking = taking_of result first last; log = log })
         × Says log answer first last result }
     // The probes: words without a run leave them as they are.
@@ -120,31 +120,31 @@ pub fn kbd48<F: Shelf, K: Sink>(
     // Read: only if the shelf's count of faults rose, and if it did, nothing but Read or Write comes.
     ensures read { result ≡ Exit.Read → Rose (F.faults shelf.old) (F.faults shelf.new) }
     ensures fetch_failed { F.faults shelf.old < F.faults shelf.new → (result ≡ Exit.Read) ⊎ (result ≡ Exit.Write) }
-    // Read, of a shelf that tells its files: exactly if a fetch that is reached fails.
-    ensures unserved { IfSome (F.told shelf.old) (λ told.
-        IsUnserved (planned words.now) told → MayExit Exit.Read result) }
-    ensures unserved_only { IfSome (F.told shelf.old) (λ told.
-        result ≡ Exit.Read → IsUnserved (planned words.now) told) }
-    // Input, of a shelf that tells its files: exactly if a file that is reached is too long, or has a first fault. A fault of
+    // Read, of a shelf whose files are known: exactly if a fetch that is reached fails.
+    ensures unserved { IfSome (F.in_memory shelf.old) (λ shelved.
+        IsUnserved (planned words.now) shelved → MayExit Exit.Read result) }
+    ensures unserved_only { IfSome (F.in_memory shelf.old) (λ shelved.
+        result ≡ Exit.Read → IsUnserved (planned words.now) shelved) }
+    // Input, of a shelf whose files are known: exactly if a file that is reached is too long, or has a first fault. A fault of
     // time is Timing.
-    ensures too_long { IfSome (F.told shelf.old) (λ told. (kind : Kind) →
-        IsTooLong kind (planned words.now) told → MayExit Exit.Input result) }
-    ensures fault { IfSome (F.told shelf.old) (λ told. (fault : Fault) →
-        HasFault (length probes.old.items) fault (planned words.now) told → MayExit (exit_at fault) result) }
-    ensures input_only { IfSome (F.told shelf.old) (λ told.
-        result ≡ Exit.Input → HasFileFault (length probes.old.items) (planned words.now) told) }
-    // Timing, of a shelf that tells its files: only if a key file that is reached has a fault of time first.
-    ensures timing_only { IfSome (F.told shelf.old) (λ told.
-        result ≡ Exit.Timing → IsUntimely (planned words.now) told) }
-    // Stuck, of a shelf that tells its files: exactly if a step of `step`, or of the run of `board`, would execute a
+    ensures too_long { IfSome (F.in_memory shelf.old) (λ shelved. (kind : Kind) →
+        IsTooLong kind (planned words.now) shelved → MayExit Exit.Input result) }
+    ensures fault { IfSome (F.in_memory shelf.old) (λ shelved. (fault : Fault) →
+        HasFault (length probes.old.items) fault (planned words.now) shelved → MayExit (exit_at fault) result) }
+    ensures input_only { IfSome (F.in_memory shelf.old) (λ shelved.
+        result ≡ Exit.Input → HasFileFault (length probes.old.items) (planned words.now) shelved) }
+    // Timing, of a shelf whose files are known: only if a key file that is reached has a fault of time first.
+    ensures timing_only { IfSome (F.in_memory shelf.old) (λ shelved.
+        result ≡ Exit.Timing → IsUntimely (planned words.now) shelved) }
+    // Stuck, of a shelf whose files are known: exactly if a step of `step`, or of the run of `board`, would execute a
     // byte without an instruction.
-    ensures stuck { IfSome (F.told shelf.old) (λ told.
-        IsStuck (asked words.now) (planned words.now) told → MayExit Exit.Stuck result) }
-    ensures stuck_only { IfSome (F.told shelf.old) (λ told.
-        result ≡ Exit.Stuck → IsStuck (asked words.now) (planned words.now) told) }
+    ensures stuck { IfSome (F.in_memory shelf.old) (λ shelved.
+        IsStuck (asked words.now) (planned words.now) shelved → MayExit Exit.Stuck result) }
+    ensures stuck_only { IfSome (F.in_memory shelf.old) (λ shelved.
+        result ≡ Exit.Stuck → IsStuck (asked words.now) (planned words.now) shelved) }
     // Memory: never if the first fetch fails, or finds a file that is too long.
-    ensures memory { IfSome (F.told shelf.old) (λ told.
-        result ≡ Exit.Memory → may_lack (planned words.now) told ≡ true) }
+    ensures memory { IfSome (F.in_memory shelf.old) (λ shelved.
+        result ≡ Exit.Memory → may_lack (planned words.now) shelved ≡ true) }
     // Memory, in `run`, `trace`, `board` and `sample`: only before anything is put. No probe has looked, and one line is
     // all that is said.
     ensures memory_first { takes_memory_first (asked words.now) ≡ true → result ≡ Exit.Memory
@@ -155,17 +155,17 @@ pub fn kbd48<F: Shelf, K: Sink>(
     ensures put_failed { (K.shown out.old).faults < (K.shown out.new).faults → result ≡ Exit.Write }
     // If nothing is in the way, and no put failed, only want of memory is left, or in `step` and `board` a byte
     // without an instruction.
-    ensures complete { IsFaultless (length probes.old.items) (texts words.now) (F.told shelf.old)
+    ensures complete { IsFaultless (length probes.old.items) (texts words.now) (F.in_memory shelf.old)
         → (K.shown out.new).faults ≡ (K.shown out.old).faults → (K.shown out.old).faults < 2 ^ 64 - 1
         → IsLeft (asked words.now) result }
-    // The same, of a sink that tells itself, if no put of what was said failed.
-    ensures complete_told { IfSome (K.shown out.old).told (λ sink.
-        IsFaultless (length probes.old.items) (texts words.now) (F.told shelf.old)
-        → (text : List ℕ) × ((K.shown out.new).told ≡ Some (said text sink).sink)
+    // The same, of a sink that shows itself, if no put of what was said failed.
+    ensures complete_in_memory { IfSome (K.shown out.old).in_memory (λ sink.
+        IsFaultless (length probes.old.items) (texts words.now) (F.in_memory shelf.old)
+        → (text : List ℕ) × ((K.shown out.new).in_memory ≡ Some (said text sink).sink)
         × ((said text sink).failed ≡ false → IsLeft (asked words.now) result)) }
     // The fetches: those that the words come to, in their order, and no others.
-    ensures fetches { IfSome (F.told shelf.old) (λ told.
-        Makes (fetches_of (planned words.now) told) told (F.told shelf.new) result) }
+    ensures fetches { IfSome (F.in_memory shelf.old) (λ shelved.
+        Makes (fetches_of (planned words.now) shelved) shelved (F.in_memory shelf.new) result) }
 {
     answer_and_print(alloc, words, shelf, out, probes)
 }

@@ -2,14 +2,14 @@
 use Rattle.std.specs.Prelude.{◌≡◌, ◌⊎◌, ℤ, Option, None, Some}
 use Rattle.live_board.specs.Looks.{IsCopied}
 use Rattle.live_board.specs.Pasts.{Past}
-use Rattle.live_board.specs.Standing.{Stands}
+use Rattle.live_board.specs.States.{HasPast}
 use Rattle.live_board.specs.declared.parts.Parts.{Parts as Keyboard}
 use Rattle.kbd48_c.specs.Statuses.{done, no_memory, not_open}
 
 -- the same machine, by the same edges that wait; it is in every past in which the original does
 pub record IsTwin (k copy : Keyboard) : Type 0 where
   pub same : IsCopied k copy
-  pub stands : (p : Past) → Stands p k → Stands p copy
+  pub has_past : (p : Past) → HasPast p k → HasPast p copy
 
 -- the other handle has a copy of this keyboard; or memory is lacking, and it has what it had
 abbrev pub HasCopied : Keyboard → Option Keyboard → ℤ → Option Keyboard → Type 0

@@ -1,16 +1,16 @@
 -- What each export does to the keyboard of its handle, in the words of the keyboard's own call.
 use Rattle.std.specs.Prelude.{◌≡◌, ◌≢◌, ◌<◌, ◌≤◌, ◌+◌, ◌-◌, ℕ, ℤ, Bool, Option, None, Some, Ok, Err, OnErr, IfOk}
 use Rattle.std.specs.declared.result.Result.{Result}
-use Rattle.board_lines.specs.declared.event.HostAct.{HostAct}
-use Rattle.board_lines.specs.declared.event.HostAct.TheVariants.{Take, Write60, Write64}
+use Rattle.board_terms.specs.declared.event.HostAct.{HostAct}
+use Rattle.board_terms.specs.declared.event.HostAct.TheVariants.{Take, Write60, Write64}
 use Rattle.joint_run.specs.Joint.{latch_of}
 use Rattle.pc_wires.specs.Wires.{wires}
-use Rattle.live_board.specs.Answers.{Told}
-use Rattle.live_board.specs.Calls.{IsActed, IsKeyed, Tells}
-use Rattle.live_board.specs.Heard.{HasToldAll, IsTold}
+use Rattle.live_board.specs.Answers.{ItemAnswer}
+use Rattle.live_board.specs.Calls.{IsActed, IsKeyed, GivesFirst}
+use Rattle.live_board.specs.Heard.{HasKeptAll, IsKeptLog}
 use Rattle.live_board.specs.Pasts.{Past, acted}
-use Rattle.live_board.specs.Running.{HasRun}
-use Rattle.live_board.specs.Standing.{Stands}
+use Rattle.live_board.specs.RunCalls.{HasRun}
+use Rattle.live_board.specs.States.{HasPast}
 use Rattle.live_board.specs.declared.parts.Parts.{Parts as Keyboard}
 use Rattle.live_board.specs.declared.ran.RunEnd.{RunEnd}
 use Rattle.live_board.specs.declared.refused.Refused.{Refused}
@@ -48,7 +48,7 @@ IsLeft why k status after = (status ≡ why) × (after ≡ k)
 
 -- the host's call, and what is kept and counted of its step
 abbrev pub Acts : {X : Type 0} → HostAct → Keyboard → Result X Refused → Keyboard → Type 0
-Acts act k answer after = IsActed act k answer after × IsTold act k answer after
+Acts act k answer after = IsActed act k answer after × IsKeptLog act k answer after
 
 abbrev pub HasActed : HostAct → Keyboard → ℤ → Keyboard → Type 0
 HasActed act = Calls {X = Unit {0}} (Acts act)
@@ -70,13 +70,13 @@ HasWritten port byte k status after =
     × (port ≡ 100 → HasActed (Write64 byte) k status after)
     × (port ≢ 96 → port ≢ 100 → IsLeft no_such_port k status after)
 
--- a read: the byte is written where it was made, and is what the log says of it; else what was there stays
-abbrev pub IsReadAs : HostAct → (Told → Option ℕ) → ℕ → ℕ → Keyboard → Result ℕ Refused → Keyboard → Type 0
+-- a read: the byte is written if it was made, and is what the log says of it; else what was there stays
+abbrev pub IsReadAs : HostAct → (ItemAnswer → Option ℕ) → ℕ → ℕ → Keyboard → Result ℕ Refused → Keyboard → Type 0
 IsReadAs act f before byte k answer after =
     Acts act k answer after × OnErr answer (byte ≡ before)
-    × IfOk answer (λ b. (byte ≡ b) × ((p : Past) → Stands p k → Tells f p (acted p (k.joint.cycle - 4096) act) b))
+    × IfOk answer (λ b. (byte ≡ b) × ((p : Past) → HasPast p k → GivesFirst f p (acted p (k.joint.cycle - 4096) act) b))
 
-abbrev pub HasRead : HostAct → (Told → Option ℕ) → ℕ → ℕ → Keyboard → ℤ → Keyboard → Type 0
+abbrev pub HasRead : HostAct → (ItemAnswer → Option ℕ) → ℕ → ℕ → Keyboard → ℤ → Keyboard → Type 0
 HasRead act f before byte = Calls (IsReadAs act f before byte)
 
 -- the status and the word of a program that takes one
@@ -95,23 +95,23 @@ abbrev pub HasTaken : ℕ → ℕ → Keyboard → ℤ → Keyboard → Type 0
 HasTaken before word k status after =
     (answer : Result (Option ℕ) Refused) × (status ≡ taken_status answer) × (word ≡ word_after answer before)
     × Acts Take k answer after
-    × IfOk answer (λ w. (p : Past) → Stands p k → Tells (λ t. t.taken) p (acted p (k.joint.cycle - 4096) Take) w)
+    × IfOk answer (λ w. (p : Past) → HasPast p k → GivesFirst (λ t. t.taken) p (acted p (k.joint.cycle - 4096) Take) w)
 
--- a run: so many cycles passed, and where the processor is stuck the place is written
+-- a run: so many cycles passed, and if the processor is stuck the place is written
 abbrev pub HasGone : ℕ → Bool → ℕ → Spot → Spot → Keyboard → ℤ → Keyboard → Type 0
 HasGone cycles watched passed before spot k status after =
     (end : RunEnd) × (status ≡ run_status end) × (k.joint.cycle + passed ≡ after.joint.cycle)
-    × (spot ≡ spot_after end before) × ((p : Past) → Stands p k → HasRun p k cycles watched end after)
-    × ((p : Past) → Stands p k → HasToldAll p k after)
+    × (spot ≡ spot_after end before) × ((p : Past) → HasPast p k → HasRun p k cycles watched end after)
+    × ((p : Past) → HasPast p k → HasKeptAll p k after)
 
 -- the lights are those of the state in which the keyboard is
 abbrev pub HasShownLights : ℕ → Keyboard → ℤ → Keyboard → Type 0
 HasShownLights lights k status after =
-    IsLeft done k status after × ((p : Past) → (s : Stands p k) → lights ≡ s.world.board.shown)
+    IsLeft done k status after × ((p : Past) → (s : HasPast p k) → lights ≡ s.world.board.shown)
 
 -- the wires are those of the state in which the keyboard is, as it and the PC pull them
 abbrev pub HasShownWires : Bool → Bool → Keyboard → ℤ → Keyboard → Type 0
 HasShownWires clock dat k status after =
     IsLeft done k status after
-    × ((p : Past) → (s : Stands p k)
+    × ((p : Past) → (s : HasPast p k)
     → record { clk = clock; dat = dat } ≡ wires (latch_of s.world.cpu.p2) s.world.board.pc)

@@ -83,7 +83,7 @@ what_value (whats.Passed byte) = byte.byte
 abbrev pub said_of : Happened → Said
 said_of it = record { cycle = it.cycle; kind = what_kind it.what; value = what_value it.what }
 
--- what C is told of what it is handed
+-- what C gets of what it is handed
 abbrev pub next_status : Next → ℤ
 next_status (nexts.Said it) = done
 next_status (nexts.Lost lost) = lost_some
@@ -96,6 +96,6 @@ item_after nexts.Nothing before = before
 
 -- what happened next is handed out, and kept no longer
 pub record HasHandedOut (before item : Said) (k : Keyboard) (status : ℤ) (after : Keyboard) : Type 0 where
-  pub tells : status ≡ next_status (next_of k.heard)
+  pub is_status : status ≡ next_status (next_of k.heard)
   pub handed : item ≡ item_after (next_of k.heard) before
   pub left : after ≡ record k { heard = after_next k.heard }

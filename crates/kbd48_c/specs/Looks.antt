@@ -1,6 +1,6 @@
 -- What C sees of a keyboard without a step.
 use Rattle.std.specs.Prelude.{ℕ, ℤ, nat_lt, if◌then◌else◌, slice_index}
-use Rattle.board_lines.specs.Matrix.{rows_of}
+use Rattle.board_terms.specs.Matrix.{rows_of}
 use Rattle.joint_run.specs.declared.machine.Machine.{Machine}
 use Rattle.mcs48_core.specs.declared.processor.Count.{Count}
 use Rattle.mcs48_core.specs.declared.processor.Count.TheVariants.{Off, Timer, Counter}

@@ -1,8 +1,8 @@
 -- Noise on the wires, and which side pulls them.
 use Rattle.std.specs.Prelude.{ℕ, ◌+◌, ℤ, pos, if◌then◌else◌}
-use Rattle.board_lines.specs.Flips.{IsDataOrParity}
-use Rattle.board_lines.specs.declared.event.HostAct.TheVariants.{Flip}
-use Rattle.board_lines.specs.declared.lines.Lines.{Lines}
+use Rattle.board_terms.specs.Flips.{IsDataOrParity}
+use Rattle.board_terms.specs.declared.event.HostAct.TheVariants.{Flip}
+use Rattle.board_terms.specs.declared.lines.Lines.{Lines}
 use Rattle.live_board.specs.declared.parts.Parts.{Parts as Keyboard}
 use Rattle.kbd48_c.specs.Exports.{HasActed, IsLeft}
 

@@ -26,7 +26,7 @@ HasOpenedLayout ready text new =
 
 -- if a text is at fault
 abbrev pub IsHexFault : List ℕ → Fault → Type 0
-IsHexFault text f = (h : HexFault) × (hex_of text ≡ Err h) × (f.place ≡ h.line) × (f.number ≡ h.number)
+IsHexFault text f = (h : HexFault) × (hex_of text ≡ Err h) × (f.position ≡ h.line) × (f.number ≡ h.number)
 
 abbrev pub IsLayoutFault : List ℕ → Fault → Type 0
-IsLayoutFault text f = layout_of_document text ≡ Err (record { entry = f.place; number = f.number })
+IsLayoutFault text f = layout_of_document text ≡ Err (record { entry = f.position; number = f.number })

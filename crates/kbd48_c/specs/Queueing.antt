@@ -7,10 +7,10 @@ use Rattle.edge_queue.specs.declared.queue.Pushed.{Pushed}
 use Rattle.edge_queue.specs.declared.refusal.NotQueued.{NotQueued}
 use Rattle.edge_queue.specs.declared.refusal.NotQueued.TheVariants as whys
 use Rattle.live_board.specs.Calls.{pressed_now}
-use Rattle.live_board.specs.Heard.{HasToldAll}
+use Rattle.live_board.specs.Heard.{HasKeptAll}
 use Rattle.live_board.specs.Pasts.{Past}
-use Rattle.live_board.specs.Running.{HasRun}
-use Rattle.live_board.specs.Standing.{Stands}
+use Rattle.live_board.specs.RunCalls.{HasRun}
+use Rattle.live_board.specs.States.{HasPast}
 use Rattle.live_board.specs.declared.parts.Parts.{Parts as Keyboard}
 use Rattle.live_board.specs.declared.ran.RunEnd.{RunEnd}
 use Rattle.live_board.specs.declared.ran.RunEnd.TheVariants as ends
@@ -59,7 +59,7 @@ past_with (Some e) k p = if nat_lt e.place 96 then pressed_now p k e.place e.dow
 -- the edge that is due is handed over; no step is made
 pub record HandsOver (q : Queue) (k : Keyboard) (left : Queue) (after : Keyboard) : Type 0 where
   pub taken : left ≡ left_now q k
-  pub stands : (p : Past) → Stands p k → Stands (past_with (handed_now q k) k p) after
+  pub has_past : (p : Past) → HasPast p k → HasPast (past_with (handed_now q k) k p) after
   pub joint : after.joint ≡ k.joint
   pub heard : after.heard ≡ k.heard
 
@@ -87,9 +87,9 @@ pub record HasGoneKeyed (cycles : ℕ) (watched : Bool) (passed : ℕ) (before s
   pub middle : Keyboard
   pub hands : HandsOver q k left middle
   pub end : RunEnd
-  pub tells : status ≡ keyed_status cycles passed end
+  pub is_status : status ≡ keyed_status cycles passed end
   pub counts : k.joint.cycle + passed ≡ after.joint.cycle
   pub place : spot ≡ spot_after end before
-  pub ran : (p : Past) → Stands p k
+  pub ran : (p : Past) → HasPast p k
       → HasRun (past_with (handed_now q k) k p) middle (room_of cycles left middle) watched end after
-  pub told : (p : Past) → Stands p k → HasToldAll (past_with (handed_now q k) k p) middle after
+  pub log_kept : (p : Past) → HasPast p k → HasKeptAll (past_with (handed_now q k) k p) middle after

@@ -1,4 +1,4 @@
--- Where a processor is stuck, as C is told.
+-- Where a processor is stuck, as C sees it.
 use Rattle.live_board.specs.declared.ran.RunEnd.{RunEnd}
 use Rattle.live_board.specs.declared.ran.RunEnd.TheVariants as ends
 use Rattle.kbd48_c.specs.declared.going.Spot.{Spot}

@@ -2,9 +2,9 @@
 use Rattle.std.specs.Prelude.{◌≡◌, ℕ, ℤ, ◌+◌, ◌*◌, if◌then◌else◌, Some, None}
 use Rattle.std.specs.Int.{from_bool}
 use Rattle.bits.specs.Bits.{bit}
-use Rattle.live_board.specs.Heard.{HasToldAll}
+use Rattle.live_board.specs.Heard.{HasKeptAll}
 use Rattle.live_board.specs.Pasts.{Past}
-use Rattle.live_board.specs.Standing.{Stands}
+use Rattle.live_board.specs.States.{HasPast}
 use Rattle.live_board.specs.Stopping.{HasStopped}
 use Rattle.live_board.specs.declared.parts.Parts.{Parts as Keyboard}
 use Rattle.live_board.specs.declared.stops.Ending.{Ending}
@@ -20,12 +20,12 @@ stops_of mask at = record {
   rise = bit 0 mask;
   item = bit 1 mask;
   wires = bit 2 mask;
-  place = if bit 3 mask then Some at else None;
+  counter = if bit 3 mask then Some at else None;
 }
 
 -- what a step did, in the same numbers
 abbrev pub mask_of : Met → ℕ
-mask_of m = from_bool m.rise + 2 * from_bool m.item + 4 * from_bool m.wires + 8 * from_bool m.place
+mask_of m = from_bool m.rise + 2 * from_bool m.item + 4 * from_bool m.wires + 8 * from_bool m.counter
 
 abbrev pub ending_status : Ending → ℤ
 ending_status ends.Passed = done
@@ -49,5 +49,5 @@ spot_at (ends.Stuck place) s = record { counter = place.pc; byte = place.byte }
 abbrev pub HasRunTo : Stops → ℕ → ℕ → ℕ → ℕ → Spot → Spot → Keyboard → ℤ → Keyboard → Type 0
 HasRunTo stops cycles steps met passed before spot k status after =
     (end : Ending) × (status ≡ ending_status end) × (met ≡ met_after end) × (k.joint.cycle + passed ≡ after.joint.cycle)
-    × (spot ≡ spot_at end before) × ((p : Past) → Stands p k → HasStopped stops p k cycles steps end after)
-    × ((p : Past) → Stands p k → HasToldAll p k after)
+    × (spot ≡ spot_at end before) × ((p : Past) → HasPast p k → HasStopped stops p k cycles steps end after)
+    × ((p : Past) → HasPast p k → HasKeptAll p k after)

@@ -1,13 +1,13 @@
 //! The calls that go to an open keyboard and make one step, or none.
 
 ghost use Rattle.std.specs.Prelude.{◌≡◌, None, IfOk, OnErr};
-ghost use Rattle.board_lines.specs.declared.event.HostAct.TheVariants.{Read60, Status};
+ghost use Rattle.board_terms.specs.declared.event.HostAct.TheVariants.{Read60, Status};
 ghost use Rattle.live_board.specs.Acts.{masking_of};
 ghost use Rattle.kbd48_c.specs.Exports.{HasActed, HasPressed, HasRead, HasTaken, HasWritten, Through, status_of};
 
 use crate::handle::Handle;
 use crate::status::{DONE, NO_SUCH_PLACE, NO_SUCH_PORT, NO_WORD, NOT_OPEN, refused_status};
-use board_lines::Place;
+use board_terms::Place;
 use ctl_core::Port;
 use live_board::{Keyboard, Refused};
 use std::alloc::Global;
@@ -52,7 +52,7 @@ fn set_bios(keyboard: &mut Keyboard, on: bool) -> i32
     status_of(keyboard.bios(on))
 }
 
-/// The status of a read, which writes its byte where it was made.
+/// The status of a read, which writes its byte if it was made.
 fn put_read(answer: Result<u8, Refused>, byte: &mut u8) -> i32
     ensures status { result ≡ status_of answer }
     ensures byte { IfOk answer (λ b. byte.new ≡ b) × OnErr answer (byte.new ≡ byte.old) }

@@ -111,7 +111,7 @@ fn as_said(it: Happened) -> Said
 
 /// What is handed out, if something is, and the status that says so.
 fn put_item(next: Next, item: &mut Said) -> i32
-    ensures tells { result ≡ next_status next }
+    ensures is_status { result ≡ next_status next }
     ensures handed { item.new ≡ item_after next item.old }
 {
     match next {

@@ -11,7 +11,7 @@ ghost use Rattle.kbd48_c.specs.Statuses.{bad_text, done, no_memory, too_long};
 use crate::handle::Handle;
 use crate::opening::{MOST_LAYOUT, open};
 use crate::status::{BAD_TEXT, DONE, NO_MEMORY, NO_SUCH_KEY, TOO_LONG};
-use board_lines::Place;
+use board_terms::Place;
 use fw_compile::compile;
 use layout_reader::{Layout, LayoutFault, read_layout, us84_layout};
 use pc_tables::key_spelled;

@@ -9,7 +9,7 @@ ghost use Rattle.kbd48_c.specs.Statuses.{done};
 use crate::calls::status_of;
 use crate::handle::Handle;
 use crate::status::{DONE, NO_SUCH_BIT, NOT_OPEN};
-use board_lines::Lines;
+use board_terms::Lines;
 use live_board::Keyboard;
 use std::alloc::Global;
 

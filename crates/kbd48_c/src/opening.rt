@@ -27,7 +27,7 @@ pub(crate) const MOST_LAYOUT: usize = 65536;
 #[repr(C)]
 #[derive(Drop)]
 pub struct Fault {
-    pub place: u32,
+    pub position: u32,
     pub number: u32,
 }
 
@@ -84,7 +84,7 @@ pub(crate) fn open_hex(
     match read_hex(text) {
         Ok(image) => open(alloc, &image, ready, handle),
         Err(found) => {
-            fault.place = found.line;
+            fault.position = found.line;
             fault.number = u32::from(found.number);
             BAD_TEXT
         }
@@ -113,7 +113,7 @@ pub(crate) fn open_layout(
     match read_layout(alloc, text) {
         Ok(layout) => open(alloc, &compile(&layout), ready, handle),
         Err(LayoutFault::Entry { entry, number }) => {
-            fault.place = entry;
+            fault.position = entry;
             fault.number = u32::from(number);
             BAD_TEXT
         }

@@ -6,7 +6,7 @@ ghost use Rattle.kbd48_c.specs.Queueing.{push_status, queue_after, queued_status
 ghost use Rattle.kbd48_c.specs.Statuses.{done};
 
 use crate::status::{DONE, FULL, NO_SUCH_PLACE, REPEATED};
-use board_lines::Place;
+use board_terms::Place;
 use edge_queue::{EdgeQueue, NotQueued};
 
 /// The cycle that is stamp 0.

@@ -18,7 +18,7 @@ fn stops_of(mask: u8, at: u16) -> Stops
         rise: mask >> 0 & 1 == 1,
         item: mask >> 1 & 1 == 1,
         wires: mask >> 2 & 1 == 1,
-        place: if mask >> 3 & 1 == 1 { Some(at) } else { None },
+        counter: if mask >> 3 & 1 == 1 { Some(at) } else { None },
     }
 }
 
@@ -26,7 +26,10 @@ fn stops_of(mask: u8, at: u16) -> Stops
 fn mask_of(met: Met) -> u8
     ensures { result ≡ mask_of met }
 {
-    u8::from(met.rise) + 2 * u8::from(met.item) + 4 * u8::from(met.wires) + 8 * u8::from(met.place)
+    u8::from(met.rise)
+        + 2 * u8::from(met.item)
+        + 4 * u8::from(met.wires)
+        + 8 * u8::from(met.counter)
 }
 
 /// The status of such a run.

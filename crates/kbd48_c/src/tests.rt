@@ -54,7 +54,7 @@ fn a_host_hears_the_self_test_and_sets_the_lights(rt: HostRuntime) -> Result<(),
     let text = write_hex(alloc, &Image { bytes: KERNEL })?;
     let mut handle = Handle::none(alloc);
     let mut fault = Fault {
-        place: 0,
+        position: 0,
         number: 0,
     };
     let mut spot = Spot {
@@ -99,7 +99,7 @@ fn keys_of_a_layout_become_words(rt: HostRuntime) {
     let text = b"format = 1\n[[key]]\nkey = \"a\"\ncolumn = 11\nrow = 7\n";
     let mut handle = Handle::none(alloc);
     let mut fault = Fault {
-        place: 0,
+        position: 0,
         number: 0,
     };
     let mut spot = Spot {
@@ -126,14 +126,14 @@ fn a_text_with_a_fault_opens_nothing(rt: HostRuntime) -> Result<(), AllocError> 
     let alloc = rt.alloc();
     let mut handle = Handle::none(alloc);
     let mut fault = Fault {
-        place: 9,
+        position: 9,
         number: 9,
     };
     let mut cycle = 0u64;
     assert!(rt; kbd48_open_layout(alloc, b"format = ", &mut handle, &mut fault) == BAD_TEXT);
-    assert!(rt; fault.place == 0 && fault.number == 1);
+    assert!(rt; fault.position == 0 && fault.number == 1);
     assert!(rt; kbd48_open_hex(alloc, b":00000001FF\n:0", &mut handle, &mut fault) == BAD_TEXT);
-    assert!(rt; fault.place == 2);
+    assert!(rt; fault.position == 2);
     let long = Vec::from_elem(alloc, b'\n', 65537)?;
     assert!(rt;
         kbd48_open_hex(alloc, &long.as_slice()[..16385], &mut handle, &mut fault) == TOO_LONG
@@ -151,7 +151,7 @@ fn a_program_that_sticks_says_where(rt: HostRuntime) {
     let alloc = rt.alloc();
     let mut handle = Handle::none(alloc);
     let mut fault = Fault {
-        place: 0,
+        position: 0,
         number: 0,
     };
     let mut spot = Spot {
@@ -183,7 +183,7 @@ fn looks_take_nothing_and_a_copy_goes_its_own_way(rt: HostRuntime) -> Result<(),
     let text = write_hex(alloc, &Image { bytes: KERNEL })?;
     let (mut handle, mut copy) = (Handle::none(alloc), Handle::none(alloc));
     let mut fault = Fault {
-        place: 0,
+        position: 0,
         number: 0,
     };
     let mut spot = Spot {
@@ -223,7 +223,7 @@ fn a_rise_within_a_step_is_counted_and_what_is_said_is_handed_out(
     let text = write_hex(alloc, &Image { bytes: KERNEL })?;
     let mut handle = Handle::none(alloc);
     let mut fault = Fault {
-        place: 0,
+        position: 0,
         number: 0,
     };
     let mut spot = Spot {
@@ -271,7 +271,7 @@ fn a_ready_keyboard_has_its_answer_waiting(rt: HostRuntime) -> Result<(), AllocE
     let text = b"format = 1\n[[key]]\nkey = \"a\"\ncolumn = 11\nrow = 7\n";
     let mut handle = Handle::none(alloc);
     let mut fault = Fault {
-        place: 0,
+        position: 0,
         number: 0,
     };
     let (mut byte, mut up) = (0u8, false);
@@ -289,7 +289,7 @@ fn a_run_says_what_ended_it(rt: HostRuntime) -> Result<(), AllocError> {
     let text = write_hex(alloc, &Image { bytes: KERNEL })?;
     let mut handle = Handle::none(alloc);
     let mut fault = Fault {
-        place: 0,
+        position: 0,
         number: 0,
     };
     let mut spot = Spot {

@@ -3,7 +3,7 @@ use Rattle.std.proofs.Common.{ℕ, ◌≡◌, List, Some}
 use Rattle.std.proofs.Math.Path.{subst}
 use Rattle.std.specs.declared.option.Option.{Option}
 use Rattle.io_edge.specs.MemorySink.{HeldBytes}
-use Rattle.io_edge.specs.Shelf.{Told}
+use Rattle.io_edge.specs.Shelf.{Shelved}
 use Rattle.board_probes.specs.Probes.{Watch}
 use Rattle.kbd48_app.specs.Answers.{MayAnswer}
 use Rattle.app_answers.specs.FileAnswers.{Answer}
@@ -13,7 +13,7 @@ use Rattle.app_words.specs.declared.exit.Exit.{Exit}
 use Rattle.kbd48_call.specs.Calls.{HasSaid, shown}
 
 -- of probes that are these
-pub has_said : (words : List (List ℕ)) → (shelf : Told) → (after : Option Told) → (probes these left : List Watch)
+pub has_said : (words : List (List ℕ)) → (shelf : Shelved) → (after : Option Shelved) → (probes these left : List Watch)
     → (first last : HeldBytes) → (exit : Exit) → probes ≡ these
     → ((log : List ℕ) × (answer : Answer) × MayAnswer words (Some shelf) answer after probes
     (record { probes = left; taking = taking_of exit (shown first) (shown last); log = log })

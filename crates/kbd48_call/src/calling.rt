@@ -42,7 +42,7 @@ fn run_with(
     requires register { watch register ≡ unarmed register_kind }
     requires cell { watch cell ≡ unarmed cell_kind }
     requires line { watch line ≡ unarmed line_kind }
-    ensures said { IfOk result (λ it. IsCall (map string_bytes words.now) shelf.old.told room it.0.taken (status_of it.1)) }
+    ensures said { IfOk result (λ it. IsCall (map string_bytes words.now) shelf.old.in_memory room it.0.taken (status_of it.1)) }
 {
     let mut probes: Vec<Box<dyn Probe>> = Vec::new(alloc);
     probes.push(address)?;
@@ -67,7 +67,7 @@ fn run(
     shelf: &mut MemShelf,
     room: usize,
 ) -> Result<(MemSink, Exit), AllocError>
-    ensures said { IfOk result (λ it. IsCall (map string_bytes words.now) shelf.old.told room it.0.taken (status_of it.1)) }
+    ensures said { IfOk result (λ it. IsCall (map string_bytes words.now) shelf.old.in_memory room it.0.taken (status_of it.1)) }
 {
     let address: Box<dyn Probe> = Box::new(alloc, AddressProbe::new())?;
     is_new(&address, 0);

@@ -1,4 +1,4 @@
--- Codes are whole in the queue: a started break has its code first, and F0 has its code behind it.
+-- Codes are whole in the queue: a started break has its code first, and F0 has its code after it.
 use Rattle.std.proofs.Common.{◌≡◌, ◌<◌, ℕ, ◌+◌, List, [], ◌∷◌, ◌++◌, length, Bool, true, false, not}
 use Rattle.std.proofs.Common.{◌&&◌, ◌||◌, ◌==◌, nat_lt, refl, ap, sym, ◌∙◌, arith}
 use Rattle.kbd_model.specs.Queue.{KeyQueue, empty, enter, drop_first, without_first, clear, kept}
@@ -65,13 +65,13 @@ cleared true (b ∷ rest) h = rw (and_left (not (b == 240)) (whole false rest) h
 pub cleared_whole : (q : KeyQueue) → IsWhole q → IsWhole (clear q)
 cleared_whole q h = cleared q.break_started q.bytes h
 
--- F0 has its code behind it
+-- F0 has its code after it
 two : (rest : List ℕ) → whole true rest ≡ true → 0 < length rest
 two [] h = absurd cc
 two (b ∷ rest) h = omega arith
 
-pub code_behind : (b : ℕ) (rest : List ℕ) → (b == 240) ≡ true → whole false (b ∷ rest) ≡ true → 1 < length (b ∷ rest)
-code_behind b rest e h = let l : 0 < length rest = two rest (ap (λ s. whole s rest) (sym e) ∙ h) in omega (arith, l)
+pub code_after : (b : ℕ) (rest : List ℕ) → (b == 240) ≡ true → whole false (b ∷ rest) ≡ true → 1 < length (b ∷ rest)
+code_after b rest e h = let l : 0 < length rest = two rest (ap (λ s. whole s rest) (sym e) ∙ h) in omega (arith, l)
 
 -- over any steps
 from_whole : (steps : List QueueStep) (q : KeyQueue) → enters_codes steps ≡ true → IsWhole q → IsWhole (after steps q)

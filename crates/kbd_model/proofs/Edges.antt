@@ -6,7 +6,7 @@ use Rattle.kbd_model.specs.Codes.{Keys}
 use Rattle.kbd_model.specs.Keyboard.{Keyboard}
 use Rattle.kbd_model.specs.Tick.{edge_if, edges_if}
 
--- one more edge comes behind the others
+-- one more edge comes after the others
 pub edges-more : (scanning : Bool) (keys : Keys) (edges : List TickEdge) (edge : TickEdge) (k : Keyboard)
     → edges_if scanning keys (edges ++ edge ∷ []) k ≡ edge_if scanning keys edge.place edge.down edge.on_fn (edges_if scanning keys edges k)
 edges-more scanning keys [] edge k = refl

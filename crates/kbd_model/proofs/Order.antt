@@ -5,7 +5,7 @@ use Rattle.std.proofs.lemmas.Bool.Decides.{nat_tests}
 use Rattle.kbd_model.specs.Queue.{KeyQueue, empty, enter, drop_first, without_first, clear, kept}
 use Rattle.kbd_model.specs.Laws.{QueueStep, Enters, Drops, Clears, after, let_in, clears, all_let_in, all_sent}
 
--- a code that enters stands behind the others
+-- a code that enters is after the others
 entered_by : (code : List ℕ) (q : KeyQueue) (full : Bool) → (q.overrun || nat_lt 16 (length q.bytes + length code)) ≡ full
     → q.bytes ++ let_in (Enters code) q ≡ (enter code q).bytes
 entered_by code q true e = rw (e, append-nil) refl

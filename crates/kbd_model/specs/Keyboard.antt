@@ -1,7 +1,7 @@
 -- The keyboard's state, and the byte that it offers to the line.
 use Rattle.std.specs.Prelude.{ℕ, nat_lt, List, slice_index_or, Bool, true, false, if◌then◌else◌, Some, None}
 use Rattle.std.specs.declared.option.Option.{Option}
-use Rattle.board_lines.specs.Matrix.{all_up}
+use Rattle.board_terms.specs.Matrix.{all_up}
 use Rattle.kbd_model.specs.declared.state.Mode.{Mode}
 use Rattle.kbd_model.specs.declared.state.Mode.TheVariants.{Ready}
 use Rattle.kbd_model.specs.declared.state.Reply.{Reply}
@@ -9,7 +9,7 @@ use Rattle.kbd_model.specs.declared.state.Repeat.{Repeat}
 use Rattle.kbd_model.specs.Queue.{KeyQueue, empty, first}
 
 -- the ticks left of the power-on test; whether scanning is enabled; whether a parameter is awaited; the reply to a
--- command, with whether a reset is due once it is sent; whether AA is due, by which the end of the test is told; the
+-- command, with whether a reset is due once it is sent; whether AA is due, by which the end of the test is reported; the
 -- last byte sent other than FE; the key queue; the key that repeats; the rate byte; the lights (bit 0 Scroll, bit 1
 -- Num, bit 2 Caps); which places are held, by their numbers
 pub record Keyboard : Type 0 where

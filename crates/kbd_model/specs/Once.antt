@@ -65,7 +65,7 @@ abbrev pub GotLeaves : Type 0
 GotLeaves = (keys : Keys) (byte : ℕ) (good : Bool) (k : Keyboard) → GotKeeps keys byte good k
 
 -- what waited waits on, in its order, and what is new is after it
-pub record IsBehind (before after : List ℕ) : Type 0 where
+pub record Extends (before after : List ℕ) : Type 0 where
   pub more : List ℕ
   pub is : after ≡ before ++ more
 
@@ -73,7 +73,7 @@ pub record IsBehind (before after : List ℕ) : Type 0 where
 pub record OnlyAdds (before after : Keyboard) : Type 0 where
   pub reply : after.reply ≡ before.reply
   pub aa_due : before.aa_due ≡ true → after.aa_due ≡ true
-  pub queue : IsBehind (queued before.queue) (queued after.queue)
+  pub queue : Extends (queued before.queue) (queued after.queue)
 
 abbrev pub RestAdds : Type 0
 RestAdds =
@@ -84,7 +84,7 @@ RestAdds =
 abbrev pub StaysInLine : Type 0
 StaysInLine =
     (keys : Keys) (meeting : Meeting) (edges : List TickEdge) (k : Keyboard) → k.test ≡ 0
-    → IsBehind (waiting (met meeting keys k)) (waiting (ticked keys meeting edges k))
+    → Extends (waiting (met meeting keys k)) (waiting (ticked keys meeting edges k))
 
 -- so a byte that was cut off is offered again
 abbrev pub CutIsOffered : Type 0

@@ -13,13 +13,13 @@ pub record KeyQueue : Type 0 where
 abbrev pub empty : KeyQueue
 empty = record { bytes = []; overrun = false; break_started = false }
 
--- a code enters whole or not at all. If one found no room there is an overrun; all codes are lost until it is told
+-- a code enters whole or not at all. If one found no room there is an overrun; all codes are lost until it is reported
 abbrev pub enter : List ℕ → KeyQueue → KeyQueue
 enter code q =
     if q.overrun || nat_lt 16 (length q.bytes + length code) then record q { overrun = true }
     else record q { bytes = q.bytes ++ code }
 
--- the byte to be sent next; an overrun is told by 00, once the queue is empty
+-- the byte to be sent next; an overrun is reported by 00, once the queue is empty
 abbrev pub first_of : List ℕ → Bool → Option ℕ
 first_of [] overrun = if overrun then Some 0x00 else None
 first_of (byte ∷ rest) overrun = Some byte

@@ -1,6 +1,6 @@
 //! An edge as a tick sees it.
 
-use board_lines::Place;
+use board_terms::Place;
 
 /// A key that went down or up: its place, and whether it was pressed in the second layer, that under Fn. A release is
 /// in the layer of its press.

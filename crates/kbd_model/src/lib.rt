@@ -5,7 +5,7 @@
 //! length, and a tick as one step of all of them. It knows no instruction, no data memory, no wire, no controller and
 //! no cycle: how a tick's meeting with the line comes about, and when its edges were made, is up to the layers above.
 //! Source: IBM PC/AT Technical Reference, Keyboard. Counting the queue in bytes, entering codes whole, what is lost
-//! until an overrun is told, and the break that is finished after a cleared queue are our own, as is the tick.
+//! until an overrun is reported, and the break that is finished after a cleared queue are our own, as is the tick.
 #![tactic(auto)]
 
 mod commands;

@@ -43,7 +43,7 @@ impl Queue {
         }
     }
 
-    /// Enters a code of one or two bytes, whole. If it finds no room there is an overrun, and until that is told all
+    /// Enters a code of one or two bytes, whole. If it finds no room there is an overrun, and until that is reported all
     /// codes are lost.
     pub fn enter(&mut self, code: &[u8])
         requires code { IsCode code.now }
@@ -67,7 +67,7 @@ impl Queue {
         }
     }
 
-    /// Takes the first byte away, which may be the 00 that tells an overrun. F0 starts a break, and the byte after it
+    /// Takes the first byte away, which may be the 00 that reports an overrun. F0 starts a break, and the byte after it
     /// ends it.
     pub fn drop_first(&mut self)
         requires some { IsSome (first self.old) }

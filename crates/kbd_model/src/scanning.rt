@@ -3,7 +3,7 @@
 use crate::edge::TickEdge;
 use crate::state::{Mode, Repeat, TickModel};
 use crate::typematic::{delay, period};
-use board_lines::Place;
+use board_terms::Place;
 use layout_reader::Layout;
 
 impl TickModel {

@@ -1,13 +1,13 @@
 //! The keyboard's state, and what the line sees of it.
 
 use crate::queue::Queue;
-use board_lines::{Matrix, Place};
+use board_terms::{Matrix, Place};
 use std::marker::Model;
 
 /// The ticks of the power-on test.
 pub(crate) const TEST_TICKS: u8 = 64;
 
-/// What tells the end of the test, and stands for the last byte sent as long as there is none.
+/// What reports the end of the test, and stands for the last byte sent as long as there is none.
 pub(crate) const TEST_PASSED: u8 = 0xaa;
 
 /// What the next byte from the system is: a command, the rate byte, or the lights.

@@ -7,7 +7,7 @@ ghost use Rattle.kbd_model.specs.Codes.{HasCode};
 use crate::state::{Mode, Repeat, TickModel};
 use crate::typematic::{delay, period};
 use crate::{Meeting, Queue, TickEdge};
-use board_lines::Place;
+use board_terms::Place;
 use layout_reader::{Layout, read_layout, us84_layout};
 use std::process::Abort;
 use std::test::Fail;
@@ -157,7 +157,7 @@ fn expected(mode: Mode, byte: u8) -> Left {
 }
 
 /// A keyboard in a mode, past its test, with a code in its queue.
-fn standing(mode: Mode) -> TickModel
+fn model_in(mode: Mode) -> TickModel
     ensures { result.repeats ≡ None }
 {
     let mut model = TickModel::power_on(BEFORE.rate);
@@ -187,10 +187,10 @@ fn every_byte_in_every_mode_leaves_what_the_manual_says(rt: HostRuntime) -> Resu
     let layout = us84_layout(rt.alloc())?;
     for mode in [Mode::Ready, Mode::WantRate, Mode::WantLights] {
         for byte in 0..=255u8 {
-            let mut model = standing(mode);
+            let mut model = model_in(mode);
             model.advance(Meeting::Got(byte, true), &[], &layout);
             assert_eq!(rt; left_by(&model), Some(expected(mode, byte)));
-            let mut model = standing(mode);
+            let mut model = model_in(mode);
             model.advance(Meeting::Got(byte, false), &[], &layout);
             let asked_again = Left {
                 reply: 0xfe,
@@ -277,7 +277,7 @@ const TWO_LAYERS: &str = "format = 2\nkey = [\
 fn a_key_is_sent_in_the_layer_of_its_press(rt: HostRuntime) -> Result<(), Fail> {
     let layout = read_layout(rt.alloc(), TWO_LAYERS.as_bytes())?;
     let a = Place::at(1, 0).ok_or("a place")?;
-    let mut model = standing(Mode::Ready);
+    let mut model = model_in(Mode::Ready);
     send(&rt, &mut model, &layout, 0x1c);
     key(&rt, &mut model, &layout, a, true, true);
     send(&rt, &mut model, &layout, 0x05);
@@ -293,7 +293,7 @@ fn a_key_is_sent_in_the_layer_of_its_press(rt: HostRuntime) -> Result<(), Fail> 
 fn a_release_without_a_break_ends_the_repeating(rt: HostRuntime) -> Result<(), Fail> {
     let layout = read_layout(rt.alloc(), TWO_LAYERS.as_bytes())?;
     let s = Place::at(2, 0).ok_or("a place")?;
-    let mut model = standing(Mode::Ready);
+    let mut model = model_in(Mode::Ready);
     send(&rt, &mut model, &layout, 0x1c);
     key(&rt, &mut model, &layout, s, true, false);
     send(&rt, &mut model, &layout, 0x1b);

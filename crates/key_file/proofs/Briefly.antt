@@ -5,7 +5,7 @@ use Rattle.std.specs.Prelude.{nat_le, if◌then◌else◌}
 use Rattle.std.specs.List.{slice_get}
 use Rattle.std.specs.declared.option.Option.{Option}
 use Rattle.std.proofs.lemmas.Bool.Decides.{nat_tests}
-use Rattle.board_lines.specs.declared.event.Edge.{Edge}
+use Rattle.board_terms.specs.declared.event.Edge.{Edge}
 use Rattle.key_file.specs.Histories.{last_edge}
 use Rattle.key_file.specs.Briefs.{from_end, latest_of}
 

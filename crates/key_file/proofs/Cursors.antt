@@ -6,8 +6,8 @@ use Rattle.std.specs.Str.Lines.{lines}
 use Rattle.std.specs.List.{slice_get}
 use Rattle.std.specs.declared.option.Option.{Option}
 use Rattle.std.specs.declared.result.Result.{Result}
-use Rattle.board_lines.specs.declared.event.Edge.{Edge}
-use Rattle.board_lines.specs.declared.event.HostEvent.{HostEvent}
+use Rattle.board_terms.specs.declared.event.Edge.{Edge}
+use Rattle.board_terms.specs.declared.event.HostEvent.{HostEvent}
 use Rattle.layout_reader.specs.Layouts.{KeyLayout}
 use Rattle.text_lines.specs.Fields.{fields}
 use Rattle.first_fault.specs.FirstFault.{Fault, and_then, at_item, first_broken, outcome_from, unless}
@@ -18,7 +18,7 @@ use Rattle.key_file.specs.Cursors.{sound, said_in, edge_before, host_before, edg
 use Rattle.key_file.specs.Fields.{said_by}
 use Rattle.key_file.specs.Histories.{KeyHistory, Before, at_first, with_event}
 use Rattle.key_file.specs.Briefs.{brief_of}
-use Rattle.key_file.specs.KeyFile.{history_of, take_said, take_line, finish, history_at, with_fault_told}
+use Rattle.key_file.specs.KeyFile.{history_of, take_said, take_line, finish, history_at, with_fault_placed}
 use Rattle.key_file.specs.Rules.{judgements}
 
 -- a history has the events so far and those that lines give
@@ -112,18 +112,18 @@ given_from layout number before (line ∷ more) history h =
     given_by layout number before line more history (λ after g. given_from layout (number + 1) after more history g)
     (said_by layout (fields line)) refl h
 
-pub untold : (r : Result KeyHistory (Fault Rule)) (history : KeyHistory) → with_fault_told r ≡ Ok history → r ≡ Ok history
-untold (Ok h) history is = let same : h ≡ history = cc is in ap (λ x. Ok x) same
-untold (Err fault) history is = absurd cc
+pub unplaced : (r : Result KeyHistory (Fault Rule)) (history : KeyHistory) → with_fault_placed r ≡ Ok history → r ≡ Ok history
+unplaced (Ok h) history is = let same : h ≡ history = cc is in ap (λ x. Ok x) same
+unplaced (Err fault) history is = absurd cc
 
 -- a file that has a history gives its events
 pub events_given : (layout : KeyLayout) (text : List ℕ) (history : KeyHistory)
     → history_of layout text ≡ Ok history → Given layout at_first (lines text) history
 unfolding history_of
 events_given layout text history h =
-    given_from layout 1 at_first (lines text) history (untold (outcome_of layout 1 at_first (lines text)) history h)
+    given_from layout 1 at_first (lines text) history (unplaced (outcome_of layout 1 at_first (lines text)) history h)
 
--- the first of what is left of a list, and what is left behind it
+-- the first of what is left of a list, and what is left after it
 pub record IsFirstLeft {X : Type 0} (xs : List X) (n : ℕ) (x : X) (more : List X) : Type 0 where
   pub first : Some x ≡ slice_get xs n
   pub others : more ≡ drop (n + 1) xs

@@ -5,7 +5,7 @@ use Rattle.std.specs.Prelude.{nat_le, nat_lt, if◌then◌else◌}
 use Rattle.std.specs.Option.{option_and_then}
 use Rattle.std.specs.declared.option.Option.{Option}
 use Rattle.std.proofs.lemmas.Bool.Decides.{nat_tests}
-use Rattle.board_lines.specs.Flips.{IsDataOrParity}
+use Rattle.board_terms.specs.Flips.{IsDataOrParity}
 use Rattle.text_lines.specs.Numbers.{decimal_digit, number_after}
 use Rattle.key_file.specs.Fields.{bit_of}
 

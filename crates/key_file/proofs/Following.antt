@@ -1,8 +1,8 @@
--- A text that tells a history, line by line from its end backwards.
+-- A text that describes a history, line by line from its end backwards.
 use Rattle.std.proofs.Common.{◌≡◌, ◌≤◌, ℕ, List, [], ◌∷◌, Some, Ok, codes, ap, sym, subst, ◌∙◌, refl, arith}
 use Rattle.std.specs.Str.Lines.{lines}
-use Rattle.board_lines.specs.declared.event.Edge.{Edge}
-use Rattle.board_lines.specs.declared.event.HostEvent.{HostEvent}
+use Rattle.board_terms.specs.declared.event.Edge.{Edge}
+use Rattle.board_terms.specs.declared.event.HostEvent.{HostEvent}
 use Rattle.layout_reader.specs.Layouts.{KeyLayout}
 use Rattle.text_lines.specs.Fields.{fields}
 use Rattle.first_fault.specs.FirstFault.{and_then}
@@ -11,7 +11,7 @@ use Rattle.key_file.specs.declared.event.Event.TheVariants.{EdgeOf, HostOf, End}
 use Rattle.key_file.specs.Cursors.{sound, said_in, edge_before, host_before, edges_in, host_in}
 use Rattle.key_file.specs.Fields.{place_named, edge_of, act_of, stamp_of, event_in, said_by}
 use Rattle.key_file.specs.Histories.{KeyHistory}
-use Rattle.key_file.specs.Told.{AreOfRightForm, event_before, events_in, AreInJointOrder, Tells}
+use Rattle.key_file.specs.Described.{AreOfRightForm, event_before, events_in, AreInJointOrder, Describes}
 
 -- lines tell these edges and events of the host, none before a stamp, and then the end
 record AreLinesOf (layout : KeyLayout) (end from : ℕ) (edges : List Edge) (host : List HostEvent) (texts : List (List ℕ)) : Type 0 where
@@ -99,9 +99,9 @@ follows-earlier layout end from later edges host text h follows =
     }
 
 -- it tells the whole history
-pub follows-tells : (layout : KeyLayout) (history : KeyHistory) (from : ℕ) (text : List ℕ)
-    → Follows layout history.end from history.edges history.host text → Tells layout text history
-follows-tells layout history from text follows =
+pub follows-describes : (layout : KeyLayout) (history : KeyHistory) (from : ℕ) (text : List ℕ)
+    → Follows layout history.end from history.edges history.host text → Describes layout text history
+follows-describes layout history from text follows =
     let r = follows.lines_are in
     record {
       form = r.form;

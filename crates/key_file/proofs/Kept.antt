@@ -6,8 +6,8 @@ use Rattle.std.specs.List.{last_or}
 use Rattle.std.specs.declared.option.Option.{Option}
 use Rattle.std.proofs.lemmas.Bool.Decides.{nat_tests}
 use Rattle.std.proofs.lemmas.List.Elements.{filter-append}
-use Rattle.board_lines.specs.declared.event.Edge.{Edge}
-use Rattle.board_lines.specs.Edges.{of_place, last_of}
+use Rattle.board_terms.specs.declared.event.Edge.{Edge}
+use Rattle.board_terms.specs.Edges.{of_place, last_of}
 use Rattle.first_fault.specs.FirstFault.{Judgement, first_broken}
 use Rattle.key_file.specs.declared.rule.Rule.{Rule}
 use Rattle.key_file.specs.declared.rule.Rule.TheVariants.{Dwell, Density}
@@ -18,7 +18,7 @@ use Rattle.key_file.specs.Rules.{is_down, is_held, soon_after, fourth_back, edge
 use Rattle.key_file.proofs.LastEdges.{down-last}
 use Rattle.key_file.proofs.Pushes.{fourth-cons}
 
--- the edge behind others turns its key
+-- the edge after others turns its key
 turn_at : (down : Bool) (xs : List Edge) (e : Edge) (ys : List Edge) → Alternates down (xs ++ e ∷ ys) → e.down ≡ not (last_of down xs)
 turn_at down [] e ys turns = turns.0
 turn_at down (x ∷ xs) e ys turns = turn_at x.down xs e ys turns.1
@@ -77,7 +77,7 @@ far rule other earlier fourth e more later last =
     ap first_broken (append_assoc (soon_after rule earlier e) (soon_after other fourth e) more)
     ∙ not_soon rule earlier e (soon_after other fourth e ++ more) later ∙ not_soon other fourth e more last
 
--- the rules of edges, where others stand behind them
+-- the rules of edges, where others are behind them
 fits : (before : Brief) (e : Edge) (more : List (Judgement Rule)) → is_held e (before.last e.place) ≡ false
     → ((x : Edge) → before.last e.place ≡ Some x → x.stamp + 2240 ≤ e.stamp)
     → ((x : Edge) → fourth_back before ≡ Some x → x.stamp + 2240 ≤ e.stamp)

@@ -6,9 +6,9 @@ use Rattle.std.specs.declared.option.Option.{Option}
 use Rattle.std.proofs.lemmas.Bool.Decides.{nat_tests}
 use Rattle.std.proofs.lemmas.List.{get_or-set_same, get_or-set_other, append-nil}
 use Rattle.std.proofs.lemmas.List.Elements.{filter-append}
-use Rattle.board_lines.specs.declared.event.Edge.{Edge}
-use Rattle.board_lines.specs.Edges.{of_place, last_of}
-use Rattle.board_lines.specs.Laws.{ArePlaces}
+use Rattle.board_terms.specs.declared.event.Edge.{Edge}
+use Rattle.board_terms.specs.Edges.{of_place, last_of}
+use Rattle.board_terms.specs.Laws.{ArePlaces}
 use Rattle.key_file.specs.Histories.{last_edge}
 use Rattle.key_file.specs.Rules.{is_down}
 

@@ -1,11 +1,11 @@
--- What is left of an accepted history, behind the events so far, breaks no rule.
+-- What is left of an accepted history, after the events so far, breaks no rule.
 use Rattle.std.proofs.Common.{◌≡◌, ◌≤◌, ◌<◌, ℕ, ◌+◌, false, List, [], ◌∷◌, ◌++◌, length, None, Ok, refl}
 use Rattle.std.proofs.Common.{ap, sym, subst, ◌∙◌, append_assoc, arith, length-append}
 use Rattle.std.specs.Prelude.{All, nat_le, nat_lt}
 use Rattle.std.proofs.lemmas.Bool.Decides.{nat_tests}
 use Rattle.std.proofs.lemmas.List.{get_or_at}
-use Rattle.board_lines.specs.declared.event.Edge.{Edge}
-use Rattle.board_lines.specs.declared.event.HostEvent.{HostEvent}
+use Rattle.board_terms.specs.declared.event.Edge.{Edge}
+use Rattle.board_terms.specs.declared.event.HostEvent.{HostEvent}
 use Rattle.first_fault.specs.FirstFault.{Judgement, first_broken}
 use Rattle.key_file.specs.declared.event.Event.{Event}
 use Rattle.key_file.specs.declared.event.Event.TheVariants.{EdgeOf, HostOf, End}
@@ -17,7 +17,7 @@ use Rattle.key_file.specs.KeyFile.{take_event}
 use Rattle.key_file.specs.Rules.{key_judgements, is_too_many, judgements}
 use Rattle.key_file.proofs.Kept.{edge_unbroken}
 
--- what is left of a history behind the events so far
+-- what is left of a history after the events so far
 pub record IsLeft (history : KeyHistory) (before : Before) (edges : List Edge) (host : List HostEvent) : Type 0 where
   pub edges_are : before.edges ++ edges ≡ history.edges
   pub host_are : before.host ++ host ≡ history.host

@@ -12,6 +12,6 @@ pub mod Cursors
 pub mod Took
 pub mod Kept
 pub mod Left
-pub mod Told
-pub mod Telling
+pub mod ReadsDescribed
+pub mod DescribesRead
 pub mod Following

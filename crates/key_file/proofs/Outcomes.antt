@@ -9,13 +9,13 @@ use Rattle.key_file.specs.declared.fault.KeyFault.{KeyFault}
 use Rattle.key_file.specs.declared.brief.Brief.{Brief as Kept}
 use Rattle.key_file.specs.Histories.{KeyHistory, Before, at_first}
 use Rattle.key_file.specs.Keeps.{IsBriefOf, IsBriefAfter}
-use Rattle.key_file.specs.KeyFile.{history_of, take_line, finish, told, with_fault_told}
+use Rattle.key_file.specs.KeyFile.{history_of, take_line, finish, placed_fault, with_fault_placed}
 use Rattle.key_file.proofs.Sound.{IsSound, sound-first}
 use Rattle.key_file.proofs.Taken.{sound-line}
 
 -- what lines come to, the first of which has this number
 abbrev pub judged : KeyLayout → ℕ → Before → List (List ℕ) → Result KeyHistory KeyFault
-judged layout number before texts = with_fault_told (outcome_from (take_line layout) finish number before texts)
+judged layout number before texts = with_fault_placed (outcome_from (take_line layout) finish number before texts)
 
 -- a line that is taken
 judged-taken : (layout : KeyLayout) (number : ℕ) (before after : Before) (line : List ℕ) (more : List (List ℕ))
@@ -24,7 +24,7 @@ judged-taken layout number before after line more h = rw h refl
 
 -- a line that is refused
 judged-refused : (layout : KeyLayout) (number : ℕ) (before : Before) (line : List ℕ) (more : List (List ℕ)) (rule : Rule)
-    → take_line layout before line ≡ Err rule → judged layout number before (line ∷ more) ≡ Err (told number rule)
+    → take_line layout before line ≡ Err rule → judged layout number before (line ∷ more) ≡ Err (placed_fault number rule)
 judged-refused layout number before line more rule h = rw h refl
 
 -- the file comes to what its other lines come to after those so far, which are sound, and what is kept is what the rules
@@ -60,6 +60,6 @@ module _ (layout : KeyLayout) (text : List ℕ) (number : ℕ) (rest after line 
     sound = sound-line layout h.before taken.after line h.sound taken.taken;
   }
 
-  pub come-fault : (rule : Rule) → take_line layout h.before line ≡ Err rule → history_of layout text ≡ Err (told number rule)
+  pub come-fault : (rule : Rule) → take_line layout h.before line ≡ Err rule → history_of layout text ≡ Err (placed_fault number rule)
   come-fault rule refused =
       h.meaning ∙ ap (judged layout number h.before) first ∙ judged-refused layout number h.before line (lines after) rule refused

@@ -3,9 +3,9 @@ use Rattle.std.proofs.Common.{◌≡◌, ◌≤◌, ◌+◌, ◌-◌, Bool, true
 use Rattle.std.specs.Prelude.{All, nat_le}
 use Rattle.std.specs.List.{last_or}
 use Rattle.std.proofs.lemmas.Bool.Decides.{nat_tests}
-use Rattle.board_lines.specs.declared.event.Edge.{Edge}
-use Rattle.board_lines.specs.declared.event.HostEvent.{HostEvent}
-use Rattle.board_lines.specs.Edges.{AreInOrder, last_of}
+use Rattle.board_terms.specs.declared.event.Edge.{Edge}
+use Rattle.board_terms.specs.declared.event.HostEvent.{HostEvent}
+use Rattle.board_terms.specs.Edges.{AreInOrder, last_of}
 use Rattle.key_file.specs.Accepted.{AreHostEventsInOrder, Alternates, Dwells, IsThin}
 use Rattle.key_file.specs.Briefs.{from_end}
 
@@ -38,7 +38,7 @@ dwells-push [] y dwells last = tt
 dwells-push (x ∷ []) y dwells last = (last x refl, tt)
 dwells-push (x ∷ z ∷ zs) y dwells last = (dwells.0, dwells-push (z ∷ zs) y dwells.1 last)
 
--- the fourth edge from the end is the same behind one edge more at the start
+-- the fourth edge from the end is the same after one edge more at the start
 pub fourth-cons : (x : Edge) (xs : List Edge) → 4 ≤ length xs → from_end 4 (x ∷ xs) ≡ from_end 4 xs
 fourth-cons x xs long =
     let here : nat_le 4 (length xs) ≡ true = grind (arith, nat_tests, long) in

@@ -5,11 +5,11 @@ use Rattle.std.specs.Prelude.{All}
 use Rattle.std.specs.declared.option.Option.{Option}
 use Rattle.std.proofs.lemmas.Bool.Decides.{nat_tests}
 use Rattle.std.proofs.lemmas.List.Elements.{All-push}
-use Rattle.board_lines.specs.declared.event.Edge.{Edge}
-use Rattle.board_lines.specs.declared.event.HostEvent.{HostEvent}
-use Rattle.board_lines.specs.Edges.{of_place, AreInOrder}
-use Rattle.board_lines.specs.Flips.{FlipsDataOrParity, AreFlips}
-use Rattle.board_lines.specs.Laws.{ArePlaces}
+use Rattle.board_terms.specs.declared.event.Edge.{Edge}
+use Rattle.board_terms.specs.declared.event.HostEvent.{HostEvent}
+use Rattle.board_terms.specs.Edges.{of_place, AreInOrder}
+use Rattle.board_terms.specs.Flips.{FlipsDataOrParity, AreFlips}
+use Rattle.board_terms.specs.Laws.{ArePlaces}
 use Rattle.layout_reader.specs.Layouts.{KeyLayout}
 use Rattle.key_file.specs.declared.event.Event.TheVariants.{EdgeOf, HostOf, End}
 use Rattle.key_file.specs.Accepted.{AreHostEventsInOrder, WritesByte, AreWritten, Alternates, Dwells, IsThin, IsPlaceOf, IsAcceptedFor}

@@ -1,13 +1,13 @@
 -- Lawful histories, which the laws are about; and accepted ones, which a key file can say.
 use Rattle.std.specs.Prelude.{◌≡◌, ◌≤◌, ◌<◌, ℕ, ◌+◌, Bool, false, not, List, [], ◌∷◌, length, All, IsSome}
-use Rattle.board_lines.specs.declared.event.Edge.{Edge}
-use Rattle.board_lines.specs.declared.event.HostAct.{HostAct}
-use Rattle.board_lines.specs.declared.event.HostAct.TheVariants.{Write60, Write64, Read60, Mask, Unmask, Take}
-use Rattle.board_lines.specs.declared.event.HostAct.TheVariants.{Status, Flip}
-use Rattle.board_lines.specs.declared.event.HostEvent.{HostEvent}
-use Rattle.board_lines.specs.Edges.{of_place, AreInOrder}
-use Rattle.board_lines.specs.Flips.{AreFlips}
-use Rattle.board_lines.specs.Laws.{ArePlaces}
+use Rattle.board_terms.specs.declared.event.Edge.{Edge}
+use Rattle.board_terms.specs.declared.event.HostAct.{HostAct}
+use Rattle.board_terms.specs.declared.event.HostAct.TheVariants.{Write60, Write64, Read60, Mask, Unmask, Take}
+use Rattle.board_terms.specs.declared.event.HostAct.TheVariants.{Status, Flip}
+use Rattle.board_terms.specs.declared.event.HostEvent.{HostEvent}
+use Rattle.board_terms.specs.Edges.{of_place, AreInOrder}
+use Rattle.board_terms.specs.Flips.{AreFlips}
+use Rattle.board_terms.specs.Laws.{ArePlaces}
 use Rattle.layout_reader.specs.Layouts.{KeyLayout, entry_at}
 use Rattle.key_file.specs.Histories.{KeyHistory}
 

@@ -1,8 +1,8 @@
 -- A feed: a history whose events are handed out one after another, and how many of them were taken.
 use Rattle.std.specs.Prelude.{ℕ, ◌+◌, Some, None}
 use Rattle.std.specs.declared.option.Option.{Option}
-use Rattle.board_lines.specs.declared.event.Edge.{Edge}
-use Rattle.board_lines.specs.declared.event.HostEvent.{HostEvent}
+use Rattle.board_terms.specs.declared.event.Edge.{Edge}
+use Rattle.board_terms.specs.declared.event.HostEvent.{HostEvent}
 use Rattle.key_file.specs.Histories.{KeyHistory}
 
 -- a history, and how many of its edges and of its host events were taken

@@ -9,8 +9,8 @@ use Rattle.pc_tables.specs.Keys.{key_with_name}
 use Rattle.layout_reader.specs.Layouts.{KeyLayout, place_of}
 use Rattle.text_lines.specs.Numbers.{decimal_of, hexadecimal_of}
 use Rattle.first_fault.specs.FirstFault.{some_or, and_then}
-use Rattle.board_lines.specs.declared.event.HostAct.{HostAct}
-use Rattle.board_lines.specs.declared.event.HostAct.TheVariants as act
+use Rattle.board_terms.specs.declared.event.HostAct.{HostAct}
+use Rattle.board_terms.specs.declared.event.HostAct.TheVariants as act
 use Rattle.key_file.specs.declared.event.Event.{Event}
 use Rattle.key_file.specs.declared.event.Event.TheVariants.{EdgeOf, HostOf, End}
 use Rattle.key_file.specs.declared.word.Word.{Word}

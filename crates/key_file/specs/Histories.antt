@@ -2,9 +2,9 @@
 use Rattle.std.specs.Prelude.{ℕ, ◌-◌, List, [], ◌∷◌, ◌++◌, None, Some, if◌then◌else◌}
 use Rattle.std.specs.List.{last_or}
 use Rattle.std.specs.declared.option.Option.{Option}
-use Rattle.board_lines.specs.declared.event.Edge.{Edge}
-use Rattle.board_lines.specs.declared.event.HostEvent.{HostEvent}
-use Rattle.board_lines.specs.Edges.{of_place}
+use Rattle.board_terms.specs.declared.event.Edge.{Edge}
+use Rattle.board_terms.specs.declared.event.HostEvent.{HostEvent}
+use Rattle.board_terms.specs.Edges.{of_place}
 use Rattle.key_file.specs.declared.event.Event.{Event}
 use Rattle.key_file.specs.declared.event.Event.TheVariants.{EdgeOf, HostOf, End}
 

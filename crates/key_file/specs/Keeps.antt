@@ -1,6 +1,6 @@
 -- What the program keeps of the events so far, against the events themselves.
 use Rattle.std.specs.Prelude.{◌≡◌, ℕ, ◌+◌, List, None, Ok, length, slice_index_or}
-use Rattle.board_lines.specs.Laws.{ArePlaces}
+use Rattle.board_terms.specs.Laws.{ArePlaces}
 use Rattle.layout_reader.specs.Layouts.{KeyLayout}
 use Rattle.key_file.specs.declared.brief.Brief.{Brief as Kept}
 use Rattle.key_file.specs.Histories.{Before, last_edge}

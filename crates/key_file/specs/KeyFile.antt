@@ -38,22 +38,22 @@ history_at before None = Err NoEnd
 abbrev pub finish : Before → Result KeyHistory Rule
 finish before = history_at before before.end
 
--- how a broken rule is told of a line: four rules tell two stamps, the others none
-abbrev pub told : ℕ → Rule → KeyFault
-told line (Order earlier stamp) = Timing line 4 earlier stamp
-told line (Dwell earlier stamp) = Timing line 6 earlier stamp
-told line (Density earlier stamp) = Timing line 7 earlier stamp
-told line (Late stamp) = Timing line 10 240000000 stamp
-told line rule = Input line (number_of rule)
+-- how a broken rule is reported of a line: four rules name two stamps, the others none
+abbrev pub placed_fault : ℕ → Rule → KeyFault
+placed_fault line (Order earlier stamp) = Timing line 4 earlier stamp
+placed_fault line (Dwell earlier stamp) = Timing line 6 earlier stamp
+placed_fault line (Density earlier stamp) = Timing line 7 earlier stamp
+placed_fault line (Late stamp) = Timing line 10 240000000 stamp
+placed_fault line rule = Input line (number_of rule)
 
-abbrev pub with_fault_told : {X : Type 0} → Result X (Fault Rule) → Result X KeyFault
-with_fault_told (Ok value) = Ok value
-with_fault_told (Err fault) = Err (told fault.item fault.rule)
+abbrev pub with_fault_placed : {X : Type 0} → Result X (Fault Rule) → Result X KeyFault
+with_fault_placed (Ok value) = Ok value
+with_fault_placed (Err fault) = Err (placed_fault fault.item fault.rule)
 
--- the history of a key file, or its first fault: its lines are judged in order; that `end` is missing is told of the
+-- the history of a key file, or its first fault: its lines are judged in order; that `end` is missing is reported of the
 -- line after the last one
 unfoldable pub history_of : KeyLayout → List ℕ → Result KeyHistory KeyFault
-history_of layout text = with_fault_told (outcome (take_line layout) finish at_first (lines text))
+history_of layout text = with_fault_placed (outcome (take_line layout) finish at_first (lines text))
 
 -- want of memory, or else the fault of what was judged
 abbrev pub IsFaultOf : {X : Type 0} → Result X KeyFault → KeyFault → Type 0

@@ -7,5 +7,5 @@ pub mod Keeps
 pub mod KeyFile
 pub mod Feeds
 pub mod Cursors
-pub mod Told
+pub mod Described
 pub mod Places

@@ -8,7 +8,7 @@ ghost use Rattle.key_file.specs.Rules.{fourth_back, judgements};
 ghost use Rattle.key_file.specs.declared.event.Event.TheVariants.{EdgeOf};
 
 use crate::event::Event;
-use board_lines::{Edge, Place};
+use board_terms::{Edge, Place};
 
 /// The places of the matrix.
 const PLACES: usize = 96;

@@ -14,7 +14,7 @@ ghost use Rattle.key_file.specs.declared.event.Event.TheVariants.{EdgeOf, HostOf
 use crate::event::Event;
 use crate::feed::Feed;
 use crate::line::said_by;
-use board_lines::{Edge, HostEvent};
+use board_terms::{Edge, HostEvent};
 use layout_reader::Layout;
 use std::marker::Model;
 use text_lines::next_line;
@@ -103,7 +103,7 @@ impl<'a> ByteFeed<'a> {
 }
 
 impl<'a> Feed for ByteFeed<'a> {
-    ghost told = { λ f. f };
+    ghost feeds = { λ f. f };
 
     fn end(&self) -> u64
         ensures end { result ≡ self.now.history.end }

@@ -8,7 +8,7 @@ ghost use Rattle.key_file.specs.KeyFile.{history_of, key_fault, take_line};
 
 use crate::brief::Brief;
 use crate::byte_feed::ByteFeed;
-use crate::fault::{FileFault, told};
+use crate::fault::{FileFault, placed_fault};
 use crate::line::said_by;
 use crate::rule::Rule;
 use crate::rules::broken_by;
@@ -47,13 +47,13 @@ pub fn check_history<'a>(bytes: &'a [u8], layout: &'a Layout) -> Result<ByteFeed
     let mut number = 1;
     while let Some((line, after)) = next_line(rest) {
         if let Err(rule) = take_line(&mut brief, layout, line) {
-            return Err(told(number, rule));
+            return Err(placed_fault(number, rule));
         }
         rest = after;
         number += 1;
     }
     match brief.end() {
         Some(end) => Ok(ByteFeed::at_start(bytes, layout, end)),
-        None => Err(told(number, Rule::NoEnd)),
+        None => Err(placed_fault(number, Rule::NoEnd)),
     }
 }

@@ -3,7 +3,7 @@
 ghost use Rattle.std.specs.Prelude.{◌≡◌};
 ghost use Rattle.key_file.specs.Histories.{stamp_at};
 
-use board_lines::{Edge, HostEvent};
+use board_terms::{Edge, HostEvent};
 
 /// What a line says that isn't skipped.
 #[derive(Clone, Copy)]

@@ -1,7 +1,7 @@
 //! Why a key file gives no history.
 
 ghost use Rattle.std.specs.Prelude.{◌≡◌};
-ghost use Rattle.key_file.specs.KeyFile.{key_fault, told};
+ghost use Rattle.key_file.specs.KeyFile.{key_fault, placed_fault};
 ghost use Rattle.key_file.specs.Rules.{number_of};
 ghost use Rattle.key_file.specs.declared.fault.KeyFault.TheVariants.{Memory};
 
@@ -34,7 +34,7 @@ pub enum FileFault {
     },
 }
 
-/// The same, if memory may also be wanting.
+/// The same, if memory may also run out.
 #[derive(Clone, Copy, Debug, PartialEq, Eq, Drop, Error)]
 pub enum KeyFault {
     /// A rule other than those of time is broken.
@@ -94,8 +94,8 @@ fn number_of(rule: Rule) -> u8
 }
 
 /// The fault of a line that breaks a rule.
-pub(crate) fn told(line: u32, rule: Rule) -> FileFault
-    ensures { key_fault result ≡ told line rule }
+pub(crate) fn placed_fault(line: u32, rule: Rule) -> FileFault
+    ensures { key_fault result ≡ placed_fault line rule }
 {
     let number = number_of(rule);
     match rule {

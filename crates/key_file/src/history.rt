@@ -4,7 +4,7 @@ ghost use Rattle.std.specs.Prelude.{◌≡◌};
 ghost use Rattle.key_file.specs.Accepted.{IsAccepted};
 ghost use Rattle.key_file.specs.Histories.{KeyHistory};
 
-use board_lines::{Edge, HostEvent};
+use board_terms::{Edge, HostEvent};
 use std::marker::Model;
 
 /// A history that is accepted, as far as that doesn't hang on the layout. Stamps count cycles of 2.5 microseconds;

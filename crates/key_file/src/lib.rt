@@ -26,6 +26,6 @@ pub use checking::check_history;
 pub use fault::{FileFault, KeyFault};
 pub use feed::Feed;
 pub use history::History;
-pub use laws::told_histories;
+pub use laws::described_histories;
 pub use list_feed::ListFeed;
 pub use reading::read_history;

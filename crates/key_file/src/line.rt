@@ -11,7 +11,7 @@ ghost use Rattle.key_file.specs.Fields.{event_of, event_in, said_by};
 use crate::event::Event;
 use crate::rule::Rule;
 use crate::word::{Word, word_named};
-use board_lines::{Edge, HostAct, HostEvent, Place};
+use board_terms::{Edge, HostAct, HostEvent, Place};
 use layout_reader::Layout;
 use pc_tables::key_spelled;
 use text_lines::{decimal, hexadecimal, next_field};

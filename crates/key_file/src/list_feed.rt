@@ -6,7 +6,7 @@ ghost use Rattle.key_file.specs.Feeds.{edge_taken, host_taken};
 
 use crate::feed::Feed;
 use crate::history::History;
-use board_lines::{Edge, HostEvent};
+use board_terms::{Edge, HostEvent};
 use std::marker::Model;
 
 /// The events of a history in memory, and how many of them were taken.
@@ -55,7 +55,7 @@ impl<'a> ListFeed<'a> {
 }
 
 impl<'a> Feed for ListFeed<'a> {
-    ghost told = { λ f. f };
+    ghost feeds = { λ f. f };
 
     fn end(&self) -> u64
         ensures end { result ≡ self.now.history.end }

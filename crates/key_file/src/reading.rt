@@ -10,7 +10,7 @@ use crate::checking::check_history;
 use crate::fault::{KeyFault, key_fault};
 use crate::feed::Feed;
 use crate::history::History;
-use board_lines::{Edge, HostEvent};
+use board_terms::{Edge, HostEvent};
 use layout_reader::Layout;
 use std::alloc::{AllocError, Global};
 

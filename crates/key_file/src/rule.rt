@@ -1,6 +1,6 @@
 //! The rules of a key file.
 
-/// A rule of a key file, with the stamps that are told if it is broken.
+/// A rule of a key file, with the stamps that are named if it is broken.
 #[derive(Clone, Copy, Drop)]
 pub(crate) enum Rule {
     /// A line has a stamp, a word, the number of arguments that a known word takes, and a byte if it takes one.

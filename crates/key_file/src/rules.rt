@@ -11,7 +11,7 @@ use crate::brief::Brief;
 use crate::event::Event;
 use crate::fault::LAST_STAMP;
 use crate::rule::Rule;
-use board_lines::{Edge, Place};
+use board_terms::{Edge, Place};
 
 /// The least time between two edges of a key, and between an edge and the fourth one after it, in cycles.
 const LEAST_TIME: u64 = 2_240;

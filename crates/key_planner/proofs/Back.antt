@@ -2,8 +2,8 @@
 use Rattle.std.proofs.Common.{◌≡◌, ◌≤◌, ◌<◌, ℕ, suc, ◌+◌, List, [], ◌∷◌, ◌++◌, length, Ok, codes, refl}
 use Rattle.std.proofs.Common.{ap, sym, subst, ◌∙◌, append_assoc, append-nil, arith, decimal}
 use Rattle.std.specs.Str.Lines.{lines}
-use Rattle.board_lines.specs.declared.event.Edge.{Edge}
-use Rattle.board_lines.specs.declared.event.HostEvent.{HostEvent}
+use Rattle.board_terms.specs.declared.event.Edge.{Edge}
+use Rattle.board_terms.specs.declared.event.HostEvent.{HostEvent}
 use Rattle.pc_tables.specs.Keys.{name_at}
 use Rattle.layout_reader.specs.declared.entry.Entry.{Entry}
 use Rattle.layout_reader.specs.Layouts.{KeyLayout, IsKeyLayout}
@@ -13,8 +13,8 @@ use Rattle.typed_log.specs.Typing.{Stroke, Plain, Shifted, character, enters, ba
 use Rattle.typed_log.specs.Typing.{presses, releases, edges_of, take_of, edges_from, takes_from, planned}
 use Rattle.key_planner.specs.Plan.{press_line, release_line, take_line, end_line, stroke_lines, lines_from, plan_of}
 use Rattle.typed_log.proofs.Struck.{IsStroke, AreStrokes}
-use Rattle.key_file.proofs.Following.{Follows, follows-edge, follows-host, follows-end, follows-earlier, follows-tells}
-use Rattle.key_file.proofs.Told.{told-read}
+use Rattle.key_file.proofs.Following.{Follows, follows-edge, follows-host, follows-end, follows-earlier, follows-describes}
+use Rattle.key_file.proofs.ReadsDescribed.{reads-described}
 use Rattle.key_planner.proofs.Numerals.{stamp-back}
 use Rattle.key_planner.proofs.Parted.{name-word, word-by, first-line}
 use Rattle.key_planner.proofs.Said.{word_text, key_text, word-line, key-line, press-said, release-said, take-said, word-said}
@@ -135,6 +135,6 @@ pub plan-back : (layout : KeyLayout) (strokes : List Stroke) → AllOwn layout s
     → history_of layout (plan_of strokes) ≡ Ok (planned strokes)
 unfolding plan_of planned
 plan-back layout strokes own few accepted =
-    told-read layout (plan_of strokes) (planned strokes) accepted
-    (follows-tells layout (planned strokes) (stroke_start 0) (plan_of strokes)
+    reads-described layout (plan_of strokes) (planned strokes) accepted
+    (follows-describes layout (planned strokes) (stroke_start 0) (plan_of strokes)
     (strokes-follow layout (planned strokes).end 0 strokes own (omega arith) (omega arith)))

@@ -50,7 +50,7 @@ decimal-number = decimal_by_steps (λ n ds. number_after 10 decimal_digit 0 ds �
     whole : (n : ℕ) → 10 * (n / 10) + (48 + n % 10 - 48) ≡ n
     whole n = omega arith
 
--- a digit stands at each place of it
+-- a digit is at each place of it
 pub digit_at : (n i : ℕ) → n < 2 ^ 64 → i < length (decimal n) → (48 ≤ slice_index (decimal n) i) × (slice_index (decimal n) i ≤ 57)
 digit_at n i h within = All-get_or (λ c. (48 ≤ c) × (c ≤ 57)) (decimal n) i 0 within (decimal-digits n h)
 

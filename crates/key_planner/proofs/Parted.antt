@@ -1,4 +1,4 @@
--- Words that stand between single spaces on a line: its fields; and the line as the first of its text.
+-- Words that are between single spaces on a line: its fields; and the line as the first of its text.
 use Rattle.std.proofs.Common.{◌≡◌, ◌≤◌, ◌<◌, ℕ, ◌-◌, ◌^◌, ◌&&◌, ◌==◌, Bool, true, false, cond, List, [], ◌∷◌, ◌++◌}
 use Rattle.std.proofs.Common.{length, slice_index, refl, ap, ◌∙◌, append_assoc, arith, decimal, length-append}
 use Rattle.std.specs.Prelude.{All, nat_lt}

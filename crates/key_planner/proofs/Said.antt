@@ -6,7 +6,7 @@ use Rattle.layout_reader.specs.Layouts.{KeyLayout}
 use Rattle.text_lines.specs.Fields.{fields}
 use Rattle.first_fault.specs.FirstFault.{and_then}
 use Rattle.key_file.specs.Fields.{is_skipped, edge_of, act_of, event_in, said_by}
-use Rattle.board_lines.specs.declared.event.HostAct.TheVariants.{Take}
+use Rattle.board_terms.specs.declared.event.HostAct.TheVariants.{Take}
 use Rattle.key_planner.proofs.Numerals.{digit_at, stamp-back}
 use Rattle.key_planner.proofs.Parted.{IsWord, IsLine, word-by, decimal-word, fields-two, fields-three, line-word, line-more}
 

@@ -2,9 +2,9 @@
 use Rattle.std.proofs.Common.{◌≡◌, ◌≤◌, ◌<◌, ℕ, zero, suc, ◌+◌, ◌*◌, ◌/◌, Bool, true, false, not, ◌&&◌, List, [], ◌∷◌, refl, arith}
 use Rattle.std.specs.Prelude.{nat_le}
 use Rattle.std.proofs.lemmas.Bool.Decides.{nat_tests}
-use Rattle.board_lines.specs.Cadence.{KeepsCadence}
-use Rattle.board_lines.specs.Laws.{ArePlaces}
-use Rattle.board_lines.specs.declared.event.Edge.{Edge}
+use Rattle.board_terms.specs.Cadence.{KeepsCadence}
+use Rattle.board_terms.specs.Laws.{ArePlaces}
+use Rattle.board_terms.specs.declared.event.Edge.{Edge}
 use Rattle.edge_queue.specs.Laws.{AreSpaced}
 use Rattle.edge_queue.specs.Queue.{time_of}
 use Rattle.edge_queue.proofs.Law.{are_lawful}

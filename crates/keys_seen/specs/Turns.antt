@@ -1,7 +1,7 @@
 -- In which ticks the edges of a queue are seen.
 use Rattle.std.specs.Prelude.{◌≡◌, ◌≤◌, ℕ, ◌+◌, Bool, true, if◌then◌else◌, List, [], ◌∷◌}
-use Rattle.board_lines.specs.Cadence.{KeepsCadence}
-use Rattle.board_lines.specs.declared.event.Edge.{Edge}
+use Rattle.board_terms.specs.Cadence.{KeepsCadence}
+use Rattle.board_terms.specs.declared.event.Edge.{Edge}
 use Rattle.edge_queue.specs.Calls.{Call, ArePlaced, handed}
 use Rattle.edge_queue.specs.Queue.{empty}
 use Rattle.link_model.specs.TickEdges.{is_seen}

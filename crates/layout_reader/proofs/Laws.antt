@@ -86,7 +86,7 @@ length-map_entries : (entries : List Entry) → length (keys_of entries) ≡ len
 length-map_entries [] = refl
 length-map_entries (e ∷ es) = ap suc (length-map_entries es)
 
--- no key stands twice, so there are 84 entries at most
+-- no key is twice, so there are 84 entries at most
 pub entries_limit : (entries : List Entry) → AreEntries entries → length entries ≤ 84
 entries_limit entries sound =
     let few = length-le_from_distinct_below (keys_of entries) 84 sound.own_keys (key-below entries sound.each) in

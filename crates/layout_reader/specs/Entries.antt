@@ -3,7 +3,7 @@ use Rattle.std.specs.Prelude.{◌≡◌, ℕ, ◌==◌, ◌<◌, Bool, false, �
 use Rattle.std.specs.Prelude.{Option, None, is_none, IfSome, option_and_then, unwrap_or, Result, Err}
 use Rattle.std.specs.List.{list_any}
 use Rattle.toml.specs.Data.{Data, table, Members}
-use Rattle.board_lines.specs.Places.{place_at}
+use Rattle.board_terms.specs.Places.{place_at}
 use Rattle.layout_reader.specs.declared.entry.Entry.{Entry}
 use Rattle.layout_reader.specs.declared.cause.Cause.{Cause}
 use Rattle.layout_reader.specs.declared.cause.Cause.TheVariants.{UnknownField, MissingField, WrongKind}

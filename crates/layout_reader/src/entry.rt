@@ -12,7 +12,7 @@ use crate::fields::{
     Format, Level, byte_at, has_field, has_other_field, is_not_text, is_not_truth, is_not_whole,
     is_set, key_at,
 };
-use board_lines::Place;
+use board_terms::Place;
 use pc_tables::Key;
 use toml::{Table, Value};
 

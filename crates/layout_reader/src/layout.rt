@@ -7,7 +7,7 @@ ghost use Rattle.layout_reader.specs.Layouts.{KeyLayout, places_of, keys_of, cod
 ghost use Rattle.layout_reader.specs.Layouts.{entry_of_key, AreEntries, fn_code_at, fn_place, is_make_only, IsSilentAtFn};
 
 use crate::entry::Entry;
-use board_lines::Place;
+use board_terms::Place;
 use pc_tables::{Key, code_of};
 use std::marker::Model;
 

@@ -6,7 +6,7 @@ ghost use Rattle.layout_reader.specs.Layouts.{us84, sample_entry};
 use crate::entry::Entry;
 use crate::layout::Layout;
 use crate::top_level::DEFAULT_RATE;
-use board_lines::Place;
+use board_terms::Place;
 use pc_tables::Key;
 use std::alloc::{AllocError, Global};
 

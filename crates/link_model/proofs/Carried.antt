@@ -7,11 +7,11 @@ use Rattle.ctl_core.specs.Controller.{is_disabled}
 use Rattle.ctl_core.specs.declared.controller.Did.TheVariants.{Nothing}
 use Rattle.ctl_link.specs.declared.link.Link.{Link}
 use Rattle.ctl_link.specs.declared.link.Link.TheVariants.{Free, Hold, Ask, Request, Busy}
-use Rattle.ctl_link.specs.declared.port.Port.{Port}
+use Rattle.ctl_link.specs.declared.port.LinkEnd.{LinkEnd}
 use Rattle.ctl_link.specs.Link.{Settled, broken_off, is_busy, settled, takes_input, took_where, held_since, moves_link, link_after}
 use Rattle.ctl_link.specs.Empty.{is_held}
 use Rattle.ctl_link.proofs.Breaks.{breaks_or_not, unbroken}
-use Rattle.board_lines.specs.declared.event.HostEvent.{HostEvent}
+use Rattle.board_terms.specs.declared.event.HostEvent.{HostEvent}
 use Rattle.host_turn.specs.Cycle.{port_by}
 use Rattle.host_turn.specs.Run.{Side, goes_on}
 use Rattle.host_turn.proofs.Turns.{turn_of}
@@ -24,11 +24,11 @@ use Rattle.link_model.specs.Expected.{to_meeting, from_meeting}
 use Rattle.link_model.specs.Passing.{MayBegin}
 
 -- a byte for the keyboard stays under way by itself, and a request stays one
-settled_handing : (now : ℕ) (p : Port UnderWay) → p.link ≡ Busy for_keyboard
+settled_handing : (now : ℕ) (p : LinkEnd UnderWay) → p.link ≡ Busy for_keyboard
     → (settled now (broken_off is_open now p)).port.link ≡ Busy for_keyboard
 settled_handing now p e = elim (breaks_or_not is_open now p for_keyboard e) [ inl s ↦ s | inr b ↦ absurd cc ]
 
-settled_request : (now : ℕ) (p : Port UnderWay) (byte : ℕ) → p.link ≡ Request byte
+settled_request : (now : ℕ) (p : LinkEnd UnderWay) (byte : ℕ) → p.link ≡ Request byte
     → (settled now (broken_off is_open now p)).port.link ≡ Request byte
 settled_request now p byte e =
     let s : broken_off is_open now p ≡ p = unbroken is_open now p (ap is_busy e) in

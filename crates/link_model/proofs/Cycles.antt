@@ -3,7 +3,7 @@ use Rattle.std.proofs.Common.{◌≡◌, ℕ, suc, zero, ◌+◌, ◌≤◌, ◌
 use Rattle.std.specs.Prelude.{if◌then◌else◌}
 use Rattle.std.specs.declared.option.Option.{Option}
 use Rattle.std.proofs.lemmas.Bool.Decides.{nat_tests}
-use Rattle.board_lines.specs.declared.event.HostEvent.{HostEvent}
+use Rattle.board_terms.specs.declared.event.HostEvent.{HostEvent}
 use Rattle.host_turn.specs.Run.{Side, says_lights}
 use Rattle.byte_time.specs.declared.UnderWay.{UnderWay}
 use Rattle.byte_time.specs.declared.meeting.Meeting.{Meeting}
@@ -139,7 +139,7 @@ module _ (events : List HostEvent) (start : ℕ) (at : ℕ → Side UnderWay) wh
         ∙ ap (λ c. byte_cycle events (o + start) (event_at m o) (if c then says_lights (232 + start) shown lights (at o) else at o)) n in
         let before : (o : ℕ) → o < 288 → event_at m o ≡ Quiet = λ o l.
         quiet_but m o (not_yet o 288 l) (not_yet o 576 (omega (arith, l))) (not_yet o 608 (omega (arith, l))) in
-        let behind : (o : ℕ) → 608 < o → event_at m o ≡ Quiet = λ o l.
+        let afterwards : (o : ℕ) → 608 < o → event_at m o ≡ Quiet = λ o l.
         quiet_but m o (not_here o 288 (omega (arith, l))) (not_here o 576 (omega (arith, l))) (not_here o 608 l) in
         let quiet : (o : ℕ) → (o == 232) ≡ false → o < 288 → at (suc o) ≡ byte_cycle events (o + start) Quiet (at o) =
         λ o n l.
@@ -162,7 +162,7 @@ module _ (events : List HostEvent) (start : ℕ) (at : ℕ → Side UnderWay) wh
         let g : at end ≡ quietly events rest (609 + start) (at 609) =
         span rest 609 end (609 + start) (omega (arith, e)) refl (λ o l u.
         unlit o (not_here o 232 (omega (arith, l))) (omega (arith, u))
-        ∙ ap (λ v. byte_cycle events (o + start) v (at o)) (behind o (omega (arith, l)))) in
+        ∙ ap (λ v. byte_cycle events (o + start) v (at o)) (afterwards o (omega (arith, l)))) in
         let k : at 256 ≡ to_look events shown lights start (at 0) =
         c ∙ ap (λ v. quietly events 23 (suc (232 + start)) v) b
         ∙ ap (λ v. quietly events 24 (232 + start) (says_lights (232 + start) shown lights v)) a in

@@ -7,9 +7,9 @@ use Rattle.std.proofs.lemmas.Bool.{eqb-true}
 use Rattle.std.proofs.lemmas.List.{map-append}
 use Rattle.link_model.specs.TickEdges.{none_before, by_place, change_of, change_at, shown_at}
 use Rattle.key_file.specs.Accepted.{Alternates, Dwells}
-use Rattle.board_lines.specs.declared.event.Edge.{Edge}
-use Rattle.board_lines.specs.Edges.{of_place, last_of}
-use Rattle.board_lines.proofs.Shown.{skip, keep}
+use Rattle.board_terms.specs.declared.event.Edge.{Edge}
+use Rattle.board_terms.specs.Edges.{of_place, last_of}
+use Rattle.board_terms.proofs.Shown.{skip, keep}
 use Rattle.link_model.specs.Laws.{RisesFrom}
 
 abbrev pub AreAt : ℕ → List Edge → Type 0

@@ -9,13 +9,13 @@ use Rattle.link_model.specs.TickEdges.{read_at, is_seen, by_place, change_of, ti
 use Rattle.link_model.specs.TickEdges.{change_at, shown_at, shown, downs_in, downs_before}
 use Rattle.key_file.specs.Histories.{KeyHistory}
 use Rattle.key_file.specs.Accepted.{IsThin, IsFifthLater, IsLawful}
-use Rattle.board_lines.specs.declared.event.Edge.{Edge}
-use Rattle.board_lines.specs.Edges.{of_place, last_of, AreInOrder}
-use Rattle.board_lines.specs.Laws.{ArePlaces}
-use Rattle.board_lines.specs.Cadence.{KeepsCadenceTo}
+use Rattle.board_terms.specs.declared.event.Edge.{Edge}
+use Rattle.board_terms.specs.Edges.{of_place, last_of, AreInOrder}
+use Rattle.board_terms.specs.Laws.{ArePlaces}
+use Rattle.board_terms.specs.Cadence.{KeepsCadenceTo}
 use Rattle.link_model.specs.Laws.{RisesFrom, Shows, EdgesShown}
 use Rattle.bits.proofs.Every.{and-left, and-right}
-use Rattle.board_lines.proofs.Shown.{skip, keep}
+use Rattle.board_terms.proofs.Shown.{skip, keep}
 use Rattle.link_model.proofs.Edges.{one, are_at, filter_same, map_by_place, same_by_place, least_or, shown_rises}
 
 -- one or none
@@ -125,7 +125,7 @@ module _ (q : Edge → Bool) where
     at_most : (x : Edge) (xs : List Edge) → length (filter q (x ∷ xs)) ≤ 1 + length (filter q xs)
     at_most x xs = let c = counts q x xs in let d = digit_most (q x) in omega (arith, c, d)
 
-    -- behind the first of them three more at most
+    -- after the first of them three more at most
     three : (a : Edge) (es : List Edge) → base ≤ a.stamp → AreInOrder es → ArePlaces es → IsFifthLater a es → length (filter q es) ≤ 3
     three a [] l r ps t = omega arith
     three a (b ∷ []) l r ps t = let x = at_most b [] in omega (arith, x)

@@ -3,10 +3,10 @@ use Rattle.std.proofs.Common.{arith, [], ◌∷◌, ◌-◌, ◌*◌, ◌≤◌,
 use Rattle.std.specs.Prelude.{All}
 use Rattle.std.specs.List.{filter}
 use Rattle.std.proofs.lemmas.List.Elements.{All-filter, All-map, All-append, All-cons, All-nil}
-use Rattle.board_lines.specs.declared.event.Edge.{Edge}
-use Rattle.board_lines.specs.Edges.{of_place}
-use Rattle.board_lines.specs.declared.event.HostEvent.{HostEvent}
-use Rattle.board_lines.specs.Cadence.{KeepsCadenceTo, IsLast}
+use Rattle.board_terms.specs.declared.event.Edge.{Edge}
+use Rattle.board_terms.specs.Edges.{of_place}
+use Rattle.board_terms.specs.declared.event.HostEvent.{HostEvent}
+use Rattle.board_terms.specs.Cadence.{KeepsCadenceTo, IsLast}
 use Rattle.kbd_model.specs.declared.edge.TickEdge.{TickEdge}
 use Rattle.kbd_model.specs.Layers.{Layers, in_layer, layers_after, layered}
 use Rattle.link_model.specs.TickEdges.{is_seen, by_place, change_of, tick_edges}

@@ -1,8 +1,8 @@
 -- The layers over edges in their order.
 use Rattle.std.proofs.Common.{◌≡◌, ℕ, zero, suc, ◌+◌, ◌<◌, Bool, List, [], ◌∷◌, ◌++◌, length, get_or, take, refl, ap, sym, ◌∙◌, add-one}
 use Rattle.std.proofs.Math.Seq.{take-suc}
-use Rattle.board_lines.specs.declared.event.Edge.{Edge}
-use Rattle.board_lines.specs.declared.event.HostEvent.{HostEvent}
+use Rattle.board_terms.specs.declared.event.Edge.{Edge}
+use Rattle.board_terms.specs.declared.event.HostEvent.{HostEvent}
 use Rattle.layout_reader.specs.Layouts.{KeyLayout, is_fn_place}
 use Rattle.kbd_model.specs.declared.edge.TickEdge.{TickEdge}
 use Rattle.kbd_model.specs.Layers.{Layers, no_layers, in_layer, layers_after, layered, all_layers_after}
@@ -11,7 +11,7 @@ use Rattle.link_model.specs.Machine.{keyboard}
 use Rattle.link_model.specs.Expected.{whole_at}
 
 module _ (is_fn : ℕ → Bool) where
-  -- edges behind others
+  -- edges after others
   pub after-append : (xs ys : List (ℕ × Bool)) (l : Layers)
       → all_layers_after is_fn (xs ++ ys) l ≡ all_layers_after is_fn ys (all_layers_after is_fn xs l)
   after-append [] ys l = refl

@@ -4,7 +4,7 @@ use Rattle.std.proofs.Common.{false, not, ◌&&◌, ◌==◌, refl, ap, sym, ◌
 use Rattle.std.specs.Prelude.{if◌then◌else◌, nat_le, nat_lt}
 use Rattle.std.proofs.lemmas.Bool.Decides.{nat_tests}
 use Rattle.std.proofs.lemmas.Bool.{eqb-true}
-use Rattle.board_lines.specs.declared.event.Edge.{Edge}
+use Rattle.board_terms.specs.declared.event.Edge.{Edge}
 use Rattle.link_model.specs.TickEdges.{none_before, is_least, read_at, by_place, change_at, shown_at, shown}
 use Rattle.link_model.specs.Laws.{SeenOnce}
 use Rattle.bits.proofs.Every.{and-left, and-right}

@@ -3,14 +3,14 @@ use Rattle.std.proofs.Common.{◌≡◌, ℕ, ◌+◌, List, ◌++◌, length, B
 use Rattle.std.specs.Prelude.{if◌then◌else◌, slice_get, nat_lt}
 use Rattle.std.specs.declared.option.Option.{Option}
 use Rattle.pc_tables.specs.declared.item.Item.{Item}
-use Rattle.board_lines.specs.declared.event.HostEvent.{HostEvent}
+use Rattle.board_terms.specs.declared.event.HostEvent.{HostEvent}
 use Rattle.host_turn.specs.declared.desk.Desk.{Desk}
 use Rattle.host_turn.specs.declared.stamped.Stamped.{Stamped}
 use Rattle.host_turn.specs.Cycle.{Cycled, cycled}
 use Rattle.host_turn.specs.Run.{Side, goes_on, stamped}
 use Rattle.byte_time.specs.declared.UnderWay.{UnderWay}
 use Rattle.byte_time.specs.ByteTime.{is_open}
-use Rattle.link_model.specs.Running.{side_of}
+use Rattle.link_model.specs.KeptSide.{side_of}
 use Rattle.link_model.proofs.Stretch.{count_is}
 
 pub cycle_ends : (events : List HostEvent) (now : ℕ) (m : Side UnderWay) (d d' : Desk UnderWay) (n n' : ℕ) (l l' : List Stamped)

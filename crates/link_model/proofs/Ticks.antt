@@ -2,7 +2,7 @@
 use Rattle.std.proofs.Common.{◌≡◌, ℕ, suc, zero, ◌+◌, ◌-◌, ◌/◌, ◌≤◌, ◌<◌, Bool, true, false, min, refl, ap, sym, ◌∙◌, arith}
 use Rattle.std.specs.Prelude.{if◌then◌else◌, nat_le}
 use Rattle.std.proofs.lemmas.Bool.Decides.{nat_tests}
-use Rattle.board_lines.specs.Cadence.{KeepsCadenceTo, begun, tick_of}
+use Rattle.board_terms.specs.Cadence.{KeepsCadenceTo, begun, tick_of}
 
 abbrev digit : Bool → ℕ
 digit b = if b then 1 else 0
@@ -33,8 +33,8 @@ module _ (starts : ℕ → ℕ) (cycle : ℕ) where
         let a = (cadence j (omega (arith, near, l))).most in
         omega (arith, near, l, a)
 
-    behind : (j : ℕ) → suc n ≤ j → j ≤ last → cycle < 4096 + starts j
-    behind j l u =
+    afterwards : (j : ℕ) → suc n ≤ j → j ≤ last → cycle < 4096 + starts j
+    afterwards j l u =
         let a = (cadence j u).least in
         omega (arith, near, l, u, a)
 
@@ -42,7 +42,7 @@ module _ (starts : ℕ → ℕ) (cycle : ℕ) where
     begun_near =
         let z : (last - n) + suc n ≡ suc last = omega (arith, near) in
         let a : begun starts cycle (suc last) ≡ begun starts cycle (suc n) =
-        ap (λ v. begun starts cycle v) (sym z) ∙ none_more (suc n) (last - n) (λ j l u. behind j l (omega (arith, near, u))) in
+        ap (λ v. begun starts cycle v) (sym z) ∙ none_more (suc n) (last - n) (λ j l u. afterwards j l (omega (arith, near, u))) in
         let b : begun starts cycle n ≡ n = all_begun n before in
         a ∙ ap (λ v. v + digit (nat_le (4096 + starts n) cycle)) b
 

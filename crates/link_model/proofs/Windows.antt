@@ -1,4 +1,4 @@
--- The edges before and behind a window aren't seen.
+-- The edges before and after a window aren't seen.
 use Rattle.std.proofs.Common.{◌≡◌, ℕ, suc, zero, ◌+◌, ◌*◌, ◌/◌, ◌≤◌, ◌<◌, List, [], ◌∷◌, ◌++◌, length, map, take, drop, get_or}
 use Rattle.std.proofs.Common.{Bool, true, false, not, ◌&&◌, ◌==◌, Some, refl, ap, sym, ◌∙◌, subst, arith, add-one, ◌-◌}
 use Rattle.std.specs.Prelude.{if◌then◌else◌, nat_le}
@@ -10,12 +10,12 @@ use Rattle.std.proofs.lemmas.List.{take-append-drop, get_or-take, get_or-drop, l
 use Rattle.std.proofs.lemmas.List.{length-drop, append_assoc, append-nil, map-append}
 use Rattle.std.proofs.lemmas.List.Elements.{filter-append}
 use Rattle.std.proofs.Math.Seq.{take-suc}
-use Rattle.board_lines.specs.declared.event.Edge.{Edge}
-use Rattle.board_lines.specs.Edges.{of_place, AreInOrder}
-use Rattle.board_lines.specs.Cadence.{KeepsCadenceTo}
+use Rattle.board_terms.specs.declared.event.Edge.{Edge}
+use Rattle.board_terms.specs.Edges.{of_place, AreInOrder}
+use Rattle.board_terms.specs.Cadence.{KeepsCadenceTo}
 use Rattle.link_model.specs.TickEdges.{is_seen, by_place, change_of, tick_edges}
 use Rattle.link_model.specs.Seeing.{start_before, is_read_from, sees, HasSeen}
-use Rattle.board_lines.proofs.Shown.{skip, keep}
+use Rattle.board_terms.proofs.Shown.{skip, keep}
 use Rattle.link_model.proofs.Edges.{are_at, filter_same, same_by_place}
 use Rattle.link_model.proofs.Few.{seen_so}
 
@@ -59,7 +59,7 @@ module _ (q : Edge → Bool) (p : ℕ) where
   seen_apart xs ys =
       ap (λ v. filter q v) (filter-append (λ (e : Edge). e.place == p) xs ys) ∙ filter-append q (of_place p xs) (of_place p ys)
 
--- the edges before a window were read by the tick before, and those behind it aren't read by this one
+-- the edges before a window were read by the tick before, and those after it aren't read by this one
 module _ (before : Option ℕ) (now : ℕ) (es : List Edge) (lo hi : ℕ) (le : lo ≤ hi) (within : hi ≤ length es)
     (read : (k : ℕ) (d : Edge) → k < lo → is_read_from before (get_or es k d) ≡ true)
     (late : (k : ℕ) (d : Edge) → hi ≤ k → k < length es → nat_le (get_or es k d).stamp (now + 192) ≡ false) where
@@ -70,13 +70,13 @@ module _ (before : Option ℕ) (now : ℕ) (es : List Edge) (lo hi : ℕ) (le : 
   unseen_before : (e : Edge) → is_read_from before e ≡ true → sees before now e ≡ false
   unseen_before e h = and_not (is_read_from (Some now) e) (is_read_from before e) h
 
-  unseen_behind : (p : ℕ) → p < 96 → (e : Edge) → e.place ≡ p → nat_le e.stamp (now + 192) ≡ false → sees before now e ≡ false
-  unseen_behind p l e at h =
-      let n : nat_le e.stamp (now + 16 + 16 * (e.place / 8)) ≡ false = behind e.stamp e.place (subst (λ k. k < 96) (sym at) l) h in
+  unseen_after : (p : ℕ) → p < 96 → (e : Edge) → e.place ≡ p → nat_le e.stamp (now + 192) ≡ false → sees before now e ≡ false
+  unseen_after p l e at h =
+      let n : nat_le e.stamp (now + 16 + 16 * (e.place / 8)) ≡ false = afterwards e.stamp e.place (subst (λ k. k < 96) (sym at) l) h in
       ap (λ c. c && not (is_read_from before e)) n
     where
-      behind : (stamp place : ℕ) → place < 96 → nat_le stamp (now + 192) ≡ false → nat_le stamp (now + 16 + 16 * (place / 8)) ≡ false
-      behind stamp place l h =
+      afterwards : (stamp place : ℕ) → place < 96 → nat_le stamp (now + 192) ≡ false → nat_le stamp (now + 16 + 16 * (place / 8)) ≡ false
+      afterwards stamp place l h =
           let a : now + 192 < stamp = grind (arith, nat_tests, h) in
           let b : now + 16 + 16 * (place / 8) < stamp = omega (arith, a, l) in
           grind (arith, nat_tests, b)
@@ -94,7 +94,7 @@ module _ (before : Option ℕ) (now : ℕ) (es : List Edge) (lo hi : ℕ) (le : 
       get_or-drop (hi - lo) rest k d ∙ get_or-drop lo es (hi - lo + k) d in
       let a = length-drop (hi - lo) rest in
       let b = length-drop lo es in
-      unseen_behind p l (get_or (drop (hi - lo) rest) k d) at
+      unseen_after p l (get_or (drop (hi - lo) rest) k d) at
       (ap (λ (e : Edge). nat_le e.stamp (now + 192)) i ∙ late (lo + (hi - lo + k)) d (omega (arith, le)) (omega (arith, le, a, b, u)))) in
       let cut : filter q (of_place p rest) ≡ filter q (of_place p mid) =
       ap (λ v. filter q (of_place p v)) (sym (take-append-drop (hi - lo) rest)) ∙ seen_apart q p mid (drop (hi - lo) rest)

@@ -1,9 +1,9 @@
--- The expected log: the keyboard by ticks, the controller in byte time, and what they come to.
+-- The expected log: the keyboard by ticks, the controller in byte time, and what they give.
 use Rattle.std.specs.Prelude.{ℕ, ◌+◌, ◌-◌, Bool, List, length, map}
 use Rattle.std.proofs.Common.{zero, suc}
-use Rattle.board_lines.specs.declared.event.Edge.{Edge}
-use Rattle.board_lines.specs.declared.event.HostEvent.{HostEvent}
-use Rattle.board_lines.specs.Cadence.{tick_of, listed}
+use Rattle.board_terms.specs.declared.event.Edge.{Edge}
+use Rattle.board_terms.specs.declared.event.HostEvent.{HostEvent}
+use Rattle.board_terms.specs.Cadence.{tick_of, listed}
 use Rattle.layout_reader.specs.Layouts.{KeyLayout}
 use Rattle.key_file.specs.Histories.{KeyHistory}
 use Rattle.host_turn.specs.declared.stamped.Stamped.{Stamped}

@@ -2,9 +2,9 @@
 use Rattle.std.specs.Prelude.{◌≡◌, ◌≤◌, ◌<◌, ℕ, ◌+◌, ◌==◌, Bool, true, false, List, [], ◌∷◌, length, if◌then◌else◌}
 use Rattle.std.proofs.Common.{suc}
 use Rattle.std.specs.declared.option.Option.{Option}
-use Rattle.board_lines.specs.declared.event.Edge.{Edge}
-use Rattle.board_lines.specs.declared.event.HostEvent.{HostEvent}
-use Rattle.board_lines.specs.Cadence.{KeepsCadenceTo}
+use Rattle.board_terms.specs.declared.event.Edge.{Edge}
+use Rattle.board_terms.specs.declared.event.HostEvent.{HostEvent}
+use Rattle.board_terms.specs.Cadence.{KeepsCadenceTo}
 use Rattle.host_turn.specs.Run.{Side, says_lights}
 use Rattle.byte_time.specs.declared.UnderWay.{UnderWay}
 use Rattle.byte_time.specs.declared.meeting.Meeting.{Meeting}

@@ -2,6 +2,6 @@ pub mod TickEdges
 pub mod Machine
 pub mod Expected
 pub mod Laws
-pub mod Running
+pub mod KeptSide
 pub mod Passing
 pub mod Seeing

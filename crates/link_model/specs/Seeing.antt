@@ -3,8 +3,8 @@ use Rattle.std.specs.Prelude.{◌≡◌, ◌<◌, ℕ, ◌+◌, ◌*◌, ◌/◌
 use Rattle.std.specs.List.{filter}
 use Rattle.std.proofs.Common.{zero, suc}
 use Rattle.std.specs.declared.option.Option.{Option}
-use Rattle.board_lines.specs.declared.event.Edge.{Edge}
-use Rattle.board_lines.specs.Edges.{of_place}
+use Rattle.board_terms.specs.declared.event.Edge.{Edge}
+use Rattle.board_terms.specs.Edges.{of_place}
 
 -- the start of the tick before
 abbrev pub start_before : (ℕ → ℕ) → ℕ → Option ℕ

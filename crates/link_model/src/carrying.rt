@@ -4,7 +4,7 @@ ghost use Rattle.std.specs.Prelude.{◌≡◌};
 ghost use Rattle.byte_time.specs.ByteTime.{arriving as arriving_of};
 
 use crate::running::Running;
-use board_lines::HostEvent;
+use board_terms::HostEvent;
 use byte_time::{Meeting, UnderWay, sent_or_cut};
 use ctl_link::Link;
 use std::alloc::AllocError;

@@ -1,8 +1,8 @@
 //! The expected log.
 
 ghost use Rattle.std.specs.Prelude.{◌≡◌, ◌<◌, ◌-◌, ◌^◌, length, All, IfOk};
-ghost use Rattle.board_lines.specs.Cadence.{IsLast, KeepsCadenceTo, listed};
-ghost use Rattle.board_lines.specs.Edges.{AreInOrder};
+ghost use Rattle.board_terms.specs.Cadence.{IsLast, KeepsCadenceTo, listed};
+ghost use Rattle.board_terms.specs.Edges.{AreInOrder};
 ghost use Rattle.key_file.specs.Accepted.{IsAcceptedFor};
 ghost use Rattle.layout_reader.specs.Layouts.{HasEntry};
 ghost use Rattle.link_model.specs.Expected.{expected, expected_log};
@@ -11,15 +11,15 @@ ghost use Rattle.link_model.specs.Machine.{keyboard};
 use crate::line::LogLine;
 use crate::lines::{FIRST_STAMP, log_lines};
 use crate::whole::Together;
-use board_lines::{Edge, HostEvent};
+use board_terms::{Edge, HostEvent};
 use key_file::History;
 use layout_reader::Layout;
 use std::alloc::{AllocError, Global};
 
-/// The log that a layout and a history come to, if the ticks have these starts: what the port, INT 09h, the lights
+/// The log that a layout and a history give, if the ticks have these starts: what the port, INT 09h, the lights
 /// and the controller's outputs say, each with its tick. The starts are stamps in cycles. They keep the cadence, and
 /// the last of them is the first at or after the history's end; items before it are in the log. Only memory may be
-/// wanting.
+/// lacking.
 pub fn expect(
     alloc: Global,
     layout: &Layout,

@@ -18,7 +18,7 @@ pub fn layers_follow()
     ensures layers { LayersFollow }
 {}
 
-/// What the spans of a tick come to is what each of its cycles does: the lights, what comes over the link, the host,
+/// What the spans of a tick do is what each of its cycles does: the lights, what comes over the link, the host,
 /// the controller.
 pub fn cycle_by_cycle()
     ensures cycles { CycleByCycle }

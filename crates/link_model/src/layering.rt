@@ -1,6 +1,6 @@
 //! The two layers over a run: which one an edge belongs to.
 
-use board_lines::Place;
+use board_terms::Place;
 use kbd_model::TickEdge;
 use layout_reader::Layout;
 use std::alloc::{AllocError, Global};

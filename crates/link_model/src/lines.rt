@@ -1,7 +1,7 @@
 //! The log's lines.
 
 ghost use Rattle.std.specs.Prelude.{◌≡◌, ◌<◌, ◌≤◌, ◌-◌, ◌/◌, ◌^◌, min, length, IfOk};
-ghost use Rattle.board_lines.specs.Cadence.{KeepsCadenceTo, listed, tick_of};
+ghost use Rattle.board_terms.specs.Cadence.{KeepsCadenceTo, listed, tick_of};
 ghost use Rattle.link_model.specs.Expected.{lines as lines_of};
 
 use crate::line::LogLine;

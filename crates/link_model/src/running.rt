@@ -4,7 +4,7 @@ ghost use Rattle.std.specs.Prelude.{◌≡◌, ◌+◌, ◌++◌, ◌&&◌, nat_
 ghost use Rattle.host_turn.specs.Run.{stamped};
 
 use arrayvec::ArrayVec;
-use board_lines::HostEvent;
+use board_terms::HostEvent;
 use byte_time::UnderWay;
 use ctl_link::Link;
 use host_turn::{Desk, Stamped};
@@ -27,7 +27,7 @@ impl Model for Running {
     ghost use Rattle.ctl_link.specs.Empty.{IsEmptyUnlessHeld};
     ghost use Rattle.host_turn.specs.Run.{Side};
     ghost use Rattle.byte_time.specs.declared.UnderWay.{UnderWay as UnderWayOf};
-    ghost use Rattle.link_model.specs.Running.{side_of};
+    ghost use Rattle.link_model.specs.KeptSide.{side_of};
 
     ghost Value = { Side UnderWayOf };
 

@@ -5,14 +5,14 @@ ghost use Rattle.std.specs.Prelude.{length, map, slice_index_or, IfOk, if◌then
 ghost use Rattle.std.specs.List.{filter};
 ghost use Rattle.std.specs.List.Sorted.{IsPartitionPoint};
 ghost use Rattle.std.specs.Option.{ForSome};
-ghost use Rattle.board_lines.specs.declared.event.Edge.{Edge as EdgeOf};
-ghost use Rattle.board_lines.specs.Edges.{of_place, AreInOrder};
-ghost use Rattle.board_lines.specs.Cadence.{KeepsCadenceTo, listed};
+ghost use Rattle.board_terms.specs.declared.event.Edge.{Edge as EdgeOf};
+ghost use Rattle.board_terms.specs.Edges.{of_place, AreInOrder};
+ghost use Rattle.board_terms.specs.Cadence.{KeepsCadenceTo, listed};
 ghost use Rattle.link_model.specs.TickEdges.{by_place, change_of, tick_edges as tick_edges_of};
 ghost use Rattle.link_model.specs.Seeing.{start_before as start_before_of, is_read_from as is_read_from_start};
 ghost use Rattle.link_model.specs.Seeing.{sees as sees_edge, HasSeen};
 
-use board_lines::{Edge, Place};
+use board_terms::{Edge, Place};
 use std::alloc::{AllocError, Global};
 
 /// The places of the matrix.

@@ -6,8 +6,8 @@ use Rattle.std.specs.List.{filter}
 use Rattle.std.proofs.lemmas.Bool.Decides.{nat_tests}
 use Rattle.std.proofs.lemmas.Bool.{eqb-true}
 use Rattle.std.proofs.lemmas.List.Elements.{Contains-append_left, Contains-append_right}
-use Rattle.board_lines.specs.Edges.{of_place}
-use Rattle.board_lines.specs.declared.event.Edge.{Edge}
+use Rattle.board_terms.specs.Edges.{of_place}
+use Rattle.board_terms.specs.declared.event.Edge.{Edge}
 use Rattle.kbd_model.specs.Layers.{Layers, in_layer, layer_of, layered, layers_after}
 use Rattle.key_file.specs.Histories.{KeyHistory}
 use Rattle.layout_reader.specs.Layouts.{KeyLayout, is_fn_place}

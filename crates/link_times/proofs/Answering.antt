@@ -1,4 +1,4 @@
--- A byte from the system: its one reply, and which key still repeats behind it.
+-- A byte from the system: its one reply, and which key still repeats after it.
 use Rattle.std.proofs.Common.{◌≡◌, ◌≤◌, ℕ, ◌%◌, ◌==◌, true, false, not, ◌&&◌, [], ◌∷◌, None, refl, ap, sym, ◌∙◌, arith}
 use Rattle.std.specs.Prelude.{if◌then◌else◌, nat_lt, nat_le}
 use Rattle.std.proofs.lemmas.Bool.Decides.{nat_tests}

@@ -5,9 +5,9 @@ use Rattle.std.specs.Prelude.{if◌then◌else◌, is_some}
 use Rattle.ctl_core.specs.Commands.{taken}
 use Rattle.ctl_core.specs.Controller.{is_disabled}
 use Rattle.ctl_link.specs.declared.link.Link.TheVariants.{Hold, Busy}
-use Rattle.ctl_link.specs.declared.port.Port.{Port}
+use Rattle.ctl_link.specs.declared.port.LinkEnd.{LinkEnd}
 use Rattle.ctl_link.specs.Link.{begun, broken_off, held_since, link_after, may_break, settled, takes_input, took_where}
-use Rattle.board_lines.specs.declared.event.HostEvent.{HostEvent}
+use Rattle.board_terms.specs.declared.event.HostEvent.{HostEvent}
 use Rattle.host_turn.specs.Cycle.{port_by}
 use Rattle.host_turn.specs.Run.{Side, goes_on}
 use Rattle.host_turn.proofs.Turns.{turn_of}
@@ -21,23 +21,23 @@ three true true = refl
 three true false = refl
 three false b = refl
 
-unbroken_by : (now : ℕ) (p : Port UnderWay) → is_some p.core.input ≡ false → broken_off is_open now p ≡ p
+unbroken_by : (now : ℕ) (p : LinkEnd UnderWay) → is_some p.core.input ≡ false → broken_off is_open now p ≡ p
 unbroken_by now p e =
     ap (λ c. if may_break is_open p.link && not p.awaits && c then record p { link = Hold now } else p) e
     ∙ ap (λ c. if c then record p { link = Hold now } else p) (three (may_break is_open p.link) (not p.awaits))
 
-unbroken_closed : (now : ℕ) (p : Port UnderWay) (u : UnderWay) → p.link ≡ Busy u → u.breakable ≡ false
+unbroken_closed : (now : ℕ) (p : LinkEnd UnderWay) (u : UnderWay) → p.link ≡ Busy u → u.breakable ≡ false
     → broken_off is_open now p ≡ p
 unbroken_closed now p u e c =
     ap (λ l. if may_break is_open l && not p.awaits && is_some p.core.input then record p { link = Hold now } else p) e
     ∙ ap (λ v. if v && not p.awaits && is_some p.core.input then record p { link = Hold now } else p) c
 
 -- and the controller settles without it
-settles : (now : ℕ) (p : Port UnderWay) (u : UnderWay) → p.link ≡ Busy u → (settled now p).port.link ≡ Busy u
+settles : (now : ℕ) (p : LinkEnd UnderWay) (u : UnderWay) → p.link ≡ Busy u → (settled now p).port.link ≡ Busy u
 settles now p u e =
     let t : (takes_input now p).port ≡ p =
     ap (λ l. (took_where now (held_since now p.awaits l) (if p.core.output_full then None else taken p.core) p).port) e in
-    ap (λ (v : Port UnderWay).
+    ap (λ (v : LinkEnd UnderWay).
     link_after now (v.core.output_full || is_disabled v.core) v.awaits v.link) t
     ∙ ap (λ l. link_after now (p.core.output_full || is_disabled p.core) p.awaits l) e
 
@@ -47,7 +47,7 @@ module _ (events : List HostEvent) where
       → (byte_cycle events now Quiet m).port.link ≡ Busy u
   unfolding byte_cycle goes_on
   keeps now m u e w =
-      let q : Port UnderWay = port_by (turn_of events now m) m.port in
+      let q : LinkEnd UnderWay = port_by (turn_of events now m) m.port in
       ap (λ v. (settled now v).port.link) (unbroken_by now q w) ∙ settles now q u e
 
   -- a cycle of a byte that can't be broken off
@@ -55,8 +55,8 @@ module _ (events : List HostEvent) where
       → u.breakable ≡ false → (byte_cycle events now e m).port.link ≡ Busy u
   unfolding byte_cycle goes_on
   keeps_closed now e m u l c =
-      let p : Port UnderWay = happened_at now e m.port in
-      let q : Port UnderWay = port_by (turn_of events now (record m { port = p })) p in
+      let p : LinkEnd UnderWay = happened_at now e m.port in
+      let q : LinkEnd UnderWay = port_by (turn_of events now (record m { port = p })) p in
       ap (λ v. (settled now v).port.link) (unbroken_closed now q u l c) ∙ settles now q u l
 
   closed_span : (n now : ℕ) (m : Side UnderWay) (u : UnderWay) → m.port.link ≡ Busy u → u.breakable ≡ false

@@ -6,9 +6,9 @@ use Rattle.std.specs.List.{flat_map}
 use Rattle.std.specs.declared.option.Option.{Option}
 use Rattle.std.proofs.lemmas.Grind.{flat_map-append}
 use Rattle.std.proofs.lemmas.List.Folds.{flat_map-map}
-use Rattle.board_lines.specs.declared.event.HostAct.{HostAct}
-use Rattle.board_lines.specs.declared.event.HostAct.TheVariants.{Write60, Write64, Read60, Mask, Unmask, Take, Flip, Status as AskStatus}
-use Rattle.board_lines.specs.declared.event.HostEvent.{HostEvent}
+use Rattle.board_terms.specs.declared.event.HostAct.{HostAct}
+use Rattle.board_terms.specs.declared.event.HostAct.TheVariants.{Write60, Write64, Read60, Mask, Unmask, Take, Flip, Status as AskStatus}
+use Rattle.board_terms.specs.declared.event.HostEvent.{HostEvent}
 use Rattle.ctl_core.specs.Controller.{ControllerState, interrupt_enabled, is_disabled}
 use Rattle.ctl_core.specs.Commands.{Taken, passed, taken_by, taken_from}
 use Rattle.ctl_core.specs.declared.command.Parameter.{Parameter}
@@ -19,7 +19,7 @@ use Rattle.bits.specs.Bits.{without_bit}
 use Rattle.ctl_core.specs.declared.port.Input.{Input}
 use Rattle.ctl_link.specs.declared.link.Link.{Link}
 use Rattle.ctl_link.specs.declared.link.Link.TheVariants.{Free, Hold, Ask, Request, Busy}
-use Rattle.ctl_link.specs.declared.port.Port.{Port}
+use Rattle.ctl_link.specs.declared.port.LinkEnd.{LinkEnd}
 use Rattle.ctl_link.specs.Link.{broken_off, held_since, link_after, may_break, moves_link, settled, takes_input, took_where}
 use Rattle.ctl_link.specs.Link.{Settled, asking}
 use Rattle.host_turn.specs.declared.desk.Desk.{Desk}
@@ -75,7 +75,7 @@ pub record IsPlain (mark : Bool) (c : ControllerState) : Type 0 where
   pub mark_is : c.break_mark ≡ mark
 
 -- the port so
-pub record IsSound (mark : Bool) (p : Port UnderWay) : Type 0 where
+pub record IsSound (mark : Bool) (p : LinkEnd UnderWay) : Type 0 where
   pub plain : IsPlain mark p.core
   pub flip : p.flip ≡ None
   pub empty : IsEmptyBut p.link p.core.output_full
@@ -162,13 +162,13 @@ turns now filled next h l =
     }
 
 -- what the controller does by itself
-record Settles (mark : Bool) (p q : Port UnderWay) (said : List Item) : Type 0 where
+record Settles (mark : Bool) (p q : LinkEnd UnderWay) (said : List Item) : Type 0 where
   sound : IsSound mark q
   full : q.core.output_full ≡ p.core.output_full
   output : q.core.output ≡ p.core.output
   none : ports said ≡ []
 
-breaks : (mark : Bool) (b : Bool) (now : ℕ) (p : Port UnderWay) → IsSound mark p
+breaks : (mark : Bool) (b : Bool) (now : ℕ) (p : LinkEnd UnderWay) → IsSound mark p
     → Settles mark p (if b then record p { link = Hold now } else p) []
 breaks mark true now p s = record {
   sound = record { plain = s.plain; flip = s.flip; empty = tt; unflipped = tt };
@@ -218,7 +218,7 @@ stays_unflipped now stop awaits (Ask byte since) u = none_asked byte since (nat_
 stays_unflipped now stop awaits (Request byte) u = tt
 stays_unflipped now stop awaits (Busy under_way) u = u
 
-moves : (mark : Bool) (now : ℕ) (p : Port UnderWay) → IsSound mark p → Settles mark p (moves_link now p) []
+moves : (mark : Bool) (now : ℕ) (p : LinkEnd UnderWay) → IsSound mark p → Settles mark p (moves_link now p) []
 moves mark now p s = record {
   sound = record {
     plain = s.plain;
@@ -259,7 +259,7 @@ taken_so : (port : InputPort) (byte : ℕ) (s : ControllerState) → port ≡ P6
 taken_so P60 byte s e a = passes s.awaited byte (record s { input = None; awaited = None }) a
 taken_so P64 byte s e a = absurd cc
 
-takes : (mark : Bool) (now : ℕ) (held : Option ℕ) (full : Bool) (input : Option Input) (p : Port UnderWay)
+takes : (mark : Bool) (now : ℕ) (held : Option ℕ) (full : Bool) (input : Option Input) (p : LinkEnd UnderWay)
     → p.core.output_full ≡ full → p.core.input ≡ input → IsSound mark p
     → (let q : Settled UnderWay = took_where now held (if full then None else taken_from input p.core) p in
     Settles mark p q.port (said_of q.did))
@@ -287,7 +287,7 @@ takes mark now (Some since) false (Some input) p f i s =
       none = ap (λ d. ports (said_of d)) h.did;
     }
 
-settles : (mark : Bool) (now : ℕ) (p : Port UnderWay) → IsSound mark p
+settles : (mark : Bool) (now : ℕ) (p : LinkEnd UnderWay) → IsSound mark p
     → Settles mark p (settled now p).port (said_of (settled now p).did)
 settles mark now p s =
     let a = takes mark now (held_since now p.awaits p.link) p.core.output_full p.core.input p refl refl s in
@@ -310,7 +310,7 @@ cycles : (mark : Bool) (now : ℕ) (next : Option HostEvent) (d : Desk UnderWay)
 cycles mark now next d l s =
     let t : Turn = turn now d.port.filled next (host_of d) in
     let h = turns now d.port.filled next (host_of d) l in
-    let p : Port UnderWay = port_by t d.port in
+    let p : LinkEnd UnderWay = port_by t d.port in
     let sound : IsSound mark p = record {
       plain = h.plain mark s.plain;
       flip = h.flip ∙ s.flip;
@@ -318,7 +318,7 @@ cycles mark now next d l s =
       unflipped = s.unflipped;
     } in
     let b = breaks mark (may_break is_open p.link && not p.awaits && is_some p.core.input) now p sound in
-    let q : Port UnderWay = broken_off is_open now p in
+    let q : LinkEnd UnderWay = broken_off is_open now p in
     let e = settles mark now q b.sound in
     let said : List Item = said_of (settled now q).did in
     let last : ControllerState = (settled now q).port.core in

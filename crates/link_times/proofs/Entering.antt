@@ -11,7 +11,7 @@ use Rattle.kbd_model.specs.Laws.{Enters, let_in}
 use Rattle.kbd_model.specs.Once.{byte_if, queued}
 use Rattle.kbd_model.specs.Queue.{KeyQueue, enter}
 use Rattle.kbd_model.specs.Tick.{is_scanning, repeated, repeated_if, edge_if, edges_if}
-use Rattle.link_times.specs.Coming.{code_of, codes_of, repeat_code, told, added}
+use Rattle.link_times.specs.Coming.{code_of, codes_of, repeat_code, overrun_mark, added}
 
 -- the queue after codes
 abbrev pub entered : List (List ℕ) → KeyQueue → KeyQueue
@@ -42,7 +42,7 @@ queue_adds (code ∷ codes) q =
     queue_adds codes (enter code q)
     ∙ ap (λ v. v ++ added codes (enter code q))
     (one_by code q q.overrun (nat_lt 16 (length q.bytes + length code)) refl)
-    ∙ append_assoc (queued q) (let_in (Enters code) q ++ told code q) (added codes (enter code q))
+    ∙ append_assoc (queued q) (let_in (Enters code) q ++ overrun_mark code q) (added codes (enter code q))
 
 -- steps in which codes enter the queue, and that change neither reply, AA, test, nor whether scanning is on
 pub record Enter' (codes : List (List ℕ)) (before after : Keyboard) : Type 0 where

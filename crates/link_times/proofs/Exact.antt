@@ -26,8 +26,8 @@ use Rattle.link_times.proofs.Repeating.{scans_rate, scans_repeat}
 use Rattle.link_times.proofs.Answering.{Answers, answers}
 
 -- which key repeats then
-abbrev pub repeats_behind : Keys → List TickEdge → Meeting → Keyboard → Keyboard → Option Repeat
-repeats_behind keys edges meeting k after =
+abbrev pub repeats_after : Keys → List TickEdge → Meeting → Keyboard → Keyboard → Option Repeat
+repeats_after keys edges meeting k after =
     if is_scanning after
     then repeats_then keys after.rate edges (waits_less after.rate (repeats_still meeting k))
     else None
@@ -40,15 +40,15 @@ pub record Comes (keys : Keys) (edges : List TickEdge) (meeting : Meeting) (k af
   pub test : after.test ≡ test_left meeting k
   pub queue : after.queue
       ≡ entered (tick_codes keys meeting edges k (is_scanning after)) (queue_left meeting k)
-  pub repeats : after.repeats ≡ repeats_behind keys edges meeting k after
+  pub repeats : after.repeats ≡ repeats_after keys edges meeting k after
 
--- the meeting: the queue behind it, the key that repeats, and the test
+-- the meeting: the queue after it, the key that repeats, and the test
 record Meets (keys : Keys) (meeting : Meeting) (k : Keyboard) : Type 0 where
   queue : (met (met_as meeting) keys k).queue ≡ queue_left meeting k
   repeats : (met (met_as meeting) keys k).repeats ≡ repeats_still meeting k
 
--- behind its meeting a tick does this, where the test had ended
-record Behind (keys : Keys) (edges : List TickEdge) (meeting : Meeting) (k after : Keyboard) : Type 0 where
+-- after its meeting a tick does this, where the test had ended
+record Afterwards (keys : Keys) (edges : List TickEdge) (meeting : Meeting) (k after : Keyboard) : Type 0 where
   waits : waiting after ≡ waiting (met (met_as meeting) keys k)
       ++ added (tick_codes keys meeting edges k (is_scanning after)) (queue_left meeting k)
   reply : after.reply ≡ (met (met_as meeting) keys k).reply
@@ -56,13 +56,13 @@ record Behind (keys : Keys) (edges : List TickEdge) (meeting : Meeting) (k after
   test : after.test ≡ (met (met_as meeting) keys k).test
   queue : after.queue
       ≡ entered (tick_codes keys meeting edges k (is_scanning after)) (queue_left meeting k)
-  repeats : after.repeats ≡ repeats_behind keys edges meeting k after
+  repeats : after.repeats ≡ repeats_after keys edges meeting k after
 
 module _ (keys : Keys) (edges : List TickEdge) (k : Keyboard) where
   abbrev after : Meeting → Keyboard
   after meeting = ticked keys (met_as meeting) edges k
 
-  -- what the codes of the tick add, by the state behind step 3
+  -- what the codes of the tick add, by the state after step 3
   codes_are : (meeting : Meeting) (b : Keyboard) → b.repeats ≡ repeats_still meeting k
       → is_scanning (after meeting) ≡ is_scanning b
       → tick_codes keys meeting edges k (is_scanning (after meeting))
@@ -77,7 +77,7 @@ module _ (keys : Keys) (edges : List TickEdge) (k : Keyboard) where
       ++ codes_of keys edges
       else []) (sym r)
 
-  -- steps 4 and 5 from a state behind step 3, whose queue and repeat are known
+  -- steps 4 and 5 from a state after step 3, whose queue and repeat are known
   queue_then : (meeting : Meeting) (b : Keyboard) → b.queue ≡ queue_left meeting k → b.repeats ≡ repeats_still meeting k
       → after meeting ≡ scanned keys (is_inhibited (met_as meeting)) edges b
       → (queued (after meeting).queue
@@ -86,7 +86,7 @@ module _ (keys : Keys) (edges : List TickEdge) (k : Keyboard) where
       × ((after meeting).reply ≡ b.reply) × ((after meeting).aa_due ≡ b.aa_due) × ((after meeting).test ≡ b.test)
       × ((after meeting).queue
       ≡ entered (tick_codes keys meeting edges k (is_scanning (after meeting))) (queue_left meeting k))
-      × ((after meeting).repeats ≡ repeats_behind keys edges meeting k (after meeting))
+      × ((after meeting).repeats ≡ repeats_after keys edges meeting k (after meeting))
   queue_then meeting b q r e =
       let inhibited : Bool = is_inhibited (met_as meeting) in
       let s = scans_enter (is_scanning b) keys inhibited edges b in
@@ -117,8 +117,8 @@ module _ (keys : Keys) (edges : List TickEdge) (k : Keyboard) where
       )
 
   -- where the test had ended, step 3 does nothing
-  behind : (meeting : Meeting) → k.test ≡ 0 → Meets keys meeting k → Behind keys edges meeting k (after meeting)
-  behind meeting t m =
+  afterwards : (meeting : Meeting) → k.test ≡ 0 → Meets keys meeting k → Afterwards keys edges meeting k (after meeting)
+  afterwards meeting t m =
       let a : Keyboard = met (met_as meeting) keys k in
       let z : tested_if (not (k.test == 0)) a ≡ a = ap (λ v. tested_if (not (v == 0)) a) t in
       let e : after meeting ≡ scanned keys (is_inhibited (met_as meeting)) edges a =
@@ -141,9 +141,9 @@ module _ (keys : Keys) (edges : List TickEdge) (k : Keyboard) where
 
   -- nothing passes, and the test had ended
   unchanged : (meeting : Meeting) → k.test ≡ 0 → met (met_as meeting) keys k ≡ k → queue_left meeting k ≡ k.queue
-      → repeats_still meeting k ≡ k.repeats → Behind keys edges meeting k (after meeting)
+      → repeats_still meeting k ≡ k.repeats → Afterwards keys edges meeting k (after meeting)
   unchanged meeting t e q r =
-      behind meeting t
+      afterwards meeting t
       (record {
         queue = ap (λ (v : Keyboard). v.queue) e ∙ sym q;
         repeats = ap (λ (v : Keyboard). v.repeats) e ∙ sym r;
@@ -168,7 +168,7 @@ module _ (keys : Keys) (edges : List TickEdge) (k : Keyboard) where
       let a : Keyboard = met (kbd.Got byte true) keys k in
       let g : GotKeeps keys byte true k = got_leaves keys byte true k in
       let n : Answers k.mode byte k a = answers keys byte k.mode k in
-      let h = behind (Got byte) t (record { queue = g.queue; repeats = n.repeats }) in
+      let h = afterwards (Got byte) t (record { queue = g.queue; repeats = n.repeats }) in
       let more : List ℕ =
       added (tick_codes keys (Got byte) edges k (is_scanning (after (Got byte)))) (queue_left (Got byte) k) in
       record {
@@ -188,7 +188,7 @@ module _ (keys : Keys) (edges : List TickEdge) (k : Keyboard) where
       let k' : Keyboard = record k { last = if byte == 0xfe then k.last else byte } in
       let s : met kbd.Sent keys k ≡ without_offered k.reply keys k' = ap (λ v. sent_byte v keys k) o in
       let h =
-      behind (Sent byte) t
+      afterwards (Sent byte) t
       (record {
         queue = ap (λ (v : Keyboard). v.queue) s ∙ gone_queue k.reply k.aa_due keys k' refl refl;
         repeats = ap (λ (v : Keyboard). v.repeats) s ∙ gone_repeats k.reply keys k';
@@ -229,21 +229,21 @@ module _ (keys : Keys) (edges : List TickEdge) (k : Keyboard) where
         waits = ap (λ v. reply_bytes v ++ (byte_if (after Idle).aa_due 0xaa ++ queued (after Idle).queue)) reply
             ∙ ap (λ v. reply_bytes k.reply ++ (byte_if v 0xaa ++ queued (after Idle).queue)) aa
             ∙ ap (λ v. reply_bytes k.reply ++ (byte_if (if k.test == 1 then true else k.aa_due) 0xaa ++ v)) h.0
-            ∙ stand more silent;
+            ∙ hold_on more silent;
         test = h.3 ∙ tested_test k;
         queue = h.4;
         repeats = h.5;
       }
     where
-      stand : (more : List ℕ) → IsSilentInTest k
+      hold_on : (more : List ℕ) → IsSilentInTest k
           → reply_bytes k.reply ++ (byte_if (if k.test == 1 then true else k.aa_due) 0xaa ++ (queued k.queue ++ more))
           ≡ byte_if ((k.test == 1) && not k.aa_due) 0xaa ++ (waiting k ++ more)
-      stand more (inl t) =
+      hold_on more (inl t) =
           let z : (k.test == 1) ≡ false = grind (arith, nat_tests, t) in
           ap (λ c. reply_bytes k.reply ++ (byte_if (if c then true else k.aa_due) 0xaa ++ (queued k.queue ++ more))) z
           ∙ waits_more (reply_bytes k.reply) (byte_if k.aa_due 0xaa) (queued k.queue) more
           ∙ ap (λ c. byte_if (c && not k.aa_due) 0xaa ++ (waiting k ++ more)) (sym z)
-      stand more (inr r) =
+      hold_on more (inr r) =
           ap (λ v. reply_bytes v ++ (byte_if (if k.test == 1 then true else k.aa_due) 0xaa ++ (queued k.queue ++ more))) r
           ∙ aa_first (k.test == 1) k.aa_due (queued k.queue) more
           ∙ ap (λ v. byte_if ((k.test == 1) && not k.aa_due) 0xaa

@@ -10,10 +10,10 @@ use Rattle.ctl_core.specs.declared.controller.Did.{Did}
 use Rattle.ctl_core.specs.declared.controller.Did.TheVariants.{Nothing, ToKeyboard, Output, Pulse}
 use Rattle.ctl_link.specs.declared.link.Link.{Link}
 use Rattle.ctl_link.specs.declared.link.Link.TheVariants.{Free, Hold, Ask, Request, Busy}
-use Rattle.ctl_link.specs.declared.port.Port.{Port}
-use Rattle.ctl_link.specs.Link.{asking, broken_off, held_since, is_busy, link_after, link_behind, settled, takes_input, took_where}
+use Rattle.ctl_link.specs.declared.port.LinkEnd.{LinkEnd}
+use Rattle.ctl_link.specs.Link.{asking, broken_off, held_since, is_busy, link_after, next_link, settled, takes_input, took_where}
 use Rattle.ctl_link.proofs.Breaks.{unbroken}
-use Rattle.board_lines.specs.declared.event.HostEvent.{HostEvent}
+use Rattle.board_terms.specs.declared.event.HostEvent.{HostEvent}
 use Rattle.host_turn.specs.Cycle.{port_by}
 use Rattle.host_turn.specs.Run.{Side, goes_on}
 use Rattle.host_turn.proofs.Turns.{turn_of}
@@ -58,24 +58,24 @@ fits_by now full disabled awaits (Ask byte since) =
 fits_by now full disabled awaits (Request byte) = tt
 fits_by now full disabled awaits (Busy u) = tt
 
-abbrev pub FitsIn : ℕ → Port UnderWay → Type 0
+abbrev pub FitsIn : ℕ → LinkEnd UnderWay → Type 0
 FitsIn now p = Fits now p.core.output_full (is_disabled p.core) p.link
 
 module _ (events : List HostEvent) where
   -- the controller before it settles
-  abbrev before_settling : ℕ → Event → Side UnderWay → Port UnderWay
+  abbrev before_settling : ℕ → Event → Side UnderWay → LinkEnd UnderWay
   before_settling now e m =
-      let p : Port UnderWay = happened_at now e m.port in
+      let p : LinkEnd UnderWay = happened_at now e m.port in
       broken_off is_open now (port_by (turn_of events now (record m { port = p })) p)
 
-  abbrev took_in : ℕ → Event → Side UnderWay → Port UnderWay
+  abbrev took_in : ℕ → Event → Side UnderWay → LinkEnd UnderWay
   took_in now e m = (takes_input now (before_settling now e m)).port
 
   -- a cycle
   fits_cycle : (now : ℕ) (e : Event) (m : Side UnderWay) → FitsIn now (byte_cycle events now e m).port
   unfolding byte_cycle goes_on
   fits_cycle now e m =
-      let t : Port UnderWay = took_in now e m in
+      let t : LinkEnd UnderWay = took_in now e m in
       fits_by now t.core.output_full (is_disabled t.core) t.awaits t.link
 
   -- so it is after some
@@ -99,7 +99,7 @@ module _ (events : List HostEvent) where
   asking_idle since (Output byte) l h = h
   asking_idle since (Pulse lines) l h = h
 
-  where_idle : (now : ℕ) (since : Option ℕ) (input : Option Taken) (p : Port UnderWay) → is_busy p.link ≡ false
+  where_idle : (now : ℕ) (since : Option ℕ) (input : Option Taken) (p : LinkEnd UnderWay) → is_busy p.link ≡ false
       → is_busy (took_where now since input p).port.link ≡ false
   where_idle now None input p h = h
   where_idle now (Some since) None p h = h
@@ -117,9 +117,9 @@ module _ (events : List HostEvent) where
   after_idle now stop awaits (Request byte) h = refl
   after_idle now stop awaits (Busy x) h = h
 
-  settled_idle : (now : ℕ) (p : Port UnderWay) → is_busy p.link ≡ false → is_busy (settled now p).port.link ≡ false
+  settled_idle : (now : ℕ) (p : LinkEnd UnderWay) → is_busy p.link ≡ false → is_busy (settled now p).port.link ≡ false
   settled_idle now p h =
-      let t : Port UnderWay = (takes_input now p).port in
+      let t : LinkEnd UnderWay = (takes_input now p).port in
       after_idle now (t.core.output_full || is_disabled t.core) t.awaits t.link
       (where_idle now (held_since now p.awaits p.link) (if p.core.output_full then None else taken p.core) p h)
 
@@ -128,8 +128,8 @@ module _ (events : List HostEvent) where
       → is_busy (byte_cycle events now e m).port.link ≡ false
   unfolding byte_cycle goes_on
   idle_cycle now e m h =
-      let p : Port UnderWay = happened_at now e m.port in
-      let q : Port UnderWay = port_by (turn_of events now (record m { port = p })) p in
+      let p : LinkEnd UnderWay = happened_at now e m.port in
+      let q : LinkEnd UnderWay = port_by (turn_of events now (record m { port = p })) p in
       ap (λ v. is_busy (settled now v).port.link) (unbroken is_open now q h) ∙ settled_idle now q h
 
   pub idle_span : (n now : ℕ) (m : Side UnderWay) → is_busy m.port.link ≡ false
@@ -139,19 +139,19 @@ module _ (events : List HostEvent) where
       idle_span n (suc now) (byte_cycle events now Quiet m) (idle_cycle now Quiet m h)
 
   -- where a byte arrives none is under way any more
-  behind_idle : (now : ℕ) (byte : Option ℕ) (s : ControllerState) → is_busy (link_behind {F = UnderWay} now byte s) ≡ false
-  behind_idle now (Some byte) s = refl
-  behind_idle now None s = either_busy (asks_again s) (Ask 0xfe now) (Hold now) refl refl
+  afterwards_idle : (now : ℕ) (byte : Option ℕ) (s : ControllerState) → is_busy (next_link {F = UnderWay} now byte s) ≡ false
+  afterwards_idle now (Some byte) s = refl
+  afterwards_idle now None s = either_busy (asks_again s) (Ask 0xfe now) (Hold now) refl refl
 
-  arrived_idle : (now byte : ℕ) (l : Link UnderWay) (p : Port UnderWay) → p.link ≡ l
+  arrived_idle : (now byte : ℕ) (l : Link UnderWay) (p : LinkEnd UnderWay) → p.link ≡ l
       → is_busy (arrived_in now byte l p).link ≡ false
   arrived_idle now byte Free p e = ap is_busy e
   arrived_idle now byte (Hold since) p e = ap is_busy e
   arrived_idle now byte (Ask b since) p e = ap is_busy e
   arrived_idle now byte (Request b) p e = ap is_busy e
-  arrived_idle now byte (Busy u) p e = behind_idle now (arriving u.flip byte) p.core
+  arrived_idle now byte (Busy u) p e = afterwards_idle now (arriving u.flip byte) p.core
 
-  -- so behind the byte of a tick
+  -- so after the byte of a tick
   pub idle_carried : (begins : Meeting) (now : ℕ) (m : Side UnderWay) → is_busy m.port.link ≡ false
       → is_busy (carried events begins now m).port.link ≡ false
   idle_carried (Got byte) now m h =

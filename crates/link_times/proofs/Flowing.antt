@@ -18,11 +18,11 @@ use Rattle.key_file.specs.Histories.{KeyHistory}
 use Rattle.layout_reader.specs.Layouts.{KeyLayout}
 use Rattle.link_model.specs.Machine.{met_as}
 use Rattle.quiet_log.specs.Once.{left, meeting_at}
-use Rattle.link_times.specs.Coming.{comes_first, keyboard_at, edges_at, behind_at}
+use Rattle.link_times.specs.Coming.{comes_first, keyboard_at, edges_at, after_at}
 use Rattle.link_times.specs.Flowing.{Sends}
 use Rattle.link_times.proofs.Twice.{comes_exactly}
 
--- what stands in a list stands there where more is behind it
+-- what is in a list is there where more is after it
 pub get_more : (xs more : List ℕ) (i x : ℕ) → slice_get xs i ≡ Some x → slice_get (xs ++ more) i ≡ Some x
 get_more [] more i x e = absurd cc
 get_more (y ∷ ys) more zero x e = e
@@ -33,7 +33,7 @@ get_dropped : (xs more : List ℕ) (i x : ℕ) → slice_get xs (suc i) ≡ Some
 get_dropped [] more i x e = absurd cc
 get_dropped (y ∷ ys) more i x e = get_more ys more i x e
 
--- where a byte stands further on there is a first
+-- where a byte is further on there is a first
 first_byte : (xs : List ℕ) (i x : ℕ) → slice_get xs i ≡ Some x → (b : ℕ) × (slice_get xs 0 ≡ Some b)
 first_byte [] i x e = absurd cc
 first_byte (y ∷ ys) i x e = (y, refl)
@@ -53,23 +53,23 @@ sent_reply keys k byte o =
     ∙ gone_reply k.reply keys (record k { last = if byte == 0xfe then k.last else byte }) refl
 
 module _ (layout : KeyLayout) (history : KeyHistory) (starts : ℕ → ℕ) where
-  -- the reply that is behind a tick with this meeting
-  pub reply_behind : (n : ℕ) (m : Meeting) → meeting_at layout history starts n ≡ m
+  -- the reply that is after a tick with this meeting
+  pub reply_after : (n : ℕ) (m : Meeting) → meeting_at layout history starts n ≡ m
       → (keyboard_at layout history starts (suc n)).reply
       ≡ (met (met_as m) (keys_of layout) (keyboard_at layout history starts n)).reply
-  reply_behind n m e =
+  reply_after n m e =
       let k : Keyboard = keyboard_at layout history starts n in
       (rest_adds (keys_of layout) (met_as (meeting_at layout history starts n)) (edges_at layout history starts n) k).reply
       ∙ ap (λ v. (met (met_as v) (keys_of layout) k).reply) e
 
   -- what waits after a tick that sends a byte, and makes no reset
-  waits_behind : (n byte : ℕ) → meeting_at layout history starts n ≡ Sent byte
+  waits_after : (n byte : ℕ) → meeting_at layout history starts n ≡ Sent byte
       → is_reset_due (keyboard_at layout history starts n).reply ≡ false
       → waiting (keyboard_at layout history starts (suc n))
-      ≡ drop 1 (waiting (keyboard_at layout history starts n)) ++ behind_at layout history starts n
-  waits_behind n byte m r =
+      ≡ drop 1 (waiting (keyboard_at layout history starts n)) ++ after_at layout history starts n
+  waits_after n byte m r =
       let k : Keyboard = keyboard_at layout history starts n in
-      let more : List ℕ = behind_at layout history starts n in
+      let more : List ℕ = after_at layout history starts n in
       (comes_exactly layout history starts n).waits
       ∙ ap (λ v. comes_first v k ++ (left v k ++ more)) m
       ∙ ap (λ c. (if c then queued (clear k.queue) else drop 1 (waiting k)) ++ more) r
@@ -88,14 +88,14 @@ module _ (layout : KeyLayout) (history : KeyHistory) (starts : ℕ → ℕ) wher
       let f = first_byte (waiting k) (suc i) byte e in
       let o : offer k ≡ Some f.0 = offers_first k ∙ f.1 in
       let m : meeting_at layout history starts n ≡ Sent f.0 = sends n (omega arith) (omega arith) f.0 o in
-      let w = waits_behind n f.0 m r in
+      let w = waits_after n f.0 m r in
       let none : (keyboard_at layout history starts (suc n)).reply ≡ None =
-      reply_behind n (Sent f.0) m ∙ sent_reply (keys_of layout) k f.0 o in
+      reply_after n (Sent f.0) m ∙ sent_reply (keys_of layout) k f.0 o in
       let z : i + suc n ≡ suc i + n = omega arith in
       subst (λ v. meeting_at layout history starts v ≡ Sent byte) z
       (one_byte i (suc n) byte (λ j l u. sends j (omega (arith, l)) (omega (arith, u)))
       (inr (ap (λ v. is_reset_due v) none))
-      (ap (λ v. slice_get v i) w ∙ get_dropped (waiting k) (behind_at layout history starts n) i byte e))
+      (ap (λ v. slice_get v i) w ∙ get_dropped (waiting k) (after_at layout history starts n) i byte e))
 
 pub one_byte_a_tick : (layout : KeyLayout) (history : KeyHistory) (starts : ℕ → ℕ) (n i byte : ℕ)
     → ((j : ℕ) → n ≤ j → j ≤ i + n → Sends layout history starts j)

@@ -11,7 +11,7 @@ use Rattle.kbd_model.specs.Once.{byte_if, is_reset_due}
 use Rattle.kbd_model.specs.Queue.{clear, drop_first}
 use Rattle.kbd_model.specs.Tick.{tested_if, reset, without_offered}
 
--- more behind what waits
+-- more after what waits
 pub waits_more : (r aa q more : List ℕ) → r ++ (aa ++ (q ++ more)) ≡ (r ++ (aa ++ q)) ++ more
 waits_more r aa q more =
     ap (λ v. r ++ v) (sym (append_assoc aa q more)) ∙ sym (append_assoc r (aa ++ q) more)
@@ -47,7 +47,7 @@ gone_test (Some r) keys k = by r.resets
     by false = refl
 gone_test None keys k = refl
 
--- AA that falls due stands before the queue
+-- AA that falls due is before the queue
 pub aa_first : (last due : Bool) (q more : List ℕ)
     → byte_if (if last then true else due) 0xaa ++ (q ++ more)
     ≡ byte_if (last && not due) 0xaa ++ ((byte_if due 0xaa ++ q) ++ more)

@@ -3,7 +3,7 @@ use Rattle.std.proofs.Common.{◌≡◌, ℕ, suc, zero, ◌+◌, ◌-◌, ◌�
 use Rattle.std.proofs.Common.{true, false, ◌==◌, Some, refl, ap, sym, ◌∙◌, subst, arith}
 use Rattle.std.specs.Prelude.{slice_get}
 use Rattle.std.proofs.lemmas.Bool.Decides.{nat_tests}
-use Rattle.board_lines.specs.declared.event.HostEvent.{HostEvent}
+use Rattle.board_terms.specs.declared.event.HostEvent.{HostEvent}
 use Rattle.byte_time.specs.declared.UnderWay.{UnderWay}
 use Rattle.byte_time.specs.declared.meeting.Meeting.{Meeting}
 use Rattle.byte_time.specs.declared.meeting.Meeting.TheVariants.{Got, Inhibited, Idle, Sent, Cut}
@@ -21,7 +21,7 @@ use Rattle.layout_reader.specs.Layouts.{KeyLayout}
 use Rattle.link_model.specs.Machine.{LayeredKeyboard, keyboard}
 use Rattle.link_model.specs.Expected.{Whole, begins_from}
 use Rattle.quiet_log.specs.Once.{at_tick, left, meeting_at}
-use Rattle.link_times.specs.Coming.{behind_at, comes_first, keyboard_at, test_left}
+use Rattle.link_times.specs.Coming.{after_at, comes_first, keyboard_at, test_left}
 use Rattle.link_times.specs.Holding.{HoldsOff, IsBrokenOff, IsGot, IsHeldOff, MayMeet, begin_at, look_at, start_at}
 use Rattle.link_times.proofs.Breaking.{sent_or_broken}
 use Rattle.link_times.proofs.Fitting.{Fits, FitsIn, fits_span, idle_carried, idle_span}
@@ -153,7 +153,7 @@ module _ (layout : KeyLayout) (history : KeyHistory) (starts : ℕ → ℕ) wher
   waits_next : (n byte : ℕ) → IsHeldOff (meeting_at layout history starts n) → Waits n byte → Waits (suc n) byte
   waits_next n byte h w =
       let k : Keyboard = keyboard_at layout history starts n in
-      let more : List ℕ = behind_at layout history starts n in
+      let more : List ℕ = after_at layout history starts n in
       let x = comes_exactly layout history starts n in
       let r = held_rest (meeting_at layout history starts n) k h in
       let t : k.test - 1 ≡ 0 = let z : k.test ≡ 0 = w.test in omega (arith, z) in

@@ -1,12 +1,12 @@
--- With a quiet host the code of an edge waits behind what was there, and is read a tick a byte.
+-- With a quiet host the code of an edge waits after what was there, and is read a tick a byte.
 use Rattle.std.proofs.Common.{◌≡◌, ℕ, suc, zero, ◌+◌, ◌*◌, ◌/◌, ◌≤◌, ◌<◌, List, [], ◌∷◌, ◌++◌, length, Bool, true, false, not}
 use Rattle.std.proofs.Common.{◌&&◌, ◌||◌, ◌==◌, Some, refl, ap, sym, ◌∙◌, subst, arith, append_assoc, append-nil}
 use Rattle.std.specs.Prelude.{if◌then◌else◌, nat_le, nat_lt, slice_get, slice_index_or}
 use Rattle.std.proofs.lemmas.Bool.Decides.{nat_tests}
 use Rattle.std.proofs.lemmas.Bool.{eqb-true}
 use Rattle.bits.proofs.Every.{and-left, and-right}
-use Rattle.board_lines.specs.Cadence.{KeepsCadenceTo}
-use Rattle.board_lines.specs.declared.event.Edge.{Edge}
+use Rattle.board_terms.specs.Cadence.{KeepsCadenceTo}
+use Rattle.board_terms.specs.declared.event.Edge.{Edge}
 use Rattle.byte_time.specs.declared.meeting.Meeting.{Meeting}
 use Rattle.byte_time.specs.declared.meeting.Meeting.TheVariants.{Got, Inhibited, Idle, Sent, Cut}
 use Rattle.kbd_model.specs.Codes.{Keys, keys_of}
@@ -22,9 +22,9 @@ use Rattle.link_model.specs.Machine.{met_as}
 use Rattle.link_model.specs.TickEdges.{is_seen, none_before, read_at}
 use Rattle.quiet_log.specs.Once.{meeting_at}
 use Rattle.link_times.specs.Coming.{added, code_of, codes_at, codes_of, edges_at, first_at, keyboard_at, queue_left}
-use Rattle.link_times.specs.Coming.{repeat_code, repeats_still, rest_at, test_left, tick_codes, told}
+use Rattle.link_times.specs.Coming.{repeat_code, repeats_still, rest_at, test_left, tick_codes, overrun_mark}
 use Rattle.link_times.specs.Flowing.{IsHostQuiet, IsQuietFrom}
-use Rattle.link_times.specs.Latency.{ComesInTime, StandsBehind, Strikes, read_stamp}
+use Rattle.link_times.specs.Latency.{ComesInTime, IsListedAt, Strikes, read_stamp}
 use Rattle.link_times.proofs.Entering.{entered}
 use Rattle.link_times.proofs.Flowing.{get_more}
 use Rattle.link_times.proofs.QuietFlow.{byte_a_tick}
@@ -54,28 +54,28 @@ had_room code codes q e =
       | false ↦ λ h. refl
     ] refl
 
-none_told : (overrun full : Bool) → (overrun || full) ≡ false → byte_if (not overrun && full) 0x00 ≡ []
-none_told true full e = absurd cc
-none_told false true e = absurd cc
-none_told false false e = refl
+none_reported : (overrun full : Bool) → (overrun || full) ≡ false → byte_if (not overrun && full) 0x00 ≡ []
+none_reported true full e = absurd cc
+none_reported false true e = absurd cc
+none_reported false false e = refl
 
 let_in_whole : (code : List ℕ) (q : KeyQueue) → (q.overrun || nat_lt 16 (length q.bytes + length code)) ≡ false
-    → let_in (Enters code) q ++ told code q ≡ code
+    → let_in (Enters code) q ++ overrun_mark code q ≡ code
 let_in_whole code q e =
-    ap (λ c. (if c then [] else code) ++ told code q) e
-    ∙ ap (λ v. code ++ v) (none_told q.overrun (nat_lt 16 (length q.bytes + length code)) e) ∙ append-nil code
+    ap (λ c. (if c then [] else code) ++ overrun_mark code q) e
+    ∙ ap (λ v. code ++ v) (none_reported q.overrun (nat_lt 16 (length q.bytes + length code)) e) ∙ append-nil code
 
--- a code among others adds itself, behind what those before it add
-added_among : (before behind : List (List ℕ)) (code : List ℕ) (q : KeyQueue)
-    → (entered (before ++ code ∷ behind) q).overrun ≡ false
-    → added (before ++ code ∷ behind) q
-    ≡ added before q ++ (code ++ added behind (enter code (entered before q)))
-added_among [] behind code q e =
-    ap (λ v. v ++ added behind (enter code q)) (let_in_whole code q (had_room code behind q e))
-added_among (c ∷ before) behind code q e =
-    ap (λ v. (let_in (Enters c) q ++ told c q) ++ v) (added_among before behind code (enter c q) e)
-    ∙ sym (append_assoc (let_in (Enters c) q ++ told c q) (added before (enter c q))
-    (code ++ added behind (enter code (entered before (enter c q)))))
+-- a code among others adds itself, after what those before it add
+added_among : (before afterwards : List (List ℕ)) (code : List ℕ) (q : KeyQueue)
+    → (entered (before ++ code ∷ afterwards) q).overrun ≡ false
+    → added (before ++ code ∷ afterwards) q
+    ≡ added before q ++ (code ++ added afterwards (enter code (entered before q)))
+added_among [] afterwards code q e =
+    ap (λ v. v ++ added afterwards (enter code q)) (let_in_whole code q (had_room code afterwards q e))
+added_among (c ∷ before) afterwards code q e =
+    ap (λ v. (let_in (Enters c) q ++ overrun_mark c q) ++ v) (added_among before afterwards code (enter c q) e)
+    ∙ sym (append_assoc (let_in (Enters c) q ++ overrun_mark c q) (added before (enter c q))
+    (code ++ added afterwards (enter code (entered before (enter c q)))))
 
 -- the codes of edges in two parts
 codes_more : (keys : Keys) (xs ys : List TickEdge) → codes_of keys (xs ++ ys) ≡ codes_of keys xs ++ codes_of keys ys
@@ -87,23 +87,23 @@ codes_more keys (x ∷ xs) ys =
 -- a list about one of its elements
 record Parts (edges : List TickEdge) (edge : TickEdge) : Type 0 where
   before : List TickEdge
-  behind : List TickEdge
-  is : edges ≡ before ++ edge ∷ behind
+  afterwards : List TickEdge
+  is : edges ≡ before ++ edge ∷ afterwards
 
 parts_at : (edges : List TickEdge) (edge : TickEdge) (k : ℕ) → k < length edges → slice_index_or edges k edge ≡ edge
     → Parts edges edge
 parts_at [] edge k l e = absurd (omega (arith, l))
-parts_at (x ∷ xs) edge zero l e = record { before = []; behind = xs; is = ap (λ v. v ∷ xs) e }
+parts_at (x ∷ xs) edge zero l e = record { before = []; afterwards = xs; is = ap (λ v. v ∷ xs) e }
 parts_at (x ∷ xs) edge (suc k) l e =
     let p = parts_at xs edge k (omega (arith, l)) e in
-    record { before = x ∷ p.before; behind = p.behind; is = ap (λ v. x ∷ v) p.is }
+    record { before = x ∷ p.before; afterwards = p.afterwards; is = ap (λ v. x ∷ v) p.is }
 
--- what stands behind others
-get_behind : (xs ys : List ℕ) (i x : ℕ) → slice_get ys i ≡ Some x → slice_get (xs ++ ys) (i + length xs) ≡ Some x
-get_behind [] ys i x e = let z : i ≡ i + 0 = omega arith in subst (λ k. slice_get ys k ≡ Some x) z e
-get_behind (y ∷ xs) ys i x e =
+-- what is after others
+get_after : (xs ys : List ℕ) (i x : ℕ) → slice_get ys i ≡ Some x → slice_get (xs ++ ys) (i + length xs) ≡ Some x
+get_after [] ys i x e = let z : i ≡ i + 0 = omega arith in subst (λ k. slice_get ys k ≡ Some x) z e
+get_after (y ∷ xs) ys i x e =
     let z : suc (i + length xs) ≡ i + length (y ∷ xs) = omega arith in
-    subst (λ k. slice_get (y ∷ (xs ++ ys)) k ≡ Some x) z (get_behind xs ys i x e)
+    subst (λ k. slice_get (y ∷ (xs ++ ys)) k ≡ Some x) z (get_after xs ys i x e)
 
 -- scanning is off as long as the test runs
 tested : (k : Keyboard) → is_scanning k ≡ true → k.test ≡ 0
@@ -134,51 +134,51 @@ module _ (layout : KeyLayout) (history : KeyHistory) (starts : ℕ → ℕ) (n :
       (repeats_still (meeting_at layout history starts n) (keyboard_at layout history starts n))
       ++ codes_of keys parts.before
 
-  behind : List (List ℕ)
-  behind = codes_of keys parts.behind
+  afterwards : List (List ℕ)
+  afterwards = codes_of keys parts.afterwards
 
-  codes_are : codes_at layout history starts n ≡ before ++ code ∷ behind
-  unfolding before behind
+  codes_are : codes_at layout history starts n ≡ before ++ code ∷ afterwards
+  unfolding before afterwards
   codes_are =
       let m : Meeting = meeting_at layout history starts n in
       let k : Keyboard = keyboard_at layout history starts n in
       let repeat : List (List ℕ) = repeat_code keys (is_inhibited (met_as m)) (repeats_still m k) in
       ap (λ c. tick_codes keys m (edges_at layout history starts n) k c) struck.scanning
       ∙ ap (λ v. repeat ++ codes_of keys v) parts.is
-      ∙ ap (λ v. repeat ++ v) (codes_more keys parts.before (on_tick ∷ parts.behind))
-      ∙ ap (λ v. repeat ++ (codes_of keys parts.before ++ (v ++ codes_of keys parts.behind))) struck.sends
-      ∙ sym (append_assoc repeat (codes_of keys parts.before) (code ∷ codes_of keys parts.behind))
+      ∙ ap (λ v. repeat ++ v) (codes_more keys parts.before (on_tick ∷ parts.afterwards))
+      ∙ ap (λ v. repeat ++ (codes_of keys parts.before ++ (v ++ codes_of keys parts.afterwards))) struck.sends
+      ∙ sym (append_assoc repeat (codes_of keys parts.before) (code ∷ codes_of keys parts.afterwards))
 
   abbrev queue : KeyQueue
   queue = queue_left (meeting_at layout history starts n) (keyboard_at layout history starts n)
 
-  room : (entered (before ++ code ∷ behind) queue).overrun ≡ false
+  room : (entered (before ++ code ∷ afterwards) queue).overrun ≡ false
   room =
       ap (λ v. (entered v queue).overrun) (sym codes_are)
       ∙ ap (λ (q : KeyQueue). q.overrun) (sym (comes_at layout history starts n).queue) ∙ struck.room
 
-  -- what stands before it where the next tick starts
+  -- what is before it where the next tick starts
   pub ahead : List ℕ
   ahead = first_at layout history starts n ++ (rest_at layout history starts n ++ added before queue)
 
   rest : List ℕ
-  rest = added behind (enter code (entered before queue))
+  rest = added afterwards (enter code (entered before queue))
 
-  stands : waiting (keyboard_at layout history starts (suc n)) ≡ ahead ++ (code ++ rest)
+  in_its_place : waiting (keyboard_at layout history starts (suc n)) ≡ ahead ++ (code ++ rest)
   unfolding ahead rest
-  stands =
+  in_its_place =
       let first : List ℕ = first_at layout history starts n in
       let waits : List ℕ = rest_at layout history starts n in
       let all : List ℕ = added before queue in
-      let more : List ℕ = code ++ added behind (enter code (entered before queue)) in
+      let more : List ℕ = code ++ added afterwards (enter code (entered before queue)) in
       (comes_exactly layout history starts n).waits
       ∙ ap (λ v. first ++ (waits ++ added v queue)) codes_are
-      ∙ ap (λ v. first ++ (waits ++ v)) (added_among before behind code queue room)
+      ∙ ap (λ v. first ++ (waits ++ v)) (added_among before afterwards code queue room)
       ∙ ap (λ v. first ++ v) (sym (append_assoc waits all more))
       ∙ sym (append_assoc first (waits ++ all) more)
 
-  pub comes_behind : StandsBehind (length ahead) code (waiting (keyboard_at layout history starts (suc n)))
-  comes_behind = record { before = ahead; behind = rest; is = stands; number = refl }
+  pub comes_after : IsListedAt (length ahead) code (waiting (keyboard_at layout history starts (suc n)))
+  comes_after = record { before = ahead; afterwards = rest; is = in_its_place; number = refl }
 
 -- in tick 0 scanning is off
 first_test : (layout : KeyLayout) (history : KeyHistory) (starts : ℕ → ℕ) (m : Meeting)
@@ -189,7 +189,7 @@ first_test layout history starts Idle = refl
 first_test layout history starts (Sent byte) = refl
 first_test layout history starts Cut = refl
 
--- the edge came behind the read of its column in the tick before
+-- the edge came after the read of its column in the tick before
 seen_late : (starts : ℕ → ℕ) (m : ℕ) (edge : Edge) → is_seen starts (suc m) edge ≡ true
     → read_at starts edge.place m < edge.stamp
 seen_late starts m edge e =
@@ -207,16 +207,16 @@ module _ (layout : KeyLayout) (history : KeyHistory) (starts : ℕ → ℕ) (las
     (quiet : IsQuietFrom layout history starts first) (cadence : KeepsCadenceTo starts last) where
   -- its bytes, each in its tick
   in_tick : (n place i byte : ℕ) → first ≤ n → n < last → Strikes layout history starts n edge code
-      → StandsBehind place code (waiting (keyboard_at layout history starts (suc n))) → slice_get code i ≡ Some byte
+      → IsListedAt place code (waiting (keyboard_at layout history starts (suc n))) → slice_get code i ≡ Some byte
       → i + place + suc n < last → meeting_at layout history starts (i + place + suc n) ≡ Sent byte
   in_tick n place i byte f l struck s e u =
       let t : (keyboard_at layout history starts (suc n)).test ≡ 0 =
       tested (keyboard_at layout history starts (suc n)) struck.scanning in
-      let g : slice_get (s.before ++ (code ++ s.behind)) (i + length s.before) ≡ Some byte =
-      get_behind s.before (code ++ s.behind) i byte (get_more code s.behind i byte e) in
+      let g : slice_get (s.before ++ (code ++ s.afterwards)) (i + length s.before) ≡ Some byte =
+      get_after s.before (code ++ s.afterwards) i byte (get_more code s.afterwards i byte e) in
       let h : slice_get (waiting (keyboard_at layout history starts (suc n))) (i + place) ≡ Some byte =
       ap (λ v. slice_get v (i + place)) s.is
-      ∙ subst (λ k. slice_get (s.before ++ (code ++ s.behind)) (i + k) ≡ Some byte) s.number g in
+      ∙ subst (λ k. slice_get (s.before ++ (code ++ s.afterwards)) (i + k) ≡ Some byte) s.number g in
       byte_a_tick layout history starts last first quiet cadence (suc n) (i + place) byte (omega (arith, f))
       (omega (arith, u)) t h
 
@@ -233,20 +233,20 @@ module _ (layout : KeyLayout) (history : KeyHistory) (starts : ℕ → ℕ) (las
       ∙ first_test layout history starts (meeting_at layout history starts 0) in
       absurd (omega (arith, t, f))
   soon_at (suc m) place i late struck u hi =
-      let behind : starts m + 16 + 16 * (edge.place / 8) < edge.stamp = seen_late starts m edge struck.seen in
+      let afterwards : starts m + 16 + 16 * (edge.place / 8) < edge.stamp = seen_late starts m edge struck.seen in
       let lo : 2048 * m ≤ starts m = (cadence m (omega (arith, u))).least in
-      omega (arith, behind, lo, hi)
+      omega (arith, afterwards, lo, hi)
 
   pub in_time : (n : ℕ) → first ≤ n → n < last → Strikes layout history starts n edge code
       → ComesInTime layout history starts last n edge code
   in_time n f l struck =
-      let s = comes_behind layout history starts n edge code struck in
+      let s = comes_after layout history starts n edge code struck in
       let place : ℕ = length s.before in
-      let at : StandsBehind place code (waiting (keyboard_at layout history starts (suc n))) =
-      record { before = s.before; behind = s.behind; is = s.is; number = refl } in
+      let at : IsListedAt place code (waiting (keyboard_at layout history starts (suc n))) =
+      record { before = s.before; afterwards = s.afterwards; is = s.is; number = refl } in
       record {
         place = place;
-        stands = at;
+        in_its_place = at;
         reads = λ i byte e u.
             read_from layout history starts first last (i + place + suc n) byte quiet cadence (omega (arith, f)) u
             (in_tick n place i byte f l struck at e u);

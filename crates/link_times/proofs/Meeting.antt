@@ -1,9 +1,9 @@
--- The latency's bound is met: by an edge one cycle behind its column's read, and a tick that starts five cycles late.
+-- The latency's bound is met: by an edge one cycle after its column's read, and a tick that starts five cycles late.
 use Rattle.std.proofs.Common.{◌≡◌, ℕ, suc, zero, ◌+◌, ◌*◌, ◌/◌, ◌≤◌, ◌<◌, Bool, true, false, not, ◌&&◌, ◌==◌, refl, ap, ◌∙◌, arith}
 use Rattle.std.specs.Prelude.{if◌then◌else◌, nat_le}
 use Rattle.std.proofs.lemmas.Bool.Decides.{nat_tests}
-use Rattle.board_lines.specs.Cadence.{IsNear, KeepsCadence}
-use Rattle.board_lines.specs.declared.event.Edge.{Edge}
+use Rattle.board_terms.specs.Cadence.{IsNear, KeepsCadence}
+use Rattle.board_terms.specs.declared.event.Edge.{Edge}
 use Rattle.link_model.specs.TickEdges.{is_seen, none_before, read_at}
 use Rattle.link_times.specs.Latency.{IsMet}
 

@@ -2,7 +2,7 @@
 use Rattle.std.proofs.Common.{◌≡◌, ℕ, suc, zero, ◌+◌, ◌-◌, ◌≤◌, ◌<◌, inr, Bool, true, false, ◌==◌, Some, None, refl, ap, ◌∙◌, subst, arith}
 use Rattle.std.specs.Prelude.{if◌then◌else◌, slice_get}
 use Rattle.std.specs.declared.option.Option.{Option}
-use Rattle.board_lines.specs.Cadence.{KeepsCadenceTo}
+use Rattle.board_terms.specs.Cadence.{KeepsCadenceTo}
 use Rattle.byte_time.specs.declared.meeting.Meeting.{Meeting}
 use Rattle.byte_time.specs.declared.meeting.Meeting.TheVariants.{Got, Inhibited, Idle, Sent, Cut}
 use Rattle.kbd_model.specs.Codes.{keys_of}
@@ -16,7 +16,7 @@ use Rattle.quiet_log.specs.Once.{at_tick, meeting_at}
 use Rattle.quiet_log.proofs.Calm.{calm_meeting}
 use Rattle.link_times.specs.Coming.{keyboard_at, test_left}
 use Rattle.link_times.specs.Flowing.{IsHostQuiet, IsQuietFrom}
-use Rattle.link_times.proofs.Flowing.{one_byte, reply_behind, sent_reply}
+use Rattle.link_times.proofs.Flowing.{one_byte, reply_after, sent_reply}
 use Rattle.link_times.proofs.Resting.{Rests, meets_at, quiet_from_start, quiet_on, rests_at, rests_there, sends_at}
 use Rattle.link_times.proofs.Shadow.{AreQuietFrom}
 use Rattle.link_times.proofs.Twice.{comes_exactly}
@@ -67,7 +67,7 @@ module _ (layout : KeyLayout) (history : KeyHistory) (starts : ℕ → ℕ) (las
       let k : Keyboard = keyboard_at layout history starts n in
       let m : Meeting = calm_meeting (k.test == 0) (offer k) in
       subst (λ k. (keyboard_at layout history starts k).reply ≡ None) z
-      (reply_behind layout history starts n m (meets_in n (omega arith) (omega (arith, l)))
+      (reply_after layout history starts n m (meets_in n (omega arith) (omega (arith, l)))
       ∙ by k (none_on count (omega (arith, l))) (k.test == 0) (offer k) refl)
     where
       by : (k : Keyboard) → k.reply ≡ None → (t : Bool) (o : Option ℕ) → offer k ≡ o

@@ -8,10 +8,10 @@ use Rattle.std.proofs.lemmas.Grind.{flat_map-append}
 use Rattle.std.proofs.lemmas.List.Folds.{flat_map-map}
 use Rattle.std.proofs.lemmas.Option.{get_or_from_slice_get, slice_get_within}
 use Rattle.bits.specs.Bits.{has_bit}
-use Rattle.board_lines.specs.Cadence.{tick_of}
-use Rattle.board_lines.specs.declared.event.HostAct.{HostAct}
-use Rattle.board_lines.specs.declared.event.HostAct.TheVariants.{Write60, Write64, Read60, Mask, Unmask, Take, Status, Flip}
-use Rattle.board_lines.specs.declared.event.HostEvent.{HostEvent}
+use Rattle.board_terms.specs.Cadence.{tick_of}
+use Rattle.board_terms.specs.declared.event.HostAct.{HostAct}
+use Rattle.board_terms.specs.declared.event.HostAct.TheVariants.{Write60, Write64, Read60, Mask, Unmask, Take, Status, Flip}
+use Rattle.board_terms.specs.declared.event.HostEvent.{HostEvent}
 use Rattle.ctl_core.specs.Controller.{ControllerState}
 use Rattle.ctl_core.specs.Translation.{arrived as received_as, translates, translation}
 use Rattle.ctl_core.specs.declared.translation.Translated.{Translated}

@@ -1,12 +1,12 @@
--- With a quiet host INT 09h reads what a byte comes to 64 cycles behind its arrival.
+-- With a quiet host INT 09h reads the outcome of a byte 64 cycles after its arrival.
 use Rattle.std.proofs.Common.{◌≡◌, ℕ, suc, zero, ◌+◌, ◌-◌, ◌*◌, ◌≤◌, ◌<◌, List, [], ◌∷◌, ◌++◌, length, map}
 use Rattle.std.proofs.Common.{Bool, true, false, Some, None, refl, ap, sym, ◌∙◌, subst, arith}
 use Rattle.std.specs.Prelude.{if◌then◌else◌, nat_le, slice_get, slice_index_or, Contains}
 use Rattle.std.specs.declared.option.Option.{Option}
 use Rattle.std.proofs.lemmas.Bool.Decides.{nat_tests}
 use Rattle.std.proofs.lemmas.List.Elements.{Contains-append_left, Contains-append_right}
-use Rattle.board_lines.specs.Cadence.{KeepsCadenceTo, tick_of}
-use Rattle.board_lines.specs.declared.event.HostEvent.{HostEvent}
+use Rattle.board_terms.specs.Cadence.{KeepsCadenceTo, tick_of}
+use Rattle.board_terms.specs.declared.event.HostEvent.{HostEvent}
 use Rattle.ctl_core.specs.Controller.{ControllerState}
 use Rattle.ctl_core.specs.Translation.{translation, arrived}
 use Rattle.ctl_core.specs.declared.translation.Translated.{Translated}
@@ -144,7 +144,7 @@ comes : (now byte : ℕ) (q : Pc) (filled : ℕ)
 unfolding byte_cycle
 comes now byte q filled = refl
 
--- without a host: 63 cycles behind its arrival it is put out still
+-- without a host: 63 cycles after its arrival it is put out still
 abbrev put : ℕ → ℕ → Bool → Pc → Side UnderWay
 put now code mark q = side (Hold now) true (record q { mark = mark; out = code }) now []
 

@@ -4,8 +4,8 @@ use Rattle.std.specs.Prelude.{slice_get}
 use Rattle.std.proofs.Common.{false, ◌==◌, Some, None, refl, ap, sym, ◌∙◌, subst, arith}
 use Rattle.std.specs.declared.option.Option.{Option}
 use Rattle.std.proofs.lemmas.Bool.Decides.{nat_tests}
-use Rattle.board_lines.specs.Cadence.{KeepsCadenceTo}
-use Rattle.board_lines.specs.declared.event.HostEvent.{HostEvent}
+use Rattle.board_terms.specs.Cadence.{KeepsCadenceTo}
+use Rattle.board_terms.specs.declared.event.HostEvent.{HostEvent}
 use Rattle.ctl_link.specs.declared.link.Link.TheVariants.{Free}
 use Rattle.host_turn.specs.declared.stamped.Stamped.{Stamped}
 use Rattle.host_turn.specs.Run.{Side, says_lights, side_at_start, stamped}
@@ -29,7 +29,7 @@ use Rattle.link_times.specs.Coming.{keyboard_at}
 use Rattle.link_times.specs.Flowing.{IsAtRest, IsHostQuiet, IsQuietFrom}
 use Rattle.quiet_log.specs.Quiet.{IsQuietAct}
 use Rattle.quiet_log.proofs.Acting.{IsQuietNext}
-use Rattle.ctl_link.specs.declared.port.Port.{Port}
+use Rattle.ctl_link.specs.declared.port.LinkEnd.{LinkEnd}
 use Rattle.link_times.proofs.Clear.{plain_core}
 use Rattle.link_times.proofs.EachRead.{IsUnflipped}
 use Rattle.link_times.proofs.Shadow.{AreQuietFrom, Same, all_quiet, next_quiet, none_due, same_carried, same_sends, same_span}
@@ -65,7 +65,7 @@ same_then d a b q filled log s e = record {
 pub rests_there : (m : Side UnderWay) → IsAtRest m → Rests m.done m
 rests_there m r =
     let q : Pc = record { mark = m.port.core.break_mark; out = m.port.core.output; bios = start; done = 0 } in
-    let p : Port UnderWay = m.port in
+    let p : LinkEnd UnderWay = m.port in
     record {
       pc = q;
       filled = p.filled;
@@ -159,7 +159,7 @@ module _ (layout : KeyLayout) (history : KeyHistory) (d : ℕ) (quiet : AreQuiet
     meets =
         ap (λ v. ended_as host v (288 + start) meet) begins ∙ ends_by tested offered (288 + start)
 
-    -- 64 cycles behind the byte the link is free again, and stays so
+    -- 64 cycles after the byte the link is free again, and stays so
     pub ends : (all more : ℕ) → 64 + more ≡ all
         → Rests d (from_meeting host start all (begins_from (keyboard layout) host start w) meet)
     ends all more e =

@@ -5,11 +5,11 @@ use Rattle.std.specs.declared.option.Option.{Option}
 use Rattle.std.proofs.lemmas.Option.{slice_get_within, get_or_from_slice_get}
 use Rattle.std.proofs.Common.{subst}
 use Rattle.ctl_core.specs.Controller.{ControllerState}
-use Rattle.ctl_link.specs.declared.port.Port.{Port}
+use Rattle.ctl_link.specs.declared.port.LinkEnd.{LinkEnd}
 use Rattle.ctl_link.specs.Link.{broken_off, settled}
-use Rattle.board_lines.specs.declared.event.HostAct.{HostAct}
-use Rattle.board_lines.specs.declared.event.HostAct.TheVariants.{Write60, Write64, Read60, Mask, Unmask, Take, Flip, Status as AskStatus}
-use Rattle.board_lines.specs.declared.event.HostEvent.{HostEvent}
+use Rattle.board_terms.specs.declared.event.HostAct.{HostAct}
+use Rattle.board_terms.specs.declared.event.HostAct.TheVariants.{Write60, Write64, Read60, Mask, Unmask, Take, Flip, Status as AskStatus}
+use Rattle.board_terms.specs.declared.event.HostEvent.{HostEvent}
 use Rattle.int09.specs.Bios.{State, without_first}
 use Rattle.host_turn.specs.Host.{Host, acted_where, bios_turn, event_turn, in_silence, interrupts, is_done, read_by_bios, turn}
 use Rattle.host_turn.specs.Cycle.{host_of}
@@ -110,7 +110,7 @@ pub cycle_port : (events : List HostEvent) (now : ℕ) (e : Event) (m : Side Und
     × ((byte_cycle events now e m).masked ≡ m.masked)
 unfolding byte_cycle goes_on
 cycle_port events now e m quiet =
-    let p : Port UnderWay = happened_at now e m.port in
+    let p : LinkEnd UnderWay = happened_at now e m.port in
     let h : Host = host_of (desk_of (record m { port = p })) in
     let t = turns now p.filled (slice_get events m.done) h quiet in (
       ap (λ c. (settled now (broken_off is_open now

@@ -14,7 +14,7 @@ use Rattle.quiet_log.specs.Once.{came, at_tick, meeting_at, all_arrived, all_tak
 use Rattle.quiet_log.proofs.Counted.{all_counted}
 use Rattle.quiet_log.proofs.Once.{arrives_as_offered, tested_or_idle}
 use Rattle.quiet_log.proofs.Silent.{silent_in_test}
-use Rattle.link_times.specs.Coming.{keyboard_at, edges_at, first_at, rest_at, behind_at, all_come, IsExact}
+use Rattle.link_times.specs.Coming.{keyboard_at, edges_at, first_at, rest_at, after_at, all_come, IsExact}
 use Rattle.kbd_model.specs.Tick.{is_scanning}
 use Rattle.link_times.proofs.Wholeness.{codes_whole}
 use Rattle.link_times.proofs.Repeating.{layered_same}
@@ -43,24 +43,24 @@ module _ (layout : KeyLayout) (history : KeyHistory) (starts : ℕ → ℕ) wher
     repeats = c.repeats;
   }
 
-  -- what stands behind a list is what is left when that is dropped
-  behind_dropped : (xs more : List ℕ) → drop (length xs) (xs ++ more) ≡ more
-  behind_dropped [] more = refl
-  behind_dropped (x ∷ xs) more = behind_dropped xs more
+  -- what is after a list is what is left when that is dropped
+  after_dropped : (xs more : List ℕ) → drop (length xs) (xs ++ more) ≡ more
+  after_dropped [] more = refl
+  after_dropped (x ∷ xs) more = after_dropped xs more
 
   -- so what came is what comes
   came_is : (n : ℕ)
       → came (meeting_at layout history starts n) (keyboard_at layout history starts n)
       (keyboard_at layout history starts (suc n))
-      ≡ first_at layout history starts n ++ behind_at layout history starts n
+      ≡ first_at layout history starts n ++ after_at layout history starts n
   came_is n =
       let c = comes_at n in
       let first : List ℕ = first_at layout history starts n in
       let rest : List ℕ = rest_at layout history starts n in
-      let more : List ℕ = behind_at layout history starts n in
+      let more : List ℕ = after_at layout history starts n in
       ap (λ v. v ++ drop (length (v ++ rest)) (waiting (keyboard_at layout history starts (suc n)))) c.first
       ∙ ap (λ v. first ++ drop (length (first ++ rest)) v) (c.waits ∙ sym (append_assoc first rest more))
-      ∙ ap (λ v. first ++ v) (behind_dropped (first ++ rest) more)
+      ∙ ap (λ v. first ++ v) (after_dropped (first ++ rest) more)
 
   all_is : (n count : ℕ) → all_came layout history starts n count ≡ all_come layout history starts n count
   all_is n zero = refl

@@ -1,4 +1,4 @@
--- Nothing comes to wait twice: what does in a tick is a reply, the AA of the test's end, the codes of its keys and the
+-- Nothing begins to wait twice: what does in a tick is a reply, the AA of the test's end, the codes of its keys and the
 -- 00 of an overrun, each once. Nothing of it is read off the state that the tick leaves, but whether scanning is on then, and the rate.
 use Rattle.std.specs.Prelude.{◌≡◌, ℕ, ◌+◌, ◌-◌, ◌==◌, nat_lt, nat_le, Bool, not, ◌&&◌, ◌||◌}
 use Rattle.std.specs.Prelude.{if◌then◌else◌, List, [], ◌∷◌, ◌++◌, length, map, All, Some, None, is_some}
@@ -88,14 +88,14 @@ queue_left (Sent byte) k =
     else drop_first k.queue
 queue_left Cut k = k.queue
 
--- the first code that finds no room is told by 00
-abbrev pub told : List ℕ → KeyQueue → List ℕ
-told code q = byte_if (not q.overrun && nat_lt 16 (length q.bytes + length code)) 0x00
+-- the first code that finds no room is reported by 00
+abbrev pub overrun_mark : List ℕ → KeyQueue → List ℕ
+overrun_mark code q = byte_if (not q.overrun && nat_lt 16 (length q.bytes + length code)) 0x00
 
 -- what codes add to what waits, one after the other: what is let in of each, or the 00
 abbrev pub added : List (List ℕ) → KeyQueue → List ℕ
 added [] q = []
-added (code ∷ codes) q = (let_in (Enters code) q ++ told code q) ++ added codes (enter code q)
+added (code ∷ codes) q = (let_in (Enters code) q ++ overrun_mark code q) ++ added codes (enter code q)
 
 -- the ticks of the test that are left after a tick: one fewer; a reset begins it again
 abbrev pub test_left : Meeting → Keyboard → ℕ
@@ -146,8 +146,8 @@ module _ (layout : KeyLayout) (history : KeyHistory) (starts : ℕ → ℕ) wher
   abbrev pub rest_at : ℕ → List ℕ
   rest_at n = left (meeting_at layout history starts n) (keyboard_at n)
 
-  abbrev pub behind_at : ℕ → List ℕ
-  behind_at n = added (codes_at n) (queue_left (meeting_at layout history starts n) (keyboard_at n))
+  abbrev pub after_at : ℕ → List ℕ
+  after_at n = added (codes_at n) (queue_left (meeting_at layout history starts n) (keyboard_at n))
 
   abbrev pub repeats_at : ℕ → Option Repeat
   repeats_at n =
@@ -160,7 +160,7 @@ module _ (layout : KeyLayout) (history : KeyHistory) (starts : ℕ → ℕ) wher
   -- what comes in so many ticks from one on
   abbrev pub all_come : ℕ → ℕ → List ℕ
   all_come n zero = []
-  all_come n (suc count) = all_come n count ++ (first_at (count + n) ++ behind_at (count + n))
+  all_come n (suc count) = all_come n count ++ (first_at (count + n) ++ after_at (count + n))
 
 -- after a tick there waits what comes first, then the rest of what waited, and then what its codes added, and nothing
 -- else. Its edges are those that it sees, each once, and so its codes are, of which each is one byte, or F0 and one;
@@ -168,7 +168,7 @@ module _ (layout : KeyLayout) (history : KeyHistory) (starts : ℕ → ℕ) wher
 -- repeat come once each time
 pub record IsExact (layout : KeyLayout) (history : KeyHistory) (starts : ℕ → ℕ) (n : ℕ) : Type 0 where
   pub waits : waiting (keyboard_at layout history starts (suc n))
-      ≡ first_at layout history starts n ++ (rest_at layout history starts n ++ behind_at layout history starts n)
+      ≡ first_at layout history starts n ++ (rest_at layout history starts n ++ after_at layout history starts n)
   pub test : (keyboard_at layout history starts (suc n)).test
       ≡ test_left (meeting_at layout history starts n) (keyboard_at layout history starts n)
   pub codes : All IsCode (codes_at layout history starts n)

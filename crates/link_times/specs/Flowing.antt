@@ -1,7 +1,7 @@
 -- In time: one byte a tick.
 use Rattle.std.specs.Prelude.{◌≡◌, ◌≤◌, ◌<◌, ℕ, ◌+◌, ◌⊎◌, false, All, Some, None, slice_get}
-use Rattle.board_lines.specs.Cadence.{KeepsCadenceTo}
-use Rattle.board_lines.specs.declared.event.HostEvent.{HostEvent}
+use Rattle.board_terms.specs.Cadence.{KeepsCadenceTo}
+use Rattle.board_terms.specs.declared.event.HostEvent.{HostEvent}
 use Rattle.ctl_link.specs.declared.link.Link.TheVariants.{Free}
 use Rattle.host_turn.specs.Run.{Side}
 use Rattle.byte_time.specs.declared.UnderWay.{UnderWay}

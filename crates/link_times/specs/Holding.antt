@@ -1,6 +1,6 @@
 -- Nothing waits for ever: what alone keeps a byte that is offered from going in a tick.
 use Rattle.std.specs.Prelude.{◌≡◌, ◌≤◌, ◌<◌, ℕ, ◌+◌, ◌⊎◌, Bool, true, is_some, slice_get, List, Some}
-use Rattle.board_lines.specs.declared.event.HostEvent.{HostEvent}
+use Rattle.board_terms.specs.declared.event.HostEvent.{HostEvent}
 use Rattle.byte_time.specs.declared.UnderWay.{UnderWay}
 use Rattle.byte_time.specs.declared.meeting.Meeting.{Meeting}
 use Rattle.byte_time.specs.declared.meeting.Meeting.TheVariants.{Got, Inhibited, Idle, Sent, Cut}
@@ -9,7 +9,7 @@ use Rattle.ctl_core.specs.Controller.{is_disabled}
 use Rattle.ctl_link.specs.Link.{begun}
 use Rattle.ctl_link.specs.declared.link.Link.{Link}
 use Rattle.ctl_link.specs.declared.link.Link.TheVariants.{Free, Hold, Ask, Request, Busy}
-use Rattle.ctl_link.specs.declared.port.Port.{Port}
+use Rattle.ctl_link.specs.declared.port.LinkEnd.{LinkEnd}
 use Rattle.host_turn.specs.Cycle.{host_of}
 use Rattle.host_turn.specs.Host.{turn}
 use Rattle.host_turn.specs.Run.{Side, desk_of}
@@ -24,7 +24,7 @@ use Rattle.link_times.specs.Coming.{keyboard_at}
 -- why the controller holds the clock after a cycle: the output buffer is full, or the host has disabled the keyboard,
 -- or a pull of the clock is younger than its 64 cycles. For a byte that is to go to the keyboard, a command of the host's
 -- or a resend of its own, it asks by such a pull alone; then it waits for the keyboard to fetch it
-abbrev pub HoldsOff : ℕ → Port UnderWay → Link UnderWay → Type 0
+abbrev pub HoldsOff : ℕ → LinkEnd UnderWay → Link UnderWay → Type 0
 HoldsOff now p Free = ⊥
 HoldsOff now p (Hold since) =
     (p.core.output_full ≡ true) ⊎ ((is_disabled p.core ≡ true) ⊎ (now < since + 64))

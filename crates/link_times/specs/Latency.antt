@@ -2,8 +2,8 @@
 use Rattle.std.specs.Prelude.{◌≡◌, ◌≤◌, ◌<◌, ℕ, suc, ◌+◌, ◌*◌, ◌/◌, Bool, true, false, List, [], ◌∷◌, ◌++◌, length}
 use Rattle.std.specs.Prelude.{Some, slice_get, Contains}
 use Rattle.std.specs.declared.option.Option.{Option}
-use Rattle.board_lines.specs.Cadence.{KeepsCadence, KeepsCadenceTo}
-use Rattle.board_lines.specs.declared.event.Edge.{Edge}
+use Rattle.board_terms.specs.Cadence.{KeepsCadence, KeepsCadenceTo}
+use Rattle.board_terms.specs.declared.event.Edge.{Edge}
 use Rattle.byte_time.specs.declared.meeting.Meeting.TheVariants.{Sent}
 use Rattle.ctl_core.specs.Translation.{translation}
 use Rattle.kbd_model.specs.Codes.{keys_of}
@@ -46,10 +46,10 @@ ReadsWhatArrives =
     → IsReadIn layout history starts last n byte
 
 -- bytes are after so many others in a list
-pub record StandsBehind (place : ℕ) (bytes list : List ℕ) : Type 0 where
+pub record IsListedAt (place : ℕ) (bytes list : List ℕ) : Type 0 where
   pub before : List ℕ
-  pub behind : List ℕ
-  pub is : list ≡ before ++ (bytes ++ behind)
+  pub afterwards : List ℕ
+  pub is : list ≡ before ++ (bytes ++ afterwards)
   pub number : length before ≡ place
 
 -- an edge of a key that tick n sees, and the code that it enters, in its layer; no code of that tick is lost
@@ -79,7 +79,7 @@ EdgesAreAmong =
 pub record ComesInTime (layout : KeyLayout) (history : KeyHistory) (starts : ℕ → ℕ) (last n : ℕ) (edge : Edge)
     (code : List ℕ) : Type 0 where
   pub place : ℕ
-  pub stands : StandsBehind place code (waiting (keyboard_at layout history starts (suc n)))
+  pub in_its_place : IsListedAt place code (waiting (keyboard_at layout history starts (suc n)))
   pub reads : (i byte : ℕ) → slice_get code i ≡ Some byte → i + place + suc n < last
       → IsReadIn layout history starts last (i + place + suc n) byte
   pub prompt : (i : ℕ) → i + place + suc n ≤ last

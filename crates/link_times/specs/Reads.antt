@@ -2,10 +2,10 @@
 use Rattle.std.specs.Prelude.{◌≡◌, ℕ, false, true, Bool, if◌then◌else◌, List, [], ◌∷◌, ◌++◌, All, Some, None}
 use Rattle.std.specs.List.{flat_map}
 use Rattle.std.specs.declared.option.Option.{Option}
-use Rattle.board_lines.specs.Cadence.{KeepsCadenceTo}
-use Rattle.board_lines.specs.declared.event.HostAct.{HostAct}
-use Rattle.board_lines.specs.declared.event.HostAct.TheVariants.{Write60, Write64, Read60, Mask, Unmask, Take}
-use Rattle.board_lines.specs.declared.event.HostAct.TheVariants.{Status, Flip}
+use Rattle.board_terms.specs.Cadence.{KeepsCadenceTo}
+use Rattle.board_terms.specs.declared.event.HostAct.{HostAct}
+use Rattle.board_terms.specs.declared.event.HostAct.TheVariants.{Write60, Write64, Read60, Mask, Unmask, Take}
+use Rattle.board_terms.specs.declared.event.HostAct.TheVariants.{Status, Flip}
 use Rattle.ctl_core.specs.Controller.{ControllerState}
 use Rattle.ctl_core.specs.Translation.{translation}
 use Rattle.ctl_core.specs.declared.translation.Translated.{Translated}

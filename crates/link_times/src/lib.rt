@@ -1,6 +1,6 @@
 //! When what waits arrives, and that nothing comes to the line twice or is read twice: laws of whole runs.
 //!
-//! What comes to wait in a tick is a reply, the AA of the test's end, the codes of its keys and the 00 of an overrun,
+//! What begins to wait in a tick is a reply, the AA of the test's end, the codes of its keys and the 00 of an overrun,
 //! each once. What waits goes one byte a tick, in its order, if nothing holds it off; and what may hold it off is
 //! reported in the host's terms. This layer knows the keyboard's model, the link's, and the laws of `quiet_log`, and proves laws of them;
 //! nothing of it is computed. It must not know how a run is made, nor the text of a log. Source: our own.
@@ -12,7 +12,7 @@ ghost use Rattle.link_times.specs.Holding.{GoesAtLast, NothingElseHolds};
 ghost use Rattle.link_times.specs.Latency.{EdgesAreAmong, KeysComeInTime, KeysComeInTimeFrom, LatencyIsMet, ReadsWhatArrives};
 ghost use Rattle.link_times.specs.Reads.{EachIsReadOnce, PortLinesAreArrivals};
 
-/// Nothing comes to wait twice by itself. After a tick there waits what comes first (the reply to a byte from the system,
+/// Nothing begins to wait twice by itself. After a tick there waits what comes first (the reply to a byte from the system,
 /// which for FE is the last byte sent, once more; AA in the test's last tick), then the rest of what waited, and then
 /// what the tick's codes added: those of the key that repeats and of the edges, in the order of their places, as far as
 /// the queue has room, and 00 for the first that finds none. So over any ticks; and from power-on on, all that comes, and
@@ -52,7 +52,7 @@ pub fn nothing_waits_for_ever()
     ensures goes { GoesAtLast }
 {}
 
-/// A key's latency, if the host only takes words and reads the status. INT 09h reads what a byte comes to 64 cycles after
+/// A key's latency, if the host only takes words and reads the status. INT 09h reads the outcome of a byte 64 cycles after
 /// the byte arrives, and the log says so with the tick. Each edge that a tick sees is among its edges. Each byte of its
 /// code is read at most 2 * 2,048 + 660 cycles after the edge, and a tick later for each byte before it, less 16 cycles
 /// for each column that is read before the key's. Some starts in the cadence come to just that. The compiled image starts

@@ -21,15 +21,15 @@ use Rattle.mcs48_core.specs.Reset.{reset_cpu}
 use Rattle.live_agrees.proofs.Logs.{goes_between}
 use Rattle.live_agrees.specs.Law.{AnswersAreAlike, AnyUseIsLawful, LogsAgree, LogsAreShown, StatesAreAlike, WordsAreAlike}
 use Rattle.live_agrees.specs.Law.{NeverStuck, history_of}
-use Rattle.live_board.specs.Calls.{Tells}
-use Rattle.live_board.specs.Standing.{Stands}
+use Rattle.live_board.specs.Calls.{GivesFirst}
+use Rattle.live_board.specs.States.{HasPast}
 use Rattle.live_board.specs.declared.parts.Parts.{Parts as Keyboard}
-use Rattle.board_lines.specs.Flips.{AreFlips}
-use Rattle.board_lines.specs.declared.event.HostEvent.{HostEvent}
+use Rattle.board_terms.specs.Flips.{AreFlips}
+use Rattle.board_terms.specs.declared.event.HostEvent.{HostEvent}
 use Rattle.key_file.specs.Accepted.{AreHostEventsInOrder, AreWritten, IsLawfulFor}
 use Rattle.layout_reader.specs.Layouts.{KeyLayout}
 use Rattle.live_board.proofs.Stepping.{here}
-use Rattle.live_board.specs.Answers.{Told, first_in}
+use Rattle.live_board.specs.Answers.{ItemAnswer, first_in}
 use Rattle.live_board.specs.Pasts.{Past}
 
 pub states_alike : StatesAreAlike
@@ -42,9 +42,9 @@ same_rest log a b after h k =
 same_some : {X : Type 0} (x y : X) → Some x ≡ Some y → x ≡ y
 same_some x y h = cc h
 
-told_alike : {X : Type 0} (f : Told → Option X) (p q : Past) (a b : Keyboard) (x y : X) → Stands p a → Stands q b
-    → Tells f p q x → Tells f p q y → x ≡ y
-told_alike f p q a b x y s t h k =
+reported_alike : {X : Type 0} (f : ItemAnswer → Option X) (p q : Past) (a b : Keyboard) (x y : X) → HasPast p a → HasPast q b
+    → GivesFirst f p q x → GivesFirst f p q y → x ≡ y
+reported_alike f p q a b x y s t h k =
     let w = s.world in
     let v = t.world in
     let from = here p a s in
@@ -53,10 +53,10 @@ told_alike f p q a b x y s t h k =
     same_some x y (sym h.2 ∙ ap (first_in f) same ∙ k.2)
 
 pub answers_alike : AnswersAreAlike
-answers_alike f p q a b x y s t h k = told_alike f p q a b x y s t h k
+answers_alike f p q a b x y s t h k = reported_alike f p q a b x y s t h k
 
 pub words_alike : WordsAreAlike
-words_alike f p q a b x y s t h k = told_alike f p q a b x y s t h k
+words_alike f p q a b x y s t h k = reported_alike f p q a b x y s t h k
 
 -- without edges nothing is asked of them
 without_edges : (layout : KeyLayout) (events : List HostEvent) (stop : ℕ) → AreHostEventsInOrder events
@@ -81,7 +81,7 @@ any_use_is_lawful layout p stop none order written flips =
     (without_edges layout p.events stop order written flips)
 
 -- the log so far begins that of a start which is later
-log_begins : (layout : KeyLayout) (p : Past) (k : Keyboard) (s : Stands p k) → p.bytes ≡ image_of layout → (stamp : ℕ)
+log_begins : (layout : KeyLayout) (p : Past) (k : Keyboard) (s : HasPast p k) → p.bytes ≡ image_of layout → (stamp : ℕ)
     (start : IsStart (joint_board p.edges p.events) TICK (image_of layout) joint_start s.world.cycle stamp)
     → s.world.cycle ≤ stamp → (rest : List Stamped) × (log_of start.state.board ≡ log_of s.world.board ++ rest)
 log_begins layout p k s bytes stamp start low =

@@ -2,7 +2,7 @@
 use Rattle.std.proofs.Common.{◌≡◌, ◌≤◌, ◌<◌, ◌^◌, ◌%◌, ℕ, zero, suc, ◌+◌, ◌-◌, Bool, true, false, leb, ltb, List, Some, None}
 use Rattle.std.proofs.Common.{Ok, Err, slice_index, refl, ap, sym, subst, ◌∙◌, arith}
 use Rattle.std.proofs.lemmas.Bool.Decides.{nat_tests}
-use Rattle.board_lines.specs.declared.event.HostAct.{HostAct}
+use Rattle.board_terms.specs.declared.event.HostAct.{HostAct}
 use Rattle.host_turn.specs.Host.{waits}
 use Rattle.joint_feed.specs.Stories.{state_at}
 use Rattle.joint_run.specs.Due.{outside_of}
@@ -15,8 +15,8 @@ use Rattle.live_board.proofs.Stepping.{here}
 use Rattle.live_board.proofs.Timed.{before, step_later}
 use Rattle.live_board.specs.Calls.{IsRefused, MayAct, place_of}
 use Rattle.live_board.specs.Pasts.{Past, acted, gone_on, state_of, story_of}
-use Rattle.live_board.specs.Running.{AreBefore, EndsSo, HasRun, IsCalm, rises}
-use Rattle.live_board.specs.Standing.{Stands}
+use Rattle.live_board.specs.RunCalls.{AreBefore, EndsSo, HasRun, IsCalm, rises}
+use Rattle.live_board.specs.States.{HasPast}
 use Rattle.live_board.specs.declared.parts.Parts.{Parts as Keyboard}
 use Rattle.live_board.specs.declared.ran.RunEnd.{RunEnd}
 use Rattle.live_board.specs.declared.ran.RunEnd.TheVariants.{Passed, Rose, Over, Stuck}
@@ -30,7 +30,7 @@ abbrev place_by : List ℕ → Cpu → Place
 place_by bytes m = record { pc = m.pc; byte = slice_index bytes (m.pc % 2048) }
 
 -- two keyboards in one past are at one cycle, with the same processor, memory and input buffer
-module _ (p : Past) (a b : Keyboard) (s : Stands p a) (t : Stands p b) where
+module _ (p : Past) (a b : Keyboard) (s : HasPast p a) (t : HasPast p b) where
   pub same_world : s.world ≡ t.world
   same_world = states_alike p a b s t
 
@@ -73,15 +73,15 @@ module _ (p : Past) (a b : Keyboard) (s : Stands p a) (t : Stands p b) where
 
   -- what is refused of one isn't done of the other
   never_alone : (act : HostAct) (x : Refused) (d : Keyboard) → IsRefused act a x → MayAct act b
-      → Stands (acted p (b.joint.cycle - 4096) act) d → ⊥
-  never_alone act R.Early d h may stands = let e = same_cycle in let l = may.late in omega (arith, e, h, l)
-  never_alone act R.Over d h may stands = let e = same_cycle in let l = may.near in omega (arith, e, h, l)
-  never_alone act R.Full d h may stands = let e : true ≡ false = sym h.2 ∙ same_waits act ∙ may.room in absurd cc
-  never_alone act (R.Stuck q) d h may stands =
+      → HasPast (acted p (b.joint.cycle - 4096) act) d → ⊥
+  never_alone act R.Early d h may has_past = let e = same_cycle in let l = may.late in omega (arith, e, h, l)
+  never_alone act R.Over d h may has_past = let e = same_cycle in let l = may.near in omega (arith, e, h, l)
+  never_alone act R.Full d h may has_past = let e : true ≡ false = sym h.2 ∙ same_waits act ∙ may.room in absurd cc
+  never_alone act (R.Stuck q) d h may has_past =
       let none = h.2 p s in
-      let some = here (acted p (b.joint.cycle - 4096) act) d stands in
+      let some = here (acted p (b.joint.cycle - 4096) act) d has_past in
       let same = ap (λ c. state_of (acted p (c - 4096) act)) same_cycle in
-      let e : None ≡ Some stands.world = sym none ∙ same ∙ some in
+      let e : None ≡ Some has_past.world = sym none ∙ same ∙ some in
       absurd cc
 
 pub calls_alike : CallsAreAlike
@@ -121,12 +121,12 @@ later_cycle p k n w v less from to =
     omega (arith, one, more)
 
 -- one run, from a state of so many steps and this cycle
-module _ (p : Past) (a : Keyboard) (cycles : ℕ) (watched : Bool) (s : Stands p a) where
+module _ (p : Past) (a : Keyboard) (cycles : ℕ) (watched : Bool) (s : HasPast p a) where
   pub from_here : state_at (story_of p) a.joint.steps ≡ Some s.world
   from_here = ap (state_at (story_of p)) s.steps ∙ here p a s
 
   -- it doesn't end before the state from which it began
-  goes_forth : (k : Keyboard) (x : RunEnd) (e : Stands (gone_on p k.joint.steps) k) → EndsSo p a cycles watched x k
+  goes_forth : (k : Keyboard) (x : RunEnd) (e : HasPast (gone_on p k.joint.steps) k) → EndsSo p a cycles watched x k
       → k.joint.cycle < 2 ^ 62 → (b : Bool) → leb a.joint.steps k.joint.steps ≡ b → a.joint.steps ≤ k.joint.steps
   goes_forth k x e h near true is = grind (arith, nat_tests, is)
   goes_forth k Passed e h near false is =
@@ -147,10 +147,10 @@ pub both_ways : (x : Bool) → x ≡ true → x ≡ false → ⊥
 both_ways x h g = let e : true ≡ false = sym h ∙ g in absurd cc
 
 -- two runs from one past
-module _ (p : Past) (a b c d : Keyboard) (cycles : ℕ) (watched : Bool) (s : Stands p a) (t : Stands p b)
+module _ (p : Past) (a b c d : Keyboard) (cycles : ℕ) (watched : Bool) (s : HasPast p a) (t : HasPast p b)
     (near : c.joint.cycle < 2 ^ 62) where
   -- the second doesn't go on from where the first ended
-  none_longer : (x y : RunEnd) (e : Stands (gone_on p c.joint.steps) c) (f : Stands (gone_on p d.joint.steps) d)
+  none_longer : (x y : RunEnd) (e : HasPast (gone_on p c.joint.steps) c) (f : HasPast (gone_on p d.joint.steps) d)
       → EndsSo p a cycles watched x c → EndsSo p b cycles watched y d
       → AreBefore p b.joint.steps d.joint.steps (b.joint.cycle + cycles) → c.joint.steps < d.joint.steps → ⊥
   none_longer Passed y e f h g before less =
@@ -187,7 +187,7 @@ module _ (p : Past) (a b c d : Keyboard) (cycles : ℕ) (watched : Bool) (s : St
       both_ways (rises p h.1) h.5 (calm h.0 h.1 (omega (arith, first, steps)) (omega (arith, same, end)))
 
 -- so both end after as many steps
-same_steps : (p : Past) (a b c d : Keyboard) (cycles : ℕ) (watched : Bool) (x y : RunEnd) → Stands p a → Stands p b
+same_steps : (p : Past) (a b c d : Keyboard) (cycles : ℕ) (watched : Bool) (x y : RunEnd) → HasPast p a → HasPast p b
     → HasRun p a cycles watched x c → HasRun p b cycles watched y d → c.joint.cycle < 2 ^ 62 → d.joint.cycle < 2 ^ 62
     → c.joint.steps ≡ d.joint.steps
 same_steps p a b c d cycles watched x y s t h g near far =
@@ -196,17 +196,17 @@ same_steps p a b c d cycles watched x y s t h g near far =
     by : (u v : Bool) → ltb c.joint.steps d.joint.steps ≡ u → ltb d.joint.steps c.joint.steps ≡ v
         → c.joint.steps ≡ d.joint.steps
     by true v k l =
-        absurd (none_longer p a b c d cycles watched s t near x y h.stands g.stands h.ends g.ends g.before
+        absurd (none_longer p a b c d cycles watched s t near x y h.has_past g.has_past h.ends g.ends g.before
         (grind (arith, nat_tests, k)))
     by false true k l =
-        absurd (none_longer p b a d c cycles watched t s far y x g.stands h.stands g.ends h.ends h.before
+        absurd (none_longer p b a d c cycles watched t s far y x g.has_past h.has_past g.ends h.ends h.before
         (grind (arith, nat_tests, l)))
     by false false k l = grind (arith, nat_tests, k, l)
 
 -- and for one reason
-same_reason : (p : Past) (a b c d : Keyboard) (cycles : ℕ) (watched : Bool) (s : Stands p a) (t : Stands p b)
-    (near : c.joint.cycle < 2 ^ 62) (far : d.joint.cycle < 2 ^ 62) (e : Stands (gone_on p c.joint.steps) c)
-    (f : Stands (gone_on p c.joint.steps) d) (same : c.joint.steps ≡ d.joint.steps) (x y : RunEnd)
+same_reason : (p : Past) (a b c d : Keyboard) (cycles : ℕ) (watched : Bool) (s : HasPast p a) (t : HasPast p b)
+    (near : c.joint.cycle < 2 ^ 62) (far : d.joint.cycle < 2 ^ 62) (e : HasPast (gone_on p c.joint.steps) c)
+    (f : HasPast (gone_on p c.joint.steps) d) (same : c.joint.steps ≡ d.joint.steps) (x y : RunEnd)
     → EndsSo p a cycles watched x c → EndsSo p b cycles watched y d → x ≡ y
 same_reason p a b c d cycles watched s t near far e f same Passed Passed h g = refl
 same_reason p a b c d cycles watched s t near far e f same Passed Rose h g =
@@ -243,5 +243,5 @@ same_reason p a b c d cycles watched s t near far e f same (Stuck q) (Stuck r) h
 pub runs_end_alike : RunsEndAlike
 runs_end_alike p a b c d cycles watched x y s t h g near far =
     let same = same_steps p a b c d cycles watched x y s t h g near far in
-    let there : Stands (gone_on p c.joint.steps) d = subst (λ n. Stands (gone_on p n) d) (sym same) g.stands in
-    (same_reason p a b c d cycles watched s t near far h.stands there same x y h.ends g.ends, same)
+    let there : HasPast (gone_on p c.joint.steps) d = subst (λ n. HasPast (gone_on p n) d) (sym same) g.has_past in
+    (same_reason p a b c d cycles watched s t near far h.has_past there same x y h.ends g.ends, same)

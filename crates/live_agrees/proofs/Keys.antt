@@ -3,14 +3,14 @@ use Rattle.std.proofs.Common.{◌≡◌, ◌≤◌, ◌<◌, ℕ, zero, suc, ◌
 use Rattle.std.proofs.Common.{Ok, Err, refl, ap, sym, subst, ◌∙◌, arith}
 use Rattle.std.proofs.lemmas.Bool.Decides.{nat_tests}
 use Rattle.std.proofs.lemmas.List.Elements.{All-head, All-tail}
-use Rattle.board_lines.specs.declared.event.Edge.{Edge}
+use Rattle.board_terms.specs.declared.event.Edge.{Edge}
 use Rattle.joint_run.specs.Joint.{Beside}
 use Rattle.joint_run.specs.Run.{World}
 use Rattle.live_agrees.proofs.Agreed.{states_alike}
 use Rattle.live_agrees.proofs.Ends.{same_cycle}
 use Rattle.live_agrees.specs.Law.{KeysAreAlike}
 use Rattle.live_board.specs.Pasts.{Past}
-use Rattle.live_board.specs.Standing.{AreParted, Stands}
+use Rattle.live_board.specs.States.{AreParted, HasPast}
 use Rattle.live_board.specs.declared.parts.Parts.{Parts as Keyboard}
 use Rattle.live_board.specs.declared.refused.Refused.TheVariants as R
 
@@ -34,7 +34,7 @@ one_part cycle (suc m) (suc n) (e ∷ es) h g within less =
     })
     (omega (arith, within)) (omega (arith, less))
 
-module _ (p : Past) (a b : Keyboard) (s : Stands p a) (t : Stands p b) where
+module _ (p : Past) (a b : Keyboard) (s : HasPast p a) (t : HasPast p b) where
   same_now : s.world.cycle ≡ t.world.cycle
   same_now = ap (λ (w : World Beside). w.cycle) (states_alike p a b s t)
 

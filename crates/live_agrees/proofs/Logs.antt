@@ -2,8 +2,8 @@
 use Rattle.std.proofs.Common.{◌≡◌, ◌≤◌, ℕ, zero, suc, ◌+◌, List, [], ◌++◌, Some, None, ap, sym, subst, ◌∙◌, arith, append_assoc}
 use Rattle.std.proofs.lemmas.List.{append-nil}
 use Rattle.std.specs.declared.option.Option.{Option}
-use Rattle.board_lines.specs.declared.event.Edge.{Edge}
-use Rattle.board_lines.specs.declared.event.HostEvent.{HostEvent}
+use Rattle.board_terms.specs.declared.event.Edge.{Edge}
+use Rattle.board_terms.specs.declared.event.HostEvent.{HostEvent}
 use Rattle.host_turn.specs.declared.stamped.Stamped.{Stamped}
 use Rattle.joint_feed.proofs.Going.{same_state}
 use Rattle.joint_feed.specs.Stories.{Story, state_at}
@@ -16,7 +16,7 @@ use Rattle.live_board.proofs.Timed.{before, joined, step_later}
 use Rattle.mcs48_core.specs.Step.{Stepped, stepped}
 use Rattle.std.specs.Prelude.{slice_get}
 
--- a log with more behind it
+-- a log with more after it
 abbrev pub Goes : List Stamped → List Stamped → Type 0
 Goes earlier later = (more : List Stamped) × (later ≡ earlier ++ more)
 

@@ -5,10 +5,10 @@ use Rattle.std.specs.Prelude.{nat_lt, if◌then◌else◌}
 use Rattle.std.specs.declared.option.Option.{Option}
 use Rattle.std.proofs.lemmas.List.{append-nil}
 use Rattle.agreement.specs.Agreement.{AgreementLaw}
-use Rattle.board_lines.specs.Flips.{AreFlips}
-use Rattle.board_lines.specs.Laws.{ArePlaces}
-use Rattle.board_lines.specs.declared.event.Edge.{Edge}
-use Rattle.board_lines.specs.declared.event.HostEvent.{HostEvent}
+use Rattle.board_terms.specs.Flips.{AreFlips}
+use Rattle.board_terms.specs.Laws.{ArePlaces}
+use Rattle.board_terms.specs.declared.event.Edge.{Edge}
+use Rattle.board_terms.specs.declared.event.HostEvent.{HostEvent}
 use Rattle.edge_queue.proofs.Placed.{handed_in}
 use Rattle.edge_queue.specs.Calls.{Call, ArePlaced, IsPlaced, after, after_call, edge_of, handed, handed_by, if_taken}
 use Rattle.edge_queue.specs.Calls.Call.{Push, Take}

@@ -6,8 +6,8 @@ use Rattle.live_agrees.proofs.Ends.{both_ways, from_here, later_cycle, no_state,
 use Rattle.live_agrees.specs.Law.{RunsStopAlike}
 use Rattle.live_board.proofs.Stepping.{here}
 use Rattle.live_board.specs.Pasts.{Past, gone_on}
-use Rattle.live_board.specs.Running.{AreBefore}
-use Rattle.live_board.specs.Standing.{Stands}
+use Rattle.live_board.specs.RunCalls.{AreBefore}
+use Rattle.live_board.specs.States.{HasPast}
 use Rattle.live_board.specs.Stopping.{AreUnmet, HasStopped, StopsSo, is_met, met_at}
 use Rattle.live_board.specs.declared.parts.Parts.{Parts as Keyboard}
 use Rattle.live_board.specs.declared.stops.Ending.{Ending}
@@ -17,8 +17,8 @@ use Rattle.live_board.specs.declared.stops.Stops.{Stops}
 use Rattle.mcs48_core.specs.declared.stepping.Stuck.{Stuck as Place}
 
 -- a run doesn't end before the state from which it began
-module _ (stops : Stops) (p : Past) (a : Keyboard) (cycles steps : ℕ) (s : Stands p a) where
-  goes_forth : (k : Keyboard) (x : Ending) (e : Stands (gone_on p k.joint.steps) k)
+module _ (stops : Stops) (p : Past) (a : Keyboard) (cycles steps : ℕ) (s : HasPast p a) where
+  goes_forth : (k : Keyboard) (x : Ending) (e : HasPast (gone_on p k.joint.steps) k)
       → StopsSo stops p a cycles steps x k → k.joint.cycle < 2 ^ 62 → (b : Bool) → leb a.joint.steps k.joint.steps ≡ b
       → a.joint.steps ≤ k.joint.steps
   goes_forth k x e h near true is = grind (arith, nat_tests, is)
@@ -49,13 +49,13 @@ unmet_before stops p b d cycles steps ends.Over g j l u = g.2 j l (omega (arith,
 unmet_before stops p b d cycles steps (ends.Stuck q) g j l u = g.3 j l (omega (arith, u))
 
 -- two runs from one past
-module _ (stops : Stops) (p : Past) (a b c d : Keyboard) (cycles steps : ℕ) (s : Stands p a) (t : Stands p b)
+module _ (stops : Stops) (p : Past) (a b c d : Keyboard) (cycles steps : ℕ) (s : HasPast p a) (t : HasPast p b)
     (near : c.joint.cycle < 2 ^ 62) where
   same_begin : a.joint.steps ≡ b.joint.steps
   same_begin = s.steps ∙ sym t.steps
 
   -- the second doesn't go on from where the first ended
-  none_longer : (x y : Ending) (e : Stands (gone_on p c.joint.steps) c) (f : Stands (gone_on p d.joint.steps) d)
+  none_longer : (x y : Ending) (e : HasPast (gone_on p c.joint.steps) c) (f : HasPast (gone_on p d.joint.steps) d)
       → StopsSo stops p a cycles steps x c → StopsSo stops p b cycles steps y d
       → AreBefore p b.joint.steps d.joint.steps (b.joint.cycle + cycles) → d.joint.steps ≤ b.joint.steps + steps
       → c.joint.steps < d.joint.steps → ⊥
@@ -90,7 +90,7 @@ module _ (stops : Stops) (p : Past) (a b c d : Keyboard) (cycles steps : ℕ) (s
       (unmet h.0 (omega (arith, first, begin)) (omega (arith, same, end)))
 
 -- so both end after as many steps
-same_steps : (stops : Stops) (p : Past) (a b c d : Keyboard) (cycles steps : ℕ) (x y : Ending) → Stands p a → Stands p b
+same_steps : (stops : Stops) (p : Past) (a b c d : Keyboard) (cycles steps : ℕ) (x y : Ending) → HasPast p a → HasPast p b
     → HasStopped stops p a cycles steps x c → HasStopped stops p b cycles steps y d → c.joint.cycle < 2 ^ 62
     → d.joint.cycle < 2 ^ 62 → c.joint.steps ≡ d.joint.steps
 same_steps stops p a b c d cycles steps x y s t h g near far =
@@ -99,16 +99,16 @@ same_steps stops p a b c d cycles steps x y s t h g near far =
     by : (u v : Bool) → ltb c.joint.steps d.joint.steps ≡ u → ltb d.joint.steps c.joint.steps ≡ v
         → c.joint.steps ≡ d.joint.steps
     by true v k l =
-        absurd (none_longer stops p a b c d cycles steps s t near x y h.stands g.stands h.why g.why g.before g.few
+        absurd (none_longer stops p a b c d cycles steps s t near x y h.has_past g.has_past h.why g.why g.before g.few
         (grind (arith, nat_tests, k)))
     by false true k l =
-        absurd (none_longer stops p b a d c cycles steps t s far y x g.stands h.stands g.why h.why h.before h.few
+        absurd (none_longer stops p b a d c cycles steps t s far y x g.has_past h.has_past g.why h.why h.before h.few
         (grind (arith, nat_tests, l)))
     by false false k l = grind (arith, nat_tests, k, l)
 
 -- a limit isn't reached where a run ends within both
-module _ (p : Past) (a b c d : Keyboard) (cycles steps : ℕ) (s : Stands p a) (t : Stands p b)
-    (e : Stands (gone_on p c.joint.steps) c) (f : Stands (gone_on p c.joint.steps) d) (same : c.joint.steps ≡ d.joint.steps) where
+module _ (p : Past) (a b c d : Keyboard) (cycles steps : ℕ) (s : HasPast p a) (t : HasPast p b)
+    (e : HasPast (gone_on p c.joint.steps) c) (f : HasPast (gone_on p c.joint.steps) d) (same : c.joint.steps ≡ d.joint.steps) where
   none_within : (a.joint.cycle + cycles ≤ c.joint.cycle) ⊎ (c.joint.steps ≡ a.joint.steps + steps)
       → d.joint.cycle < b.joint.cycle + cycles → d.joint.steps < b.joint.steps + steps → ⊥
   none_within (inl far) soon few =
@@ -118,9 +118,9 @@ module _ (p : Past) (a b c d : Keyboard) (cycles steps : ℕ) (s : Stands p a) (
   none_within (inr all) soon few = let begin = s.steps ∙ sym t.steps in omega (arith, all, few, begin, same)
 
 -- and for one reason
-same_reason : (stops : Stops) (p : Past) (a b c d : Keyboard) (cycles steps : ℕ) (s : Stands p a) (t : Stands p b)
-    (near : c.joint.cycle < 2 ^ 62) (far : d.joint.cycle < 2 ^ 62) (e : Stands (gone_on p c.joint.steps) c)
-    (f : Stands (gone_on p c.joint.steps) d) (same : c.joint.steps ≡ d.joint.steps) (x y : Ending)
+same_reason : (stops : Stops) (p : Past) (a b c d : Keyboard) (cycles steps : ℕ) (s : HasPast p a) (t : HasPast p b)
+    (near : c.joint.cycle < 2 ^ 62) (far : d.joint.cycle < 2 ^ 62) (e : HasPast (gone_on p c.joint.steps) c)
+    (f : HasPast (gone_on p c.joint.steps) d) (same : c.joint.steps ≡ d.joint.steps) (x y : Ending)
     → StopsSo stops p a cycles steps x c → StopsSo stops p b cycles steps y d → x ≡ y
 same_reason stops p a b c d cycles steps s t near far e f same ends.Over y h g =
     let k = h.0 in absurd (omega (arith, k, near))
@@ -145,8 +145,8 @@ same_reason stops p a b c d cycles steps s t near far e f same (ends.Met what) (
 same_reason stops p a b c d cycles steps s t near far e f same (ends.Met what) (ends.Stuck q) h g =
     absurd (none_unmet stops p a b c d cycles steps s t near what h same g.3)
 same_reason stops p a b c d cycles steps s t near far e f same (ends.Stuck q) ends.Passed h g =
-    absurd (none_within p b a d c cycles steps t s (subst (λ n. Stands (gone_on p n) d) same f)
-    (subst (λ n. Stands (gone_on p n) c) same e) (sym same) g.0 h.2.soon h.2.few)
+    absurd (none_within p b a d c cycles steps t s (subst (λ n. HasPast (gone_on p n) d) same f)
+    (subst (λ n. HasPast (gone_on p n) c) same e) (sym same) g.0 h.2.soon h.2.few)
 same_reason stops p a b c d cycles steps s t near far e f same (ends.Stuck q) (ends.Met what) h g =
     absurd (none_unmet stops p b a d c cycles steps t s far what g (sym same) h.3)
 same_reason stops p a b c d cycles steps s t near far e f same (ends.Stuck q) (ends.Stuck r) h g =
@@ -155,5 +155,5 @@ same_reason stops p a b c d cycles steps s t near far e f same (ends.Stuck q) (e
 pub runs_stop_alike : RunsStopAlike
 runs_stop_alike stops p a b c d cycles steps x y s t h g near far =
     let same = same_steps stops p a b c d cycles steps x y s t h g near far in
-    let there : Stands (gone_on p c.joint.steps) d = subst (λ n. Stands (gone_on p n) d) (sym same) g.stands in
-    (same_reason stops p a b c d cycles steps s t near far h.stands there same x y h.why g.why, same)
+    let there : HasPast (gone_on p c.joint.steps) d = subst (λ n. HasPast (gone_on p n) d) (sym same) g.has_past in
+    (same_reason stops p a b c d cycles steps s t near far h.has_past there same x y h.why g.why, same)

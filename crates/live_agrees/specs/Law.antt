@@ -3,24 +3,24 @@ use Rattle.std.specs.Prelude.{◌≡◌, ◌<◌, ◌^◌, ℕ, Bool, List, [], 
 use Rattle.std.specs.declared.option.Option.{Option}
 use Rattle.std.specs.declared.result.Result.{Result}
 use Rattle.agreement.specs.AnyStart.{AreFor, ShowsFew, model_from}
-use Rattle.board_lines.specs.declared.event.HostAct.{HostAct}
+use Rattle.board_terms.specs.declared.event.HostAct.{HostAct}
 use Rattle.fw_compile.specs.Image.{image_of}
 use Rattle.fw_kernel.specs.declared.labels.TheConstants.{TICK}
 use Rattle.host_turn.specs.declared.stamped.Stamped.{Stamped}
 use Rattle.joint_run.specs.Joint.{Beside, joint_board, joint_start, log_of}
 use Rattle.joint_run.specs.Run.{World}
 use Rattle.joint_run.specs.Starts.{IsStart}
-use Rattle.board_lines.specs.Flips.{AreFlips}
+use Rattle.board_terms.specs.Flips.{AreFlips}
 use Rattle.key_file.specs.Accepted.{AreHostEventsInOrder, AreWritten, IsLawfulFor}
 use Rattle.key_file.specs.Histories.{KeyHistory}
 use Rattle.layout_reader.specs.Layouts.{IsKeyLayout, KeyLayout}
 use Rattle.link_model.specs.Expected.{whole_at}
 use Rattle.link_model.specs.Machine.{keyboard}
-use Rattle.live_board.specs.Answers.{Told}
-use Rattle.live_board.specs.Calls.{IsActed, IsKeyed, Tells}
+use Rattle.live_board.specs.Answers.{ItemAnswer}
+use Rattle.live_board.specs.Calls.{IsActed, IsKeyed, GivesFirst}
 use Rattle.live_board.specs.Pasts.{Past, state_of}
-use Rattle.live_board.specs.Running.{HasRun}
-use Rattle.live_board.specs.Standing.{Stands}
+use Rattle.live_board.specs.RunCalls.{HasRun}
+use Rattle.live_board.specs.States.{HasPast}
 use Rattle.live_board.specs.Stopping.{HasStopped}
 use Rattle.live_board.specs.declared.parts.Parts.{Parts as Keyboard}
 use Rattle.live_board.specs.declared.ran.RunEnd.{RunEnd}
@@ -43,50 +43,50 @@ pub record BeginsExpected (layout : KeyLayout) (p : Past) (log : List Stamped) :
 -- so is what was said so far, if a keyboard is in a past that is lawful for the layout, however long
 abbrev pub LogsAgree : Type 0
 LogsAgree =
-    (layout : KeyLayout) (p : Past) (stop : ℕ) (k : Keyboard) (s : Stands p k) → IsKeyLayout layout
+    (layout : KeyLayout) (p : Past) (stop : ℕ) (k : Keyboard) (s : HasPast p k) → IsKeyLayout layout
     → p.bytes ≡ image_of layout → IsLawfulFor layout (history_of p stop)
     → BeginsExpected layout p (log_of s.world.board)
 
 -- two keyboards in one past are in one state of the run
 abbrev pub StatesAreAlike : Type 0
-StatesAreAlike = (p : Past) (a b : Keyboard) (s : Stands p a) (t : Stands p b) → s.world ≡ t.world
+StatesAreAlike = (p : Past) (a b : Keyboard) (s : HasPast p a) (t : HasPast p b) → s.world ≡ t.world
 
--- what is told between two pasts, if keyboards are in them, is one byte
+-- what is reported between two pasts, if keyboards are in them, is one byte
 abbrev pub AnswersAreAlike : Type 0
 AnswersAreAlike =
-    (f : Told → Option ℕ) (p q : Past) (a b : Keyboard) (x y : ℕ) → Stands p a → Stands q b
-    → Tells f p q x → Tells f p q y → x ≡ y
+    (f : ItemAnswer → Option ℕ) (p q : Past) (a b : Keyboard) (x y : ℕ) → HasPast p a → HasPast q b
+    → GivesFirst f p q x → GivesFirst f p q y → x ≡ y
 
 -- and it is one word, or none
 abbrev pub WordsAreAlike : Type 0
 WordsAreAlike =
-    (f : Told → Option (Option ℕ)) (p q : Past) (a b : Keyboard) (x y : Option ℕ) → Stands p a → Stands q b
-    → Tells f p q x → Tells f p q y → x ≡ y
+    (f : ItemAnswer → Option (Option ℕ)) (p q : Past) (a b : Keyboard) (x y : Option ℕ) → HasPast p a → HasPast q b
+    → GivesFirst f p q x → GivesFirst f p q y → x ≡ y
 
 -- a call of the host is done of both, or refused of both for one cause
 abbrev pub CallsAreAlike : Type 0
 CallsAreAlike =
-    (act : HostAct) (p : Past) (a b c d : Keyboard) (x y : Result (Unit {0}) Refused) → Stands p a → Stands p b
+    (act : HostAct) (p : Past) (a b c d : Keyboard) (x y : Result (Unit {0}) Refused) → HasPast p a → HasPast p b
     → IsActed act a x c → IsActed act b y d → x ≡ y
 
 -- so is the call of a key
 abbrev pub KeysAreAlike : Type 0
 KeysAreAlike =
-    (place : ℕ) (down : Bool) (p : Past) (a b c d : Keyboard) (x y : Result (Unit {0}) Refused) → Stands p a → Stands p b
+    (place : ℕ) (down : Bool) (p : Past) (a b c d : Keyboard) (x y : Result (Unit {0}) Refused) → HasPast p a → HasPast p b
     → IsKeyed place down a x c → IsKeyed place down b y d → x ≡ y
 
 -- a run of so many cycles, with the interrupt line watched or not, ends for one reason and after as many steps, if the
 -- count of cycles doesn't come to its end
 abbrev pub RunsEndAlike : Type 0
 RunsEndAlike =
-    (p : Past) (a b c d : Keyboard) (cycles : ℕ) (watched : Bool) (x y : RunEnd) → Stands p a → Stands p b
+    (p : Past) (a b c d : Keyboard) (cycles : ℕ) (watched : Bool) (x y : RunEnd) → HasPast p a → HasPast p b
     → HasRun p a cycles watched x c → HasRun p b cycles watched y d → c.joint.cycle < 2 ^ 62 → d.joint.cycle < 2 ^ 62
     → (x ≡ y) × (c.joint.steps ≡ d.joint.steps)
 
 -- so does a run that stops for what it is asked to
 abbrev pub RunsStopAlike : Type 0
 RunsStopAlike =
-    (stops : Stops) (p : Past) (a b c d : Keyboard) (cycles steps : ℕ) (x y : Ending) → Stands p a → Stands p b
+    (stops : Stops) (p : Past) (a b c d : Keyboard) (cycles steps : ℕ) (x y : Ending) → HasPast p a → HasPast p b
     → HasStopped stops p a cycles steps x c → HasStopped stops p b cycles steps y d → c.joint.cycle < 2 ^ 62
     → d.joint.cycle < 2 ^ 62 → (x ≡ y) × (c.joint.steps ≡ d.joint.steps)
 
@@ -103,7 +103,7 @@ pub record BeginsShown (layout : KeyLayout) (p : Past) (log : List Stamped) : Ty
 -- so is what was said so far, whether or not keys bounced, if no tick shows more than four keys that changed
 abbrev pub LogsAreShown : Type 0
 LogsAreShown =
-    (layout : KeyLayout) (p : Past) (k : Keyboard) (s : Stands p k) → IsKeyLayout layout → p.bytes ≡ image_of layout
+    (layout : KeyLayout) (p : Past) (k : Keyboard) (s : HasPast p k) → IsKeyLayout layout → p.bytes ≡ image_of layout
     → AreFor layout p.edges p.events → ((n : ℕ) → ShowsFew p.edges n) → BeginsShown layout p (log_of s.world.board)
 
 -- of a layout's image each past has a state, whatever keys, host events and number of steps it has. So no call is refused, and

@@ -1,8 +1,8 @@
 -- A keyboard whose keys come out of a queue, against the model.
 use Rattle.std.specs.Prelude.{◌≡◌, ◌<◌, ◌-◌, ℕ, List, [], All, None, Some}
 use Rattle.std.specs.declared.option.Option.{Option}
-use Rattle.board_lines.specs.Flips.{AreFlips}
-use Rattle.board_lines.specs.declared.event.Edge.{Edge}
+use Rattle.board_terms.specs.Flips.{AreFlips}
+use Rattle.board_terms.specs.declared.event.Edge.{Edge}
 use Rattle.edge_queue.specs.Calls.{Call, ArePlaced, after, handed}
 use Rattle.edge_queue.specs.Queue.{Queue, after_taken, all_released, empty, pushed, taken}
 use Rattle.edge_queue.specs.declared.queue.Pushed.{Pushed}
@@ -13,7 +13,7 @@ use Rattle.layout_reader.specs.Layouts.{IsKeyLayout, KeyLayout}
 use Rattle.live_agrees.specs.Law.{BeginsExpected}
 use Rattle.live_board.specs.Calls.{pressed_now}
 use Rattle.live_board.specs.Pasts.{Past}
-use Rattle.live_board.specs.Standing.{Stands}
+use Rattle.live_board.specs.States.{HasPast}
 use Rattle.live_board.specs.declared.parts.Parts.{Parts as Keyboard}
 
 -- these edges are those that calls of a queue have handed over, and this is the queue after the calls
@@ -44,7 +44,7 @@ pub record StaysQueued : Type 0 where
 -- or the parity alone
 abbrev pub QueuedLogsAgree : Type 0
 QueuedLogsAgree =
-    (layout : KeyLayout) (p : Past) (q : Queue) (k : Keyboard) (s : Stands p k) → IsKeyLayout layout
+    (layout : KeyLayout) (p : Past) (q : Queue) (k : Keyboard) (s : HasPast p k) → IsKeyLayout layout
     → p.bytes ≡ image_of layout → AreFrom p.edges q → All (λ e. IsPlaceOf layout e.place) p.edges
     → AreHostEventsInOrder p.events → AreWritten p.events → AreFlips p.events
     → BeginsExpected layout p (log_of s.world.board)

@@ -6,16 +6,16 @@ use Rattle.std.specs.Option.{option_map_or}
 use Rattle.std.specs.declared.option.Option.{Option}
 use Rattle.std.proofs.lemmas.Bool.Decides.{nat_tests}
 use Rattle.std.proofs.lemmas.List.{append-nil}
-use Rattle.board_lines.specs.declared.event.HostAct.{HostAct}
-use Rattle.board_lines.specs.declared.event.HostAct.TheVariants.{Write60, Write64, Read60, Mask, Unmask, Take, Status, Flip}
-use Rattle.board_lines.specs.declared.event.HostEvent.{HostEvent}
-use Rattle.board_lines.specs.declared.lines.Lines.{Lines}
+use Rattle.board_terms.specs.declared.event.HostAct.{HostAct}
+use Rattle.board_terms.specs.declared.event.HostAct.TheVariants.{Write60, Write64, Read60, Mask, Unmask, Take, Status, Flip}
+use Rattle.board_terms.specs.declared.event.HostEvent.{HostEvent}
+use Rattle.board_terms.specs.declared.lines.Lines.{Lines}
 use Rattle.ctl_core.specs.Controller.{ControllerState, asks_again, put_out, gave_up}
 use Rattle.ctl_core.specs.Translation.{after_wrong}
 use Rattle.ctl_link.specs.Link.{broken_off, core_after, received, settled}
 use Rattle.ctl_link.specs.declared.link.Link.{Link}
 use Rattle.ctl_link.specs.declared.link.Link.TheVariants.{Free, Hold, Ask, Request, Busy}
-use Rattle.ctl_link.specs.declared.port.Port.{Port}
+use Rattle.ctl_link.specs.declared.port.LinkEnd.{LinkEnd}
 use Rattle.ctl_wire.specs.Cycles.{port_looked}
 use Rattle.ctl_wire.specs.Wire.{edge_at, edge_in, is_breakable}
 use Rattle.ctl_wire.specs.declared.wire.Wire.{Wire}
@@ -54,9 +54,9 @@ core_input : (byte : Option ℕ) (s : ControllerState) → (core_after byte s).i
 core_input None s = wrong_input s
 core_input (Some byte) s = put_input _ _
 
-in_input : (now : ℕ) (dat : Bool) (w : Wire) (p : Port Wire) → (edge_in now dat w p).core.input ≡ p.core.input
+in_input : (now : ℕ) (dat : Bool) (w : Wire) (p : LinkEnd Wire) → (edge_in now dat w p).core.input ≡ p.core.input
 in_input now dat (Recv flip bits) p =
-    let byte : Option ℕ = Rattle.board_lines.specs.Frame.byte_of (Rattle.ctl_wire.specs.Wire.turned flip (bits ++ dat ∷ [])) in
+    let byte : Option ℕ = Rattle.board_terms.specs.Frame.byte_of (Rattle.ctl_wire.specs.Wire.turned flip (bits ++ dat ∷ [])) in
     elim (length bits == 10) as (λ b.
     (if b then received now byte p else record p { link = Busy (Recv flip (bits ++ dat ∷ [])) }).core.input ≡ p.core.input) [
       | true ↦ core_input byte p.core
@@ -67,14 +67,14 @@ in_input now dat (Send byte edges) p =
     (if b then Rattle.ctl_link.specs.Link.handed_over p else record p { link = Busy (Send byte (edges + 1)) }).core.input
     ≡ p.core.input) [ true ↦ refl | false ↦ refl ]
 
-edge_input : (now : ℕ) (dat : Bool) (l : Link Wire) (p : Port Wire) → (edge_at now dat l p).core.input ≡ p.core.input
+edge_input : (now : ℕ) (dat : Bool) (l : Link Wire) (p : LinkEnd Wire) → (edge_at now dat l p).core.input ≡ p.core.input
 edge_input now dat Free p = refl
 edge_input now dat (Hold since) p = refl
 edge_input now dat (Ask byte since) p = refl
 edge_input now dat (Request byte) p = refl
 edge_input now dat (Busy w) p = in_input now dat w p
 
-look_input : (now : ℕ) (clock : Bool) (line : Lines) (p : Port Wire) → (port_looked now clock line p).core.input ≡ p.core.input
+look_input : (now : ℕ) (clock : Bool) (line : Lines) (p : LinkEnd Wire) → (port_looked now clock line p).core.input ≡ p.core.input
 look_input now clock line p =
     elim (clock && not line.clk) as (λ b. (if b then edge_at now line.dat p.link p else p).core.input ≡ p.core.input) [
       | true ↦ edge_input now line.dat p.link p
@@ -97,7 +97,7 @@ done_now now e s l h =
     let due : nat_le (e.stamp + 4096) now ≡ true = grind (arith, nat_tests, l) in
     ap (λ b. b && not (waits e.act s)) due ∙ ap not h
 
--- an event that is done is answered, behind the lights and before the rest
+-- an event that is done is answered, after the lights and before the rest
 answered_lit : (act : HostAct) (h : Host) (now shown lights : ℕ) (items said : List Item) (more : List Stamped)
     → IsAnswered act ((lights_said now shown lights ++ stamped now (((acted act h).items ++ items) ++ said)) ++ more)
 answered_lit (Write60 byte) h now shown lights items said more = tt

@@ -7,10 +7,10 @@ use Rattle.std.specs.declared.option.Option.{Option}
 use Rattle.std.proofs.lemmas.Bool.Decides.{nat_tests}
 use Rattle.std.proofs.lemmas.List.{append-nil}
 use Rattle.std.proofs.lemmas.List.Elements.{All-head, All-tail, filter-append}
-use Rattle.board_lines.specs.Edges.{is_made}
-use Rattle.board_lines.specs.Matrix.{all_up, turned_by}
-use Rattle.board_lines.specs.declared.event.Edge.{Edge}
-use Rattle.board_lines.specs.declared.event.HostEvent.{HostEvent}
+use Rattle.board_terms.specs.Edges.{is_made}
+use Rattle.board_terms.specs.Matrix.{all_up, turned_by}
+use Rattle.board_terms.specs.declared.event.Edge.{Edge}
+use Rattle.board_terms.specs.declared.event.HostEvent.{HostEvent}
 use Rattle.ctl_link.specs.Link.{broken_off, settled}
 use Rattle.ctl_wire.specs.Wire.{is_breakable}
 use Rattle.ctl_wire.specs.declared.wire.Wire.{Wire}
@@ -58,7 +58,7 @@ next_alike now last n [] more d l h = beyond now last n more d l h
 next_alike now last zero (e ∷ hs) more d l h = refl
 next_alike now last (suc n) (e ∷ hs) more d l h = next_alike now last n hs more d l h
 
--- what stands outside the processor, by what the host and the controller come to
+-- what is outside the processor, by what the host and the controller come to
 abbrev passed_by : ℕ → ℕ → Outside → Cycled Wire → Passed
 passed_by now p2 o c = record {
   outside = record { desk = c.desk; clock = (looked_outside now (outside_wires p2 o) o).clock; shown = lights_of p2 };

@@ -1,15 +1,15 @@
--- What the calls add stands at the end of the past.
+-- What the calls add is at the end of the past.
 use Rattle.std.proofs.Common.{◌≡◌, ◌≤◌, ◌<◌, ℕ, suc, ◌+◌, ◌-◌, false, List, [], ◌∷◌, ◌++◌, take, drop, Some}
 use Rattle.std.proofs.Common.{None, Ok, Err, refl, ap, sym, subst, ◌∙◌, arith, length-append}
 use Rattle.std.specs.List.{All}
 use Rattle.std.proofs.lemmas.List.{append-nil, drop-append-le, take-append-le}
 use Rattle.std.proofs.lemmas.List.Elements.{All-append, All-cons, All-head, All-nil, All-tail}
 use Rattle.std.proofs.Math.Seq.{drop-append_seam}
-use Rattle.board_lines.specs.Edges.{AreInOrder}
-use Rattle.board_lines.specs.Matrix.{all_up, turned_by}
-use Rattle.board_lines.specs.declared.event.Edge.{Edge}
-use Rattle.board_lines.specs.declared.event.HostAct.{HostAct}
-use Rattle.board_lines.specs.declared.event.HostEvent.{HostEvent}
+use Rattle.board_terms.specs.Edges.{AreInOrder}
+use Rattle.board_terms.specs.Matrix.{all_up, turned_by}
+use Rattle.board_terms.specs.declared.event.Edge.{Edge}
+use Rattle.board_terms.specs.declared.event.HostAct.{HostAct}
+use Rattle.board_terms.specs.declared.event.HostEvent.{HostEvent}
 use Rattle.host_turn.specs.Host.{waits}
 use Rattle.joint_run.specs.Due.{due_step, made_first, IsJointStep}
 use Rattle.joint_run.specs.History.{GoesOn, IsInRun, IsStepOfRun}
@@ -31,12 +31,12 @@ use Rattle.live_board.proofs.Stepping.{later_edges, later_events, on, parted_on,
 use Rattle.live_board.specs.Acts.{IsAnswered}
 use Rattle.live_board.specs.Calls.{IsActed, Says, place_of}
 use Rattle.live_board.specs.Pasts.{Past, acted, pressed, state_of, story_of}
-use Rattle.live_board.specs.Standing.{Stands}
+use Rattle.live_board.specs.States.{HasPast}
 use Rattle.live_board.specs.declared.parts.Parts.{Parts as Keyboard}
 use Rattle.live_board.specs.declared.refused.Refused.{Refused}
 
 -- the machine is in the run of the past with one event of the host more, whose stamp is now
-event_grown : (p : Past) (k : Keyboard) (s : Stands p k) (e : HostEvent)
+event_grown : (p : Past) (k : Keyboard) (s : HasPast p k) (e : HostEvent)
     → k.joint.cycle ≤ e.stamp + 4096 → IsInRun p.edges (p.events ++ e ∷ []) k.joint s.made s.world
 event_grown p k s e late =
     let r = s.in_run in
@@ -59,7 +59,7 @@ event_grown p k s e late =
     }
 
 -- and with one edge more
-edge_grown : (p : Past) (k : Keyboard) (s : Stands p k) (e : Edge)
+edge_grown : (p : Past) (k : Keyboard) (s : HasPast p k) (e : Edge)
     → k.joint.cycle ≤ e.stamp + 4096 → IsInRun (p.edges ++ e ∷ []) p.events k.joint s.made s.world
 edge_grown p k s e late =
     let r = s.in_run in
@@ -99,7 +99,7 @@ module _ (old : Keyboard) (act : HostAct) (late : 4096 ≤ old.joint.cycle) (roo
   pub answered_here : IsAnswered act seen.items.items
   answered_here = subst (IsAnswered act) (sym (step_made due old.joint seen new is).seen_so.items) done_here.answered
 
-  module _ (p : Past) (s : Stands p old) (wait : due.edges.items ≡ old.due.edges.items)
+  module _ (p : Past) (s : HasPast p old) (wait : due.edges.items ≡ old.due.edges.items)
       (run : IsStepOfRun due old.joint (Ok seen) new) where
     grown_run : IsInRun p.edges (p.events ++ event ∷ []) old.joint s.made s.world
     grown_run = event_grown p old s event (omega (arith, late))
@@ -121,7 +121,7 @@ module _ (old : Keyboard) (act : HostAct) (late : 4096 ≤ old.joint.cycle) (roo
         omega (arith, a, b)
 
     pub acted_on : (k : Keyboard) → k.joint ≡ new
-        → k.due.edges.items ≡ drop seen.edges due.edges.items → k.due.host.items ≡ [] → Stands (acted p (old.joint.cycle - 4096) act) k
+        → k.due.edges.items ≡ drop seen.edges due.edges.items → k.due.host.items ≡ [] → HasPast (acted p (old.joint.cycle - 4096) act) k
     unfolding goes
     acted_on k joint left none =
         let es = p.edges in
@@ -143,11 +143,11 @@ module _ (old : Keyboard) (act : HostAct) (late : 4096 ≤ old.joint.cycle) (roo
           none_waits = none;
           all_done =
               let one = done_here.one in
-              let told = (step_made due old.joint seen new is).seen_so.host in
+              let log_kept = (step_made due old.joint seen new is).seen_so.host in
               let more = goes.done in
               let before = s.all_done in
               let long = length-append p.events (event ∷ []) in
-              omega (arith, one, told, more, before, long);
+              omega (arith, one, log_kept, more, before, long);
           order = s.order;
           reached = record {
             edges_reached = later_edges w.cycle goes.next.cycle es cycle s.reached.edges_reached;
@@ -178,7 +178,7 @@ module _ (old : Keyboard) (act : HostAct) (late : 4096 ≤ old.joint.cycle) (roo
 -- where the processor is stuck no state follows
 pub acted_stuck : (old : Keyboard) (act : HostAct) → 4096 ≤ old.joint.cycle → (due : Due) (new : Machine) (stuck : Stuck)
     → due.host.items ≡ record { stamp = old.joint.cycle - 4096; act = act } ∷ [] → due.edges.items ≡ old.due.edges.items
-    → IsStepOfRun due old.joint (Err stuck) new → (p : Past) → Stands p old → state_of (acted p (old.joint.cycle - 4096) act) ≡ None
+    → IsStepOfRun due old.joint (Err stuck) new → (p : Past) → HasPast p old → state_of (acted p (old.joint.cycle - 4096) act) ≡ None
 acted_stuck old act late due new stuck only wait run p s =
     let e : HostEvent = record { stamp = old.joint.cycle - 4096; act = act } in
     let h = handed p.edges s.made s.world.cycle due.edges.items (wait ∙ s.edges_wait) in
@@ -197,16 +197,16 @@ pub stuck_at : (due : Due) (old new : Machine) (stuck : Stuck) (o : Option (Worl
 stuck_at due old new stuck None h = h.0
 stuck_at due old new stuck (Some w) h = absurd h
 
--- after a call of the host's there is a past to stand in, of the same program and the same edges
-pub stands_after : (p : Past) (act : HostAct) (old new : Keyboard) (r : Result (Unit {0}) Refused) → Stands p old → IsActed act old r new
-    → (q : Past) × (q.bytes ≡ p.bytes) × (q.edges ≡ p.edges) × Stands q new
-stands_after p act old new (Ok done) s h = (acted p (old.joint.cycle - 4096) act, refl, refl, h.1 p s)
-stands_after p act old new (Err refused) s h = (p, refl, refl, h.2 p s)
+-- after a call of the host's there is a past to be in, of the same program and the same edges
+pub holds_after : (p : Past) (act : HostAct) (old new : Keyboard) (r : Result (Unit {0}) Refused) → HasPast p old → IsActed act old r new
+    → (q : Past) × (q.bytes ≡ p.bytes) × (q.edges ≡ p.edges) × HasPast q new
+holds_after p act old new (Ok done) s h = (acted p (old.joint.cycle - 4096) act, refl, refl, h.1 p s)
+holds_after p act old new (Err refused) s h = (p, refl, refl, h.2 p s)
 
 -- nothing has changed but what the last step said
-pub stands_still : (p : Past) (old new : Keyboard)
-    → new.joint ≡ old.joint → new.due.edges.items ≡ old.due.edges.items → new.due.host.items ≡ [] → Stands p old → Stands p new
-stands_still p old new joint edges host s = record {
+pub holds_still : (p : Past) (old new : Keyboard)
+    → new.joint ≡ old.joint → new.due.edges.items ≡ old.due.edges.items → new.due.host.items ≡ [] → HasPast p old → HasPast p new
+holds_still p old new joint edges host s = record {
   made = s.made;
   made_within = s.made_within;
   world = s.world;
@@ -221,7 +221,7 @@ stands_still p old new joint edges host s = record {
   parted = s.parted;
 }
 
--- an edge whose stamp is now stands behind those before it
+-- an edge whose stamp is now is after those before it
 in_order : (cycle : ℕ) (es : List Edge) (e : Edge)
     → AreInOrder es → All (λ e. e.stamp + 4096 ≤ cycle) es → cycle ≤ e.stamp + 4096 → AreInOrder (es ++ e ∷ [])
 in_order cycle [] e order reached l = tt
@@ -233,7 +233,7 @@ in_order cycle (a ∷ b ∷ es) e order reached l =
 -- a key goes down or up
 pub keyed_on : (p : Past) (old new : Keyboard) (e : Edge)
     → 4096 ≤ old.joint.cycle → e.stamp ≡ old.joint.cycle - 4096 → new.joint ≡ old.joint
-    → new.due.edges.items ≡ old.due.edges.items ++ e ∷ [] → new.due.host ≡ old.due.host → Stands p old → Stands (pressed p e) new
+    → new.due.edges.items ≡ old.due.edges.items ++ e ∷ [] → new.due.host ≡ old.due.host → HasPast p old → HasPast (pressed p e) new
 keyed_on p old new e late stamp joint edges host s =
     let at = s.in_run.cycle in
     let now : old.joint.cycle ≤ e.stamp + 4096 = omega (arith, late, stamp) in

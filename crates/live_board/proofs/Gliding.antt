@@ -3,7 +3,7 @@ use Rattle.std.proofs.Common.{◌≡◌, ◌≤◌, ◌<◌, ℕ, zero, suc, ◌
 use Rattle.std.proofs.Common.{drop, None, Some, Ok, Err, refl, ap, sym, ◌∙◌, arith}
 use Rattle.std.proofs.lemmas.Bool.Decides.{nat_tests}
 use Rattle.std.specs.Prelude.{◌==◌, ◌||◌}
-use Rattle.joint_glide.specs.Quiet.{AreQuiet, HasGone}
+use Rattle.joint_glide.specs.Uneventful.{AreUneventful, HasGone}
 use Rattle.std.specs.declared.option.Option.{Option}
 use Rattle.joint_feed.specs.Stories.{state_at}
 use Rattle.joint_run.specs.Due.{due_step, IsJointStep}
@@ -19,18 +19,18 @@ use Rattle.live_board.proofs.Watching.{GoesOnSo, before_on, goes_more, goes_stil
 use Rattle.live_board.specs.Calls.{place_of}
 use Rattle.live_board.specs.Pasts.{Past, gone_on, story_of}
 use Rattle.live_board.specs.Rising.{irq_of, rose}
-use Rattle.live_board.specs.Running.{HasRun}
-use Rattle.live_board.specs.Standing.{Stands}
+use Rattle.live_board.specs.RunCalls.{HasRun}
+use Rattle.live_board.specs.States.{HasPast}
 use Rattle.live_board.specs.declared.irq.Irq.{Irq}
 use Rattle.live_board.specs.declared.parts.Parts.{Parts as Keyboard}
 use Rattle.live_board.specs.declared.ran.RunEnd.TheVariants as ends
 
--- quiet steps leave what stands outside the processor, and only go on
+-- quiet steps leave what is outside the processor, and only go on
 record IsAfter (old new : Machine) : Type 0 where
   pub outside : new.outside ≡ old.outside
   pub later : old.cycle ≤ new.cycle
 
-quiet_after : (due : Due) (tick n : ℕ) (old new : Machine) → AreQuiet due tick n old new → IsAfter old new
+quiet_after : (due : Due) (tick n : ℕ) (old new : Machine) → AreUneventful due tick n old new → IsAfter old new
 quiet_after due tick zero old new h = record {
   outside = ap (λ (m : Machine). m.outside) h;
   later = let c = ap (λ (m : Machine). m.cycle) h in omega (arith, c);
@@ -53,7 +53,7 @@ steady i =
 
 pub goes_quietly : (p : Past) (old : Keyboard) (cycles : ℕ) (watched : Bool) (k : Keyboard) (tick n : ℕ) (m : Machine)
     → GoesOnSo p old cycles watched k
-    → AreQuiet k.due tick n k.joint m → m.cycle ≤ old.joint.cycle + cycles → GoesOnSo p old cycles watched (record k { joint = m })
+    → AreUneventful k.due tick n k.joint m → m.cycle ≤ old.joint.cycle + cycles → GoesOnSo p old cycles watched (record k { joint = m })
 goes_quietly p old cycles watched k tick zero m so h room = goes_still p old cycles watched k (record k { joint = m }) h refl so
 goes_quietly p old cycles watched k tick (suc n) m so h room =
     let between : Machine = h.0 in
@@ -65,7 +65,7 @@ goes_quietly p old cycles watched k tick (suc n) m so h room =
     let before : GoesOnSo p old cycles watched here =
     goes_quietly p old cycles watched k tick n between so h.1 (omega (arith, at, some, room)) in
     let left : k.due.edges.items ≡ drop q.seen.edges k.due.edges.items = ap (λ e. drop e k.due.edges.items) (sym q.edges) in
-    let t : Stands (gone_on p m.steps) next = one_on (gone_on p between.steps) here before.stands next q.step q.run left refl in
+    let t : HasPast (gone_on p m.steps) next = one_on (gone_on p between.steps) here before.has_past next q.step q.run left refl in
     let steps = (counted k.due between m q.seen q.step).1 in
     let flat : rose (irq_of between.outside.desk.port) (irq_of m.outside.desk.port) ≡ false =
     ap (λ (o : Outside). rose (irq_of between.outside.desk.port) (irq_of o.desk.port)) (ap (λ (x : Machine). x.outside) q.parts)
@@ -74,7 +74,7 @@ goes_quietly p old cycles watched k tick (suc n) m so h room =
     (goes_more p old cycles watched here next before t steps (omega (arith, at, some, room)) (λ is. flat))
 
 -- quiet steps, which end before so many cycles have passed
-module _ (k : Keyboard) (count : ℕ) (last : Machine) (quiet : AreQuiet k.due 2048 count k.joint last) where
+module _ (k : Keyboard) (count : ℕ) (last : Machine) (quiet : AreUneventful k.due 2048 count k.joint last) where
   pub same_outside : last.outside ≡ k.joint.outside
   same_outside = (quiet_after k.due 2048 count k.joint last quiet).outside
 
@@ -107,27 +107,27 @@ module _ (k new : Keyboard) (most : ℕ) (g : HasGone k.due 2048 most k.joint (O
     pub one_step : new.joint.steps ≡ suc g.last.steps
     one_step = (counted k.due g.last new.joint new.seen g.step).1
 
-    pub stands_on : Stands (gone_on p new.joint.steps) new
-    stands_on = one_on (gone_on p g.last.steps) before so_last.stands new g.step g.run left same
+    pub holds_on : HasPast (gone_on p new.joint.steps) new
+    holds_on = one_on (gone_on p g.last.steps) before so_last.has_past new g.step g.run left same
 
     pub goes_all : (watched ≡ true → rose (irq_of k.joint.outside.desk.port) (irq_of new.joint.outside.desk.port) ≡ false)
         → GoesOnSo p old cycles watched new
     goes_all flat =
-        goes_more p old cycles watched before new so_last stands_on one_step last_room
+        goes_more p old cycles watched before new so_last holds_on one_step last_room
         (λ is. ap (λ x. rose x (irq_of new.joint.outside.desk.port)) (same_line k g.count g.last g.quiet) ∙ flat is)
 
     pub has_risen : (watched ≡ true) × (rose (irq_of k.joint.outside.desk.port) (irq_of new.joint.outside.desk.port) ≡ true)
         → HasRun p old cycles watched ends.Rose new
     has_risen risen = record {
-      stands = stands_on;
-      before = before_on p old cycles watched before new so_last stands_on one_step last_room;
+      has_past = holds_on;
+      before = before_on p old cycles watched before new so_last holds_on one_step last_room;
       ends = (
         risen.0,
         g.last.steps,
         one_step,
         so_last.more,
         so_last.calm risen.0,
-        rose_here p old cycles watched before new so_last stands_on one_step last_room
+        rose_here p old cycles watched before new so_last holds_on one_step last_room
             (ap (λ x. rose x (irq_of new.joint.outside.desk.port)) (same_line k g.count g.last g.quiet) ∙ risen.1),
       );
     }
@@ -157,10 +157,10 @@ has_stuck k new most stuck g due p old cycles watched so room =
     let cycle = ap (λ (m : Machine). m.cycle) is in
     let steps = ap (λ (m : Machine). m.steps) is in
     record {
-      stands = still.stands;
+      has_past = still.has_past;
       before = still.before;
       ends = (
-        ap (λ n. state_at (story_of p) (suc n)) steps ∙ no_further (gone_on p g.last.steps) before so_last.stands new.joint stuck g.run,
+        ap (λ n. state_at (story_of p) (suc n)) steps ∙ no_further (gone_on p g.last.steps) before so_last.has_past new.joint stuck g.run,
         stuck_at k.due g.last new.joint stuck (due_step k.due g.last) g.step ∙ ap place_of (sym is),
         omega (arith, within, room, cycle),
         still.calm,

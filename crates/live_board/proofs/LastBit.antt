@@ -5,7 +5,7 @@ use Rattle.std.specs.Prelude.{◌==◌, if◌then◌else◌}
 use Rattle.std.proofs.lemmas.Bool.Decides.{nat_tests}
 use Rattle.std.proofs.lemmas.List.{drop-append-le, length-drop, take-append-le}
 use Rattle.std.specs.declared.option.Option.{Option}
-use Rattle.board_lines.specs.Bits.{value}
+use Rattle.board_terms.specs.Bits.{value}
 use Rattle.ctl_wire.specs.declared.wire.Wire.TheVariants.{Recv}
 use Rattle.live_board.specs.Passing.{ended_by}
 use Rattle.live_board.specs.declared.happened.Transfer.{Transfer}
@@ -20,8 +20,8 @@ same_bits bits ten =
 pub ended_is : (flip : Option ℕ) (bits frame : List Bool) (lack : Bool) (byte : ℕ) → lack ≡ (length bits == 10) → lack ≡ true
     → frame ≡ bits ++ true ∷ [] → byte ≡ value (take 8 (drop 1 frame))
     → Some (record { from_host = false; byte = byte }) ≡ ended_by (Recv flip bits)
-ended_is flip bits frame lack byte told is whole read =
-    let h : (length bits == 10) ≡ true = sym told ∙ is in
+ended_is flip bits frame lack byte log_kept is whole read =
+    let h : (length bits == 10) ≡ true = sym log_kept ∙ is in
     let ten : length bits ≡ 10 = grind (arith, nat_tests, h) in
     let same : byte ≡ value (take 8 (drop 1 bits)) =
     read ∙ ap (λ (f : List Bool). value (take 8 (drop 1 f))) whole ∙ ap value (same_bits bits ten) in

@@ -3,10 +3,10 @@ use Rattle.std.proofs.Common.{◌≡◌, ◌≤◌, ◌<◌, ℕ, zero, suc, ◌
 use Rattle.std.proofs.Common.{None, Some, Ok, Err, refl, ap, sym, subst, ◌∙◌, ◌⊎◌, inl, inr, length-append, arith}
 use Rattle.std.specs.Prelude.{◌||◌, nat_lt}
 use Rattle.std.proofs.lemmas.Bool.Decides.{nat_tests}
-use Rattle.board_lines.specs.declared.lines.Lines.{Lines}
+use Rattle.board_terms.specs.declared.lines.Lines.{Lines}
 use Rattle.host_turn.specs.declared.stamped.Stamped.{Stamped}
 use Rattle.joint_feed.specs.Stories.{state_at}
-use Rattle.joint_glide.specs.Quiet.{AreQuiet, HasGone}
+use Rattle.joint_glide.specs.Uneventful.{AreUneventful, HasGone}
 use Rattle.joint_run.specs.Cycle.{outside_wires}
 use Rattle.joint_run.specs.Due.{due_step, outside_of}
 use Rattle.joint_run.specs.Joint.{log_of}
@@ -14,14 +14,14 @@ use Rattle.joint_run.specs.declared.due.Due.{Due}
 use Rattle.joint_run.specs.declared.machine.Machine.{Machine}
 use Rattle.joint_run.specs.declared.outside.Outside.{Outside}
 use Rattle.mcs48_core.specs.declared.stepping.Stuck.{Stuck}
-use Rattle.live_board.proofs.Gliding.{goes_quietly, one_step, so_last, stands_on, steady, stuck_same}
+use Rattle.live_board.proofs.Gliding.{goes_quietly, one_step, so_last, holds_on, steady, stuck_same}
 use Rattle.live_board.proofs.Stepping.{counted, here, one_on, says_one}
 use Rattle.live_board.proofs.Watching.{GoesOnSo, last_or_before}
 use Rattle.live_board.specs.Calls.{Says}
 use Rattle.live_board.specs.Pasts.{Past, gone_on, story_of}
 use Rattle.live_board.specs.Rising.{irq_of, rose}
-use Rattle.live_board.specs.Standing.{Stands}
-use Rattle.live_board.specs.Stopping.{AreUnmet, differ, is_met, item_met, met_at, met_between, met_by, met_from, place_met, wires_met}
+use Rattle.live_board.specs.States.{HasPast}
+use Rattle.live_board.specs.Stopping.{AreUnmet, differ, is_met, item_met, met_at, met_between, met_by, met_from, counter_met, wires_met}
 use Rattle.live_board.specs.declared.irq.Irq.{Irq}
 use Rattle.live_board.specs.declared.parts.Parts.{Parts as Keyboard}
 use Rattle.live_board.specs.declared.stops.Met.{Met}
@@ -52,8 +52,8 @@ none_of : (a b c d : Bool) → a ≡ false → b ≡ false → c ≡ false → d
 none_of a b c d e f g h = ap (λ x. x || (b || (c || d))) e ∙ ap (λ x. x || (c || d)) f ∙ ap (λ x. x || d) g ∙ h
 
 -- what a step does is what the machines before it and after it show
-module _ (stops : Stops) (p : Past) (k new : Keyboard) (s : Stands (gone_on p k.joint.steps) k)
-    (t : Stands (gone_on p new.joint.steps) new) (steps : new.joint.steps ≡ suc k.joint.steps)
+module _ (stops : Stops) (p : Past) (k new : Keyboard) (s : HasPast (gone_on p k.joint.steps) k)
+    (t : HasPast (gone_on p new.joint.steps) new) (steps : new.joint.steps ≡ suc k.joint.steps)
     (said : Says (gone_on p k.joint.steps) (gone_on p new.joint.steps) new.seen.items.items) where
   first : state_at (story_of p) k.joint.steps ≡ Some s.world
   first = here (gone_on p k.joint.steps) k s
@@ -77,7 +77,7 @@ module _ (stops : Stops) (p : Past) (k new : Keyboard) (s : Stands (gone_on p k.
         rise = stops.rise && rose (irq_of (a i).desk.port) (irq_of (b i).desk.port);
         item = stops.item && e i;
         wires = stops.wires && wires_met (outside_wires (c i).p2 (a i)) (outside_wires (d i).p2 (b i));
-        place = place_met stops.place (d i).pc;
+        counter = counter_met stops.counter (d i).pc;
       }
 
   pub met_here : met_at stops p k.joint.steps ≡ met_by stops (irq_of k.joint.outside.desk.port) (lines_of k.joint) new
@@ -104,7 +104,7 @@ pub record AreCounted (n : ℕ) (old new : Machine) : Type 0 where
   pub steps : new.steps ≡ old.steps + n
   pub cycles : old.cycle + n ≤ new.cycle
 
-pub counted_quietly : (due : Due) (tick n : ℕ) (old new : Machine) → AreQuiet due tick n old new → AreCounted n old new
+pub counted_quietly : (due : Due) (tick n : ℕ) (old new : Machine) → AreUneventful due tick n old new → AreCounted n old new
 counted_quietly due tick zero old new h =
     let steps = ap (λ (m : Machine). m.steps) h in
     let cycle = ap (λ (m : Machine). m.cycle) h in
@@ -131,8 +131,8 @@ counted_quietly due tick (suc n) old new h =
 
 -- quiet steps do nothing of it, if no place is asked for
 pub quiet_unmet : (stops : Stops) (p : Past) (old : Keyboard) (cycles : ℕ) (k : Keyboard) (tick n : ℕ) (m : Machine)
-    → GoesOnSo p old cycles false k → AreUnmet stops p old.joint.steps k.joint.steps → stops.place ≡ None
-    → AreQuiet k.due tick n k.joint m → m.cycle ≤ old.joint.cycle + cycles → AreUnmet stops p old.joint.steps m.steps
+    → GoesOnSo p old cycles false k → AreUnmet stops p old.joint.steps k.joint.steps → stops.counter ≡ None
+    → AreUneventful k.due tick n k.joint m → m.cycle ≤ old.joint.cycle + cycles → AreUnmet stops p old.joint.steps m.steps
 quiet_unmet stops p old cycles k tick zero m so unmet none h room =
     subst (λ (x : Machine). AreUnmet stops p old.joint.steps x.steps) (sym h) unmet
 quiet_unmet stops p old cycles k tick (suc n) m so unmet none h room =
@@ -147,10 +147,10 @@ quiet_unmet stops p old cycles k tick (suc n) m so unmet none h room =
     let so_far : AreUnmet stops p old.joint.steps between.steps =
     quiet_unmet stops p old cycles k tick n between so unmet none h.1 within in
     let left : k.due.edges.items ≡ drop q.seen.edges k.due.edges.items = ap (λ e. drop e k.due.edges.items) (sym q.edges) in
-    let t : Stands (gone_on p m.steps) next = one_on (gone_on p between.steps) first before.stands next q.step q.run left refl in
+    let t : HasPast (gone_on p m.steps) next = one_on (gone_on p between.steps) first before.has_past next q.step q.run left refl in
     let steps = (counted k.due between m q.seen q.step).1 in
     let said : Says (gone_on p between.steps) (gone_on p m.steps) q.seen.items.items =
-    says_one (gone_on p between.steps) first before.stands next q.step q.run left refl in
+    says_one (gone_on p between.steps) first before.has_past next q.step q.run left refl in
     let outside : m.outside ≡ between.outside = ap (λ (x : Machine). x.outside) q.parts in
     let rise : rose (irq_of between.outside.desk.port) (irq_of m.outside.desk.port) ≡ false =
     ap (λ (o : Outside). rose (irq_of between.outside.desk.port) (irq_of o.desk.port)) outside
@@ -159,19 +159,19 @@ quiet_unmet stops p old cycles k tick (suc n) m so unmet none h room =
     let same : lines_of m ≡ lines_of between = (λ i. outside_wires (q.latch i) (outside i)) in
     let wire : wires_met (lines_of between) (lines_of m) ≡ false =
     ap (λ (l : Lines). wires_met (lines_of between) l) same ∙ flat_wires (lines_of between) in
-    let place : place_met stops.place m.mcu.pc ≡ false = ap (λ o. place_met o m.mcu.pc) none in
+    let place : counter_met stops.counter m.mcu.pc ≡ false = ap (λ o. counter_met o m.mcu.pc) none in
     let flat : is_met (met_at stops p between.steps) ≡ false =
-    ap is_met (met_here stops p first next before.stands t steps said)
+    ap is_met (met_here stops p first next before.has_past t steps said)
     ∙ none_of (stops.rise && rose (irq_of between.outside.desk.port) (irq_of m.outside.desk.port))
     (stops.item && item_met q.seen.items.items) (stops.wires && wires_met (lines_of between) (lines_of m))
-    (place_met stops.place m.mcu.pc)
+    (counter_met stops.counter m.mcu.pc)
     (not_met stops.rise _ rise) (not_met stops.item _ item) (not_met stops.wires _ wire) place in
     unmet_more stops p old.joint.steps between.steps m.steps so_far steps flat
 
 -- and none is made if a place is asked for
 pub last_unmet : (stops : Stops) (p : Past) (old : Keyboard) (cycles : ℕ) (k : Keyboard) (most n : ℕ) (m : Machine)
-    → GoesOnSo p old cycles false k → AreUnmet stops p old.joint.steps k.joint.steps → (most ≡ 0) ⊎ (stops.place ≡ None)
-    → AreQuiet k.due 2048 n k.joint m → m.cycle ≤ k.joint.cycle + most → k.joint.cycle + most < old.joint.cycle + cycles
+    → GoesOnSo p old cycles false k → AreUnmet stops p old.joint.steps k.joint.steps → (most ≡ 0) ⊎ (stops.counter ≡ None)
+    → AreUneventful k.due 2048 n k.joint m → m.cycle ≤ k.joint.cycle + most → k.joint.cycle + most < old.joint.cycle + cycles
     → AreUnmet stops p old.joint.steps m.steps
 last_unmet stops p old cycles k most n m so unmet (inr none) h within room =
     quiet_unmet stops p old cycles k 2048 n m so unmet none h (omega (arith, within, room))
@@ -194,9 +194,9 @@ module _ (stops : Stops) (k new : Keyboard) (most : ℕ) (g : HasGone k.due 2048
       let out = c.outside in
       let latch = c.latch in
       let there = so_last k new most g p old cycles false so room left same in
-      met_here stops p last new there.stands (stands_on k new most g p old cycles false so room left same)
+      met_here stops p last new there.has_past (holds_on k new most g p old cycles false so room left same)
       (one_step k new most g p old cycles false so room left same)
-      (says_one (gone_on p g.last.steps) last there.stands new g.step g.run left same)
+      (says_one (gone_on p g.last.steps) last there.has_past new g.step g.run left same)
       ∙ (λ i. met_by stops (irq_of (out i).desk.port) (outside_wires (latch i) (out i)) new)
 
 -- and if the processor is stuck after them
@@ -205,7 +205,7 @@ module _ (k new : Keyboard) (most : ℕ) (stuck : Stuck) (g : HasGone k.due 2048
   stuck_there = stuck_same k.due g.last new.joint stuck (due_step k.due g.last) g.step
 
   pub stuck_unmet : (stops : Stops) (p : Past) (old : Keyboard) (cycles : ℕ) → GoesOnSo p old cycles false k
-      → AreUnmet stops p old.joint.steps k.joint.steps → (most ≡ 0) ⊎ (stops.place ≡ None)
+      → AreUnmet stops p old.joint.steps k.joint.steps → (most ≡ 0) ⊎ (stops.counter ≡ None)
       → k.joint.cycle + most < old.joint.cycle + cycles → AreUnmet stops p old.joint.steps new.joint.steps
   stuck_unmet stops p old cycles so unmet alone room =
       subst (λ (m : Machine). AreUnmet stops p old.joint.steps m.steps) (sym stuck_there)

@@ -11,7 +11,7 @@ use Rattle.live_board.proofs.Stepping.{here}
 use Rattle.live_board.specs.Heard.{heard_all, heard_one, item_of, said_among, said_so}
 use Rattle.live_board.specs.Passing.{at_fall, ended_at, passed_at, passed_between, passed_by}
 use Rattle.live_board.specs.Pasts.{Past, gone_on, state_of, story_of}
-use Rattle.live_board.specs.Standing.{Stands}
+use Rattle.live_board.specs.States.{HasPast}
 use Rattle.live_board.specs.declared.happened.Happened.{Happened}
 use Rattle.live_board.specs.declared.happened.Transfer.{Transfer}
 use Rattle.live_board.specs.declared.heard.Heard.{Heard}
@@ -35,7 +35,7 @@ still_none o cycle =
     ]
 
 -- the byte that passes from one past to the next, as the machine before and after the step has it
-pub passed_over : (p q : Past) (k new : Keyboard) → Stands p k → Stands q new
+pub passed_over : (p q : Past) (k new : Keyboard) → HasPast p k → HasPast q new
     → passed_between (state_of p) (state_of q) ≡ passed_by (at_fall k.joint.outside) k.joint.cycle new.joint.outside.clock
 passed_over p q k new s t =
     ap (λ (o : Option (World Beside)). passed_between o (state_of q)) (here p k s)
@@ -46,7 +46,7 @@ passed_over p q k new s t =
 
 -- in a run
 pub passed_on : (p : Past) (k new : Keyboard)
-    → Stands (gone_on p k.joint.steps) k → Stands (gone_on p new.joint.steps) new → new.joint.steps ≡ suc k.joint.steps
+    → HasPast (gone_on p k.joint.steps) k → HasPast (gone_on p new.joint.steps) new → new.joint.steps ≡ suc k.joint.steps
     → passed_at p k.joint.steps ≡ passed_by (at_fall k.joint.outside) k.joint.cycle new.joint.outside.clock
 passed_on p k new s t steps =
     ap (λ n. passed_between (state_at (story_of p) k.joint.steps) (state_at (story_of p) n)) (sym steps)

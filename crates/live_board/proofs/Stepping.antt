@@ -6,9 +6,9 @@ use Rattle.std.specs.List.{All}
 use Rattle.std.proofs.lemmas.Bool.Decides.{nat_tests}
 use Rattle.std.proofs.lemmas.List.{drop_all, length-drop, take_all}
 use Rattle.std.proofs.lemmas.List.Elements.{All-drop, All-head, All-nil, All-tail, All-take}
-use Rattle.board_lines.specs.Edges.{AreInOrder, is_made}
-use Rattle.board_lines.specs.declared.event.Edge.{Edge}
-use Rattle.board_lines.specs.declared.event.HostEvent.{HostEvent}
+use Rattle.board_terms.specs.Edges.{AreInOrder, is_made}
+use Rattle.board_terms.specs.declared.event.Edge.{Edge}
+use Rattle.board_terms.specs.declared.event.HostEvent.{HostEvent}
 use Rattle.joint_run.specs.Due.{due_step, made_first, powered_on, IsJointStep}
 use Rattle.joint_run.specs.History.{GoesOn, IsFirstOfRun, IsInRun, IsStepOfRun}
 use Rattle.joint_run.specs.Joint.{Beside, joint_board, joint_start, log_of}
@@ -25,12 +25,12 @@ use Rattle.mcs48_core.specs.declared.stepping.Stuck.{Stuck}
 use Rattle.live_board.proofs.Timed.{step_later}
 use Rattle.live_board.specs.Calls.{Says}
 use Rattle.live_board.specs.Pasts.{Past, gone_on, state_of, story_of, untouched}
-use Rattle.live_board.specs.Standing.{AreParted, Stands}
+use Rattle.live_board.specs.States.{AreParted, HasPast}
 use Rattle.live_board.specs.declared.parts.Parts.{Parts as Keyboard}
 
 -- at power-on
 pub at_first : (bytes : List ℕ) (k : Keyboard)
-    → k.joint ≡ powered_on bytes → IsFirstOfRun k.joint → k.due.edges.items ≡ [] → k.due.host.items ≡ [] → Stands (untouched bytes 0) k
+    → k.joint ≡ powered_on bytes → IsFirstOfRun k.joint → k.due.edges.items ≡ [] → k.due.host.items ≡ [] → HasPast (untouched bytes 0) k
 at_first bytes k is first edges host = record {
   made = 0;
   made_within = omega arith;
@@ -46,8 +46,8 @@ at_first bytes k is first edges host = record {
   parted = record { made_before = All-nil _; come_now = All-nil _ };
 }
 
--- the state that it stands at
-pub here : (p : Past) (k : Keyboard) (s : Stands p k) → state_of p ≡ Some s.world
+-- the state that it is at
+pub here : (p : Past) (k : Keyboard) (s : HasPast p k) → state_of p ≡ Some s.world
 here p k s =
     subst (λ n. state_at (story_of p) n ≡ Some s.world) s.steps
     (subst (λ bytes. run_at (joint_board p.edges p.events) bytes joint_start k.joint.steps ≡ Some s.world) s.image s.in_run.run)
@@ -151,7 +151,7 @@ module _ (edges : List Edge) (events : List HostEvent) (due : Due) (old new : Ma
   host_few = let a = done_few due old step.world step.step in let b = step.seen_so.host in omega (arith, a, b)
 
 -- the run goes on by a step, where the host does nothing
-module _ (p : Past) (old : Keyboard) (s : Stands p old) (new : Keyboard)
+module _ (p : Past) (old : Keyboard) (s : HasPast p old) (new : Keyboard)
     (is : IsJointStep old.due old.joint (due_step old.due old.joint) (Ok new.seen) new.joint)
     (run : IsStepOfRun old.due old.joint (Ok new.seen) new.joint) (left : new.due.edges.items ≡ drop new.seen.edges old.due.edges.items)
     (same : new.due.host ≡ old.due.host) where
@@ -160,7 +160,7 @@ module _ (p : Past) (old : Keyboard) (s : Stands p old) (new : Keyboard)
       let done = s.all_done in
       s.none_waits ∙ sym (ap (λ (v : List HostEvent). take 2 v) (drop_all s.world.board.pc.side.done p.events (omega (arith, done))))
 
-  pub one_on : Stands (gone_on p new.joint.steps) new
+  pub one_on : HasPast (gone_on p new.joint.steps) new
   one_on =
       let on = on p.edges p.events old.due old.joint new.joint new.seen s.made s.world s.made_within
       s.order s.in_run s.edges_wait no_host is run in
@@ -197,7 +197,7 @@ module _ (p : Past) (old : Keyboard) (s : Stands p old) (new : Keyboard)
             s.in_run s.edges_wait no_host is run s.reached.edges_reached;
       }
 
-  -- what the step says is what it puts behind the log
+  -- what the step says is what it puts after the log
   pub says_one : Says p (gone_on p new.joint.steps) new.seen.items.items
   says_one w v from to =
       let goes = on p.edges p.events old.due old.joint new.joint new.seen s.made s.world s.made_within
@@ -220,7 +220,7 @@ counted due old new seen is =
     (made.seen_so.cycles ∙ sym (ap (λ m. m.cycle) made.after), omega (arith, steps))
 
 -- where the processor is stuck no state follows
-pub no_further : (p : Past) (old : Keyboard) (s : Stands p old) (new : Machine) (stuck : Stuck)
+pub no_further : (p : Past) (old : Keyboard) (s : HasPast p old) (new : Machine) (stuck : Stuck)
     → IsStepOfRun old.due old.joint (Err stuck) new → state_of (gone_on p (suc old.joint.steps)) ≡ None
 no_further p old s new stuck run =
     let h = handed p.edges s.made s.world.cycle old.due.edges.items s.edges_wait in

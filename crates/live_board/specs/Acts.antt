@@ -1,8 +1,8 @@
 -- What the host does by each call, and that it is answered.
 use Rattle.std.specs.Prelude.{ℕ, Bool, true, false, List, IsSome}
-use Rattle.board_lines.specs.declared.event.HostAct.{HostAct}
-use Rattle.board_lines.specs.declared.event.HostAct.TheVariants.{Write60, Write64, Read60, Mask, Unmask, Take}
-use Rattle.board_lines.specs.declared.event.HostAct.TheVariants.{Status, Flip}
+use Rattle.board_terms.specs.declared.event.HostAct.{HostAct}
+use Rattle.board_terms.specs.declared.event.HostAct.TheVariants.{Write60, Write64, Read60, Mask, Unmask, Take}
+use Rattle.board_terms.specs.declared.event.HostAct.TheVariants.{Status, Flip}
 use Rattle.ctl_core.specs.declared.port.Port.{Port}
 use Rattle.ctl_core.specs.declared.port.Port.TheVariants.{P60, P64}
 use Rattle.host_turn.specs.declared.stamped.Stamped.{Stamped}

@@ -28,41 +28,41 @@ use Rattle.pc_tables.specs.declared.item.Item.TheVariants.{
 
 -- what an item says of what the host asked for: a byte that it read from port 60h, the status, or a word that it took
 -- or found missing
-pub record Told : Type 0 where
+pub record ItemAnswer : Type 0 where
   pub read : Option ℕ
   pub status : Option ℕ
   pub taken : Option (Option ℕ)
 
-abbrev pub nothing_told : Told
-nothing_told = record { read = None; status = None; taken = None }
+abbrev pub no_answer : ItemAnswer
+no_answer = record { read = None; status = None; taken = None }
 
-abbrev pub told_by : Item → Told
-told_by (Port byte) = nothing_told
-told_by (Read byte) = record nothing_told { read = Some byte }
-told_by (Word word) = nothing_told
-told_by Beep = nothing_told
-told_by Overrun = nothing_told
-told_by (Lights lights) = nothing_told
-told_by (Taken word) = record nothing_told { taken = Some word }
-told_by (Status byte) = record nothing_told { status = Some byte }
-told_by (Output byte) = nothing_told
-told_by (Pulse lines) = nothing_told
-told_by Broke = nothing_told
-told_by Pause = nothing_told
-told_by Resume = nothing_told
-told_by Print = nothing_told
-told_by Boot = nothing_told
-told_by SysMake = nothing_told
-told_by SysBreak = nothing_told
+abbrev pub answer_in : Item → ItemAnswer
+answer_in (Port byte) = no_answer
+answer_in (Read byte) = record no_answer { read = Some byte }
+answer_in (Word word) = no_answer
+answer_in Beep = no_answer
+answer_in Overrun = no_answer
+answer_in (Lights lights) = no_answer
+answer_in (Taken word) = record no_answer { taken = Some word }
+answer_in (Status byte) = record no_answer { status = Some byte }
+answer_in (Output byte) = no_answer
+answer_in (Pulse lines) = no_answer
+answer_in Broke = no_answer
+answer_in Pause = no_answer
+answer_in Resume = no_answer
+answer_in Print = no_answer
+answer_in Boot = no_answer
+answer_in SysMake = no_answer
+answer_in SysBreak = no_answer
 
 -- the first of a kind in a log
 abbrev pub first_or : {X : Type 0} → Option X → Option X → Option X
 first_or (Some x) later = Some x
 first_or None later = later
 
-abbrev pub first_in : {X : Type 0} → (Told → Option X) → List Stamped → Option X
+abbrev pub first_in : {X : Type 0} → (ItemAnswer → Option X) → List Stamped → Option X
 first_in f [] = None
-first_in f (s ∷ log) = first_or (f (told_by s.item)) (first_in f log)
+first_in f (s ∷ log) = first_or (f (answer_in s.item)) (first_in f log)
 
 -- the interrupt line of the keyboard: the output buffer is full, and its interrupt is enabled
 abbrev pub raises : ControllerState → Bool

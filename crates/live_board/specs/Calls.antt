@@ -3,16 +3,16 @@ use Rattle.std.specs.Prelude.{◌≡◌, ◌≤◌, ◌<◌, ◌^◌, ◌-◌, �
 use Rattle.std.specs.Prelude.{slice_index, Some, None, Ok, Err}
 use Rattle.std.specs.declared.option.Option.{Option}
 use Rattle.std.specs.declared.result.Result.{Result}
-use Rattle.board_lines.specs.declared.event.HostAct.{HostAct}
+use Rattle.board_terms.specs.declared.event.HostAct.{HostAct}
 use Rattle.host_turn.specs.declared.stamped.Stamped.{Stamped}
 use Rattle.host_turn.specs.Host.{waits}
 use Rattle.joint_run.specs.Joint.{Beside, log_of}
 use Rattle.joint_run.specs.Run.{World}
 use Rattle.joint_run.specs.declared.machine.Machine.{Machine}
 use Rattle.mcs48_core.specs.declared.stepping.Stuck.{Stuck}
-use Rattle.live_board.specs.Answers.{Told, first_in}
+use Rattle.live_board.specs.Answers.{ItemAnswer, first_in}
 use Rattle.live_board.specs.Pasts.{Past, acted, pressed, state_of}
-use Rattle.live_board.specs.Standing.{Stands}
+use Rattle.live_board.specs.States.{HasPast}
 use Rattle.live_board.specs.declared.parts.Parts.{Parts as Keyboard}
 use Rattle.live_board.specs.declared.refused.Refused.{Refused}
 use Rattle.live_board.specs.declared.refused.Refused.TheVariants as R
@@ -36,15 +36,15 @@ IsRefused act k R.Full =
     (4096 ≤ k.joint.cycle) × (k.joint.cycle < 2 ^ 62) × (waits act k.joint.outside.desk.port.core ≡ true)
 IsRefused act k (R.Stuck place) =
     MayAct act k × (place ≡ place_of k.joint)
-    × ((p : Past) → Stands p k → state_of (acted p (k.joint.cycle - 4096) act) ≡ None)
+    × ((p : Past) → HasPast p k → state_of (acted p (k.joint.cycle - 4096) act) ≡ None)
 
 -- the host's call: the event is at the end of the past with the stamp of this moment, and is done in the one step
 -- that is made; or the call is refused, and all is as it was
 abbrev pub IsActed : {X : Type 0} → HostAct → Keyboard → Result X Refused → Keyboard → Type 0
 IsActed act old (Ok answer) new =
-    MayAct act old × ((p : Past) → Stands p old → Stands (acted p (old.joint.cycle - 4096) act) new)
+    MayAct act old × ((p : Past) → HasPast p old → HasPast (acted p (old.joint.cycle - 4096) act) new)
 IsActed act old (Err refused) new =
-    IsRefused act old refused × (new.joint ≡ old.joint) × ((p : Past) → Stands p old → Stands p new)
+    IsRefused act old refused × (new.joint ≡ old.joint) × ((p : Past) → HasPast p old → HasPast p new)
 
 -- these items are what is said between two pasts
 abbrev pub Says : Past → Past → List Stamped → Type 0
@@ -53,8 +53,8 @@ Says p q items =
     → log_of v.board ≡ log_of w.board ++ items
 
 -- the first answer of its kind that the log gives between two pasts
-abbrev pub Tells : {X : Type 0} → (Told → Option X) → Past → Past → X → Type 0
-Tells f p q x = (items : List Stamped) × Says p q items × (first_in f items ≡ Some x)
+abbrev pub GivesFirst : {X : Type 0} → (ItemAnswer → Option X) → Past → Past → X → Type 0
+GivesFirst f p q x = (items : List Stamped) × Says p q items × (first_in f items ≡ Some x)
 
 -- a key: its edge is at the end of the past with the stamp of this moment
 abbrev pub pressed_now : Past → Keyboard → ℕ → Bool → Past
@@ -70,5 +70,5 @@ IsKeyRefused k (R.Stuck place) = ⊥
 abbrev pub IsKeyed : ℕ → Bool → Keyboard → Result (Unit {0}) Refused → Keyboard → Type 0
 IsKeyed place down old (Ok done) new =
     (4096 ≤ old.joint.cycle) × (length old.due.edges.items < 4)
-    × ((p : Past) → Stands p old → Stands (pressed_now p old place down) new)
+    × ((p : Past) → HasPast p old → HasPast (pressed_now p old place down) new)
 IsKeyed place down old (Err refused) new = IsKeyRefused old refused × (new ≡ old)

@@ -2,14 +2,14 @@
 use Rattle.std.specs.Prelude.{◌≡◌, ℕ, zero, suc, ◌+◌, ◌-◌, ◌^◌, ◌==◌, min, Bool, ◌&&◌, nat_lt, if◌then◌else◌}
 use Rattle.std.specs.Prelude.{List, [], ◌∷◌, ◌++◌, drop, length, map, Ok, Err}
 use Rattle.std.specs.declared.result.Result.{Result}
-use Rattle.board_lines.specs.declared.event.HostAct.{HostAct}
+use Rattle.board_terms.specs.declared.event.HostAct.{HostAct}
 use Rattle.host_turn.specs.declared.stamped.Stamped.{Stamped}
 use Rattle.live_board.specs.Calls.{Says}
 use Rattle.live_board.specs.Passing.{passed_at, passed_between}
 use Rattle.live_board.specs.Pasts.{Past, acted, gone_on, state_of}
 use Rattle.live_board.specs.Rising.{irq_in, rose}
-use Rattle.live_board.specs.Running.{rises}
-use Rattle.live_board.specs.Standing.{Stands}
+use Rattle.live_board.specs.RunCalls.{rises}
+use Rattle.live_board.specs.States.{HasPast}
 use Rattle.live_board.specs.declared.happened.Happened.{Happened}
 use Rattle.live_board.specs.declared.happened.What.{What}
 use Rattle.live_board.specs.declared.happened.What.TheVariants.{Said as SaidIt, Passed}
@@ -48,7 +48,7 @@ next_by [] lost = if lost == 0 then Nothing else Lost lost
 abbrev pub next_of : Heard → Next
 next_of h = next_by h.items.items h.lost
 
--- after that: what was told is kept no longer
+-- after that: what was reported is kept no longer
 abbrev pub lost_by : List Happened → ℕ → ℕ
 lost_by (it ∷ later) lost = lost
 lost_by [] lost = 0
@@ -84,7 +84,7 @@ HasHappened p from (suc n) all =
 
 -- a call of the host's, from one past to the next by one step: what happens in it is kept, and whether it raised the line
 -- is counted
-pub record HasTold (p q : Past) (old new : Keyboard) : Type 0 where
+pub record HasKept (p q : Past) (old new : Keyboard) : Type 0 where
   pub items : List Stamped
   pub said : Says p q items
   pub kept : new.heard ≡ heard_all old.heard (passed_between (state_of p) (state_of q) ++ map said_so items)
@@ -92,7 +92,7 @@ pub record HasTold (p q : Past) (old new : Keyboard) : Type 0 where
 
 -- a run of so many steps: what happens in them is kept, the log's items among it are what they say, and the rises of the
 -- line are counted
-pub record HasToldAll (p : Past) (old new : Keyboard) : Type 0 where
+pub record HasKeptAll (p : Past) (old new : Keyboard) : Type 0 where
   pub steps : ℕ
   pub made : new.joint.steps ≡ old.joint.steps + steps
   pub all : List Happened
@@ -102,6 +102,6 @@ pub record HasToldAll (p : Past) (old new : Keyboard) : Type 0 where
   pub risen : new.rises ≡ rises_in p old.joint.steps steps
 
 -- the host's call adds to what is kept, and counts the rises of its step; or it is refused, and they are as they were
-abbrev pub IsTold : {X : Type 0} → HostAct → Keyboard → Result X Refused → Keyboard → Type 0
-IsTold act old (Ok answer) new = (p : Past) → Stands p old → HasTold p (acted p (old.joint.cycle - 4096) act) old new
-IsTold act old (Err refused) new = (new.heard ≡ old.heard) × (new.rises ≡ old.rises)
+abbrev pub IsKeptLog : {X : Type 0} → HostAct → Keyboard → Result X Refused → Keyboard → Type 0
+IsKeptLog act old (Ok answer) new = (p : Past) → HasPast p old → HasKept p (acted p (old.joint.cycle - 4096) act) old new
+IsKeptLog act old (Err refused) new = (new.heard ≡ old.heard) × (new.rises ≡ old.rises)

@@ -1,13 +1,13 @@
 pub mod Growing
 pub mod Pasts
-pub mod Standing
+pub mod States
 pub mod Answers
 pub mod Looks
 pub mod Sides
 pub mod Acts
 pub mod Calls
 pub mod Rising
-pub mod Running
+pub mod RunCalls
 pub mod Ready
 pub mod Stopping
 pub mod Passing

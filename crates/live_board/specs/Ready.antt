@@ -1,12 +1,12 @@
 -- A keyboard that has just been opened, and one that has finished its power-on test.
 use Rattle.std.specs.Prelude.{◌≡◌, ℕ, true, false, List, []}
 use Rattle.std.specs.declared.result.Result.{Result}
-use Rattle.board_lines.specs.declared.event.HostAct.TheVariants.{Mask}
+use Rattle.board_terms.specs.declared.event.HostAct.TheVariants.{Mask}
 use Rattle.live_board.specs.Calls.{IsActed}
-use Rattle.live_board.specs.Heard.{HasToldAll, IsTold}
+use Rattle.live_board.specs.Heard.{HasKeptAll, IsKeptLog}
 use Rattle.live_board.specs.Pasts.{Past, untouched}
-use Rattle.live_board.specs.Running.{HasRun}
-use Rattle.live_board.specs.Standing.{Stands}
+use Rattle.live_board.specs.RunCalls.{HasRun}
+use Rattle.live_board.specs.States.{HasPast}
 use Rattle.live_board.specs.declared.parts.Parts.{Parts as Keyboard}
 use Rattle.live_board.specs.declared.ran.RunEnd.{RunEnd}
 use Rattle.live_board.specs.declared.refused.Refused.{Refused}
@@ -16,16 +16,16 @@ use Rattle.live_board.specs.declared.refused.Refused.{Refused}
 -- run and call
 pub record IsOpened (bytes : List ℕ) (k : Keyboard) : Type 0 where
   pub first : Keyboard
-  pub at_first : Stands (untouched bytes 0) first
+  pub at_first : HasPast (untouched bytes 0) first
   pub first_cycle : first.joint.cycle ≡ 0
   pub none_kept : (first.heard.items.items ≡ []) × (first.heard.lost ≡ 0)
   pub middle : Keyboard
   pub end : RunEnd
   pub ran : HasRun (untouched bytes 0) first 4096 false end middle
-  pub ran_told : HasToldAll (untouched bytes 0) first middle
+  pub ran_reported : HasKeptAll (untouched bytes 0) first middle
   pub answer : Result (Unit {0}) Refused
   pub masked : IsActed Mask middle answer k
-  pub masked_told : IsTold Mask middle answer k
+  pub masked_reported : IsKeptLog Mask middle answer k
 
 -- it was opened, and the run has gone on from there until the interrupt line rose, or for a second: 400,000 cycles
 pub record IsReady (bytes : List ℕ) (k : Keyboard) : Type 0 where
@@ -34,7 +34,7 @@ pub record IsReady (bytes : List ℕ) (k : Keyboard) : Type 0 where
   pub past : Past
   pub program : past.bytes ≡ bytes
   pub no_edges : past.edges ≡ []
-  pub at : Stands past opened
+  pub at : HasPast past opened
   pub end : RunEnd
   pub ran : HasRun past opened 400000 true end k
-  pub told : HasToldAll past opened k
+  pub log_kept : HasKeptAll past opened k

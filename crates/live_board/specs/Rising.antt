@@ -1,7 +1,7 @@
 -- The interrupt line, and when it rises.
 use Rattle.std.specs.Prelude.{Bool, false, not, ◌&&◌, ◌||◌, ◌==◌, Some, None}
 use Rattle.std.specs.declared.option.Option.{Option}
-use Rattle.ctl_link.specs.declared.port.Port.{Port}
+use Rattle.ctl_link.specs.declared.port.LinkEnd.{LinkEnd}
 use Rattle.ctl_wire.specs.declared.wire.Wire.{Wire}
 use Rattle.joint_run.specs.Joint.{Beside}
 use Rattle.joint_run.specs.Run.{World}
@@ -9,7 +9,7 @@ use Rattle.live_board.specs.Answers.{raises}
 use Rattle.live_board.specs.declared.irq.Irq.{Irq}
 
 -- whether it is up, and the cycle in which the output buffer was last filled
-abbrev pub irq_of : Port Wire → Irq
+abbrev pub irq_of : LinkEnd Wire → Irq
 irq_of p = record { up = raises p.core; filled = p.filled }
 
 abbrev pub irq_in : Option (World Beside) → Irq

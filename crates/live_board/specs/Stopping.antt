@@ -2,7 +2,7 @@
 use Rattle.std.specs.Prelude.{◌≡◌, ◌≤◌, ◌<◌, ◌^◌, ◌+◌, ◌%◌, ◌==◌, ℕ, suc, Bool, true, false, not, ◌&&◌, ◌||◌, ◌⊎◌, nat_lt}
 use Rattle.std.specs.Prelude.{List, [], ◌∷◌, length, Some, None}
 use Rattle.std.specs.declared.option.Option.{Option}
-use Rattle.board_lines.specs.declared.lines.Lines.{Lines}
+use Rattle.board_terms.specs.declared.lines.Lines.{Lines}
 use Rattle.host_turn.specs.declared.stamped.Stamped.{Stamped}
 use Rattle.joint_feed.specs.Stories.{state_at}
 use Rattle.joint_run.specs.Cycle.{outside_wires}
@@ -12,8 +12,8 @@ use Rattle.pc_wires.specs.Wires.{wires}
 use Rattle.live_board.specs.Calls.{place_of}
 use Rattle.live_board.specs.Pasts.{Past, gone_on, state_of, story_of}
 use Rattle.live_board.specs.Rising.{irq_of, rose}
-use Rattle.live_board.specs.Running.{AreBefore}
-use Rattle.live_board.specs.Standing.{Stands}
+use Rattle.live_board.specs.RunCalls.{AreBefore}
+use Rattle.live_board.specs.States.{HasPast}
 use Rattle.live_board.specs.declared.irq.Irq.{Irq}
 use Rattle.live_board.specs.declared.parts.Parts.{Parts as Keyboard}
 use Rattle.live_board.specs.declared.stops.Ending.{Ending}
@@ -35,9 +35,9 @@ item_met [] = false
 item_met (said ∷ later) = true
 
 -- the counter is at the place: its low 11 bits are
-abbrev pub place_met : Option ℕ → ℕ → Bool
-place_met None counter = false
-place_met (Some place) counter = counter % 2048 == place
+abbrev pub counter_met : Option ℕ → ℕ → Bool
+counter_met None counter = false
+counter_met (Some place) counter = counter % 2048 == place
 
 -- what a step from one state to the next does of what the run is to stop for: the interrupt line rose; the log
 -- has grown; a wire is otherwise; the counter is at the place
@@ -46,7 +46,7 @@ met_from stops w v = record {
   rise = stops.rise && rose (irq_of w.board.pc.side.port) (irq_of v.board.pc.side.port);
   item = stops.item && nat_lt (length (log_of w.board)) (length (log_of v.board));
   wires = stops.wires && wires_met (wires (latch_of w.cpu.p2) w.board.pc) (wires (latch_of v.cpu.p2) v.board.pc);
-  place = place_met stops.place v.cpu.pc;
+  counter = counter_met stops.counter v.cpu.pc;
 }
 
 -- what it does as the machine after it shows, before which the line and the wires were so
@@ -55,11 +55,11 @@ met_by stops was before k = record {
   rise = stops.rise && rose was (irq_of k.joint.outside.desk.port);
   item = stops.item && item_met k.seen.items.items;
   wires = stops.wires && wires_met before (outside_wires k.joint.mcu.p2 k.joint.outside);
-  place = place_met stops.place k.joint.mcu.pc;
+  counter = counter_met stops.counter k.joint.mcu.pc;
 }
 
 abbrev pub nothing_met : Met
-nothing_met = record { rise = false; item = false; wires = false; place = false }
+nothing_met = record { rise = false; item = false; wires = false; counter = false }
 
 abbrev pub met_between : Stops → Option (World Beside) → Option (World Beside) → Met
 met_between stops None next = nothing_met
@@ -71,7 +71,7 @@ abbrev pub met_at : Stops → Past → ℕ → Met
 met_at stops p j = met_between stops (state_at (story_of p) j) (state_at (story_of p) (suc j))
 
 abbrev pub is_met : Met → Bool
-is_met m = m.rise || (m.item || (m.wires || m.place))
+is_met m = m.rise || (m.item || (m.wires || m.counter))
 
 -- none of the steps from one on and before another does any of it
 abbrev pub AreUnmet : Stops → Past → ℕ → ℕ → Type 0
@@ -100,7 +100,7 @@ StopsSo stops p old cycles steps (ends.Stuck place) new =
 -- the run has gone on to the first state at which it was to stop, within both limits
 pub record HasStopped (stops : Stops) (p : Past) (old : Keyboard) (cycles steps : ℕ) (end : Ending) (new : Keyboard)
     : Type 0 where
-  pub stands : Stands (gone_on p new.joint.steps) new
+  pub has_past : HasPast (gone_on p new.joint.steps) new
   pub before : AreBefore p old.joint.steps new.joint.steps (old.joint.cycle + cycles)
   pub few : new.joint.steps ≤ old.joint.steps + steps
   pub why : StopsSo stops p old cycles steps end new

@@ -4,14 +4,14 @@ ghost use Rattle.std.specs.Prelude.{◌≡◌, ◌-◌, ◌∷◌, [], OnOk};
 ghost use Rattle.host_turn.specs.Host.{waits};
 ghost use Rattle.live_board.specs.Acts.{IsAnswered};
 ghost use Rattle.live_board.specs.Calls.{IsActed, IsKeyed, Says};
-ghost use Rattle.live_board.specs.Heard.{IsTold};
+ghost use Rattle.live_board.specs.Heard.{IsKeptLog};
 ghost use Rattle.live_board.specs.Pasts.{Past, acted};
-ghost use Rattle.live_board.specs.Standing.{Stands};
+ghost use Rattle.live_board.specs.States.{HasPast};
 
 use crate::parts::{LAST, Parts, STAMP_0};
 use crate::refused::Refused;
 use arrayvec::ArrayVec;
-use board_lines::{Edge, HostAct, HostEvent, Place};
+use board_terms::{Edge, HostAct, HostEvent, Place};
 
 /// How many edges can wait for a step.
 const EDGES: usize = 4;
@@ -39,10 +39,10 @@ impl Parts {
     /// The host acts in one joint step, which begins now.
     pub(crate) fn act(&mut self, act: HostAct) -> Result<(), Refused>
         ensures acted { IsActed act self.old result self.new }
-        ensures said { OnOk result ((p : Past) → Stands p self.old
+        ensures said { OnOk result ((p : Past) → HasPast p self.old
             → Says p (acted p (self.old.joint.cycle - 4096) act) self.new.seen.items.items) }
         ensures answered { OnOk result (IsAnswered act self.new.seen.items.items) }
-        ensures told { IsTold act self.old result self.new }
+        ensures log_kept { IsKeptLog act self.old result self.new }
     {
         let cycle = self.joint.cycle();
         if cycle < STAMP_0 {
@@ -71,7 +71,7 @@ impl Parts {
     /// The key at a place goes down or up. It is made before the next step; no step is made yet.
     pub(crate) fn key(&mut self, place: Place, down: bool) -> Result<(), Refused>
         ensures keyed { IsKeyed place down self.old result self.new }
-        ensures untold { (self.new.heard ≡ self.old.heard) × (self.new.rises ≡ self.old.rises) }
+        ensures log_unchanged { (self.new.heard ≡ self.old.heard) × (self.new.rises ≡ self.old.rises) }
         ensures joint { self.new.joint ≡ self.old.joint }
     {
         let cycle = self.joint.cycle();

@@ -6,7 +6,7 @@ ghost use Rattle.live_board.specs.Answers.{first_in};
 use host_turn::Stamped;
 use pc_tables::Item;
 
-/// The byte of the first read of port 60h that these items tell.
+/// The byte of the first read of port 60h that these items give.
 pub(crate) fn read_in(items: &[Stamped]) -> Option<u8>
     ensures { result ≡ first_in (λ t. t.read) items.now }
 {
@@ -19,7 +19,7 @@ pub(crate) fn read_in(items: &[Stamped]) -> Option<u8>
     }
 }
 
-/// The first status that these items tell.
+/// The first status that these items give.
 pub(crate) fn status_in(items: &[Stamped]) -> Option<u8>
     ensures { result ≡ first_in (λ t. t.status) items.now }
 {
@@ -32,7 +32,7 @@ pub(crate) fn status_in(items: &[Stamped]) -> Option<u8>
     }
 }
 
-/// The word of the first taking that these items tell, or none if it found the buffer empty.
+/// The word of the first taking that these items give, or none if it found the buffer empty.
 pub(crate) fn taken_in(items: &[Stamped]) -> Option<Option<u16>>
     ensures { result ≡ first_in (λ t. t.taken) items.now }
 {

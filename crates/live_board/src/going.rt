@@ -1,14 +1,14 @@
 //! What goes on for some time.
 
 ghost use Rattle.std.specs.Prelude.{◌≡◌, ◌≤◌, ◌<◌, ◌^◌, ◌+◌, ◌-◌, ◌++◌, drop, map, ◌&&◌, OnErr, OnOk};
-ghost use Rattle.joint_glide.specs.Quiet.{HasGone};
-ghost use Rattle.joint_run.specs.Due.{told};
-ghost use Rattle.live_board.specs.Heard.{HasToldAll, heard_all, rise, said_so};
+ghost use Rattle.joint_glide.specs.Uneventful.{HasGone};
+ghost use Rattle.joint_run.specs.Due.{with_seen};
+ghost use Rattle.live_board.specs.Heard.{HasKeptAll, heard_all, rise, said_so};
 ghost use Rattle.live_board.specs.Passing.{at_fall, passed_by};
 ghost use Rattle.live_board.specs.Pasts.{Past};
 ghost use Rattle.live_board.specs.Rising.{irq_of, rose};
-ghost use Rattle.live_board.specs.Running.{HasRun};
-ghost use Rattle.live_board.specs.Standing.{Stands};
+ghost use Rattle.live_board.specs.RunCalls.{HasRun};
+ghost use Rattle.live_board.specs.States.{HasPast};
 
 use crate::irq::Irq;
 use crate::parts::{LAST, Parts};
@@ -43,7 +43,7 @@ impl Parts {
     pub(crate) fn glide(&mut self, most: u64, was: Irq) -> Result<(), Stuck>
         requires near { self.old.joint.cycle + most < 2 ^ 62 }
         requires few { self.old.rises < 2 ^ 63 }
-        ensures gone { HasGone self.old.due 2048 most self.old.joint (told result self.new.seen) self.new.joint }
+        ensures gone { HasGone self.old.due 2048 most self.old.joint (with_seen result self.new.seen) self.new.joint }
         ensures some { OnOk result (0 < self.new.seen.cycles) }
         ensures edges { OnOk result (self.new.due.edges.items ≡ drop self.new.seen.edges self.old.due.edges.items) }
         ensures host { self.new.due.host ≡ self.old.due.host }
@@ -52,7 +52,7 @@ impl Parts {
             ++ map said_so self.new.seen.items.items)) }
         ensures risen { OnOk result (self.new.rises ≡ self.old.rises + rise was (irq_of self.new.joint.outside.desk.port)) }
         ensures unchanged { OnErr result (self.new.due ≡ self.old.due) }
-        ensures untold { OnErr result ((self.new.heard ≡ self.old.heard) × (self.new.rises ≡ self.old.rises)) }
+        ensures log_unchanged { OnErr result ((self.new.heard ≡ self.old.heard) × (self.new.rises ≡ self.old.rises)) }
     {
         let at_fall = self.at_fall();
         joint_glide::go_on(&mut self.joint, &self.due, &mut self.seen, NO_PLACE, most)?;
@@ -63,8 +63,8 @@ impl Parts {
     /// Goes on until so many cycles have passed, or, if the interrupt line is watched, until it rises.
     fn go_on(&mut self, cycles: u64, watched: bool) -> RunEnd
         ensures later { self.old.joint.cycle ≤ self.new.joint.cycle }
-        ensures run { (p : Past) → Stands p self.old → HasRun p self.old cycles watched result self.new }
-        ensures told { (p : Past) → Stands p self.old → HasToldAll p self.old self.new }
+        ensures run { (p : Past) → HasPast p self.old → HasRun p self.old cycles watched result self.new }
+        ensures log_kept { (p : Past) → HasPast p self.old → HasKeptAll p self.old self.new }
     {
         let start = self.joint.cycle();
         let mut was = self.irq();
@@ -90,8 +90,8 @@ impl Parts {
     /// The same, and how many cycles passed.
     pub(crate) fn run(&mut self, cycles: u64, watched: bool) -> Ran
         ensures cycles { self.old.joint.cycle + result.cycles ≡ self.new.joint.cycle }
-        ensures run { (p : Past) → Stands p self.old → HasRun p self.old cycles watched result.end self.new }
-        ensures told { (p : Past) → Stands p self.old → HasToldAll p self.old self.new }
+        ensures run { (p : Past) → HasPast p self.old → HasRun p self.old cycles watched result.end self.new }
+        ensures log_kept { (p : Past) → HasPast p self.old → HasKeptAll p self.old self.new }
     {
         let start = self.joint.cycle();
         let end = self.go_on(cycles, watched);

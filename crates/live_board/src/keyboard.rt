@@ -1,23 +1,23 @@
 //! The keyboard that runs as one goes.
 
 ghost use Rattle.std.specs.Prelude.{◌≡◌, ◌+◌, ◌-◌, [], IfOk};
-ghost use Rattle.board_lines.specs.declared.event.HostAct.TheVariants.{Read60, Status, Take};
+ghost use Rattle.board_terms.specs.declared.event.HostAct.TheVariants.{Read60, Status, Take};
 ghost use Rattle.int09.specs.Bios.{start};
 ghost use Rattle.live_board.specs.Acts.{masking_of, write_of};
-ghost use Rattle.live_board.specs.Calls.{IsActed, IsKeyed, Tells};
-ghost use Rattle.live_board.specs.Heard.{HasToldAll, IsTold, after_next, next_of};
+ghost use Rattle.live_board.specs.Calls.{IsActed, IsKeyed, GivesFirst};
+ghost use Rattle.live_board.specs.Heard.{HasKeptAll, IsKeptLog, after_next, next_of};
 ghost use Rattle.live_board.specs.Looks.{IsCopied};
 ghost use Rattle.live_board.specs.Pasts.{Past, acted};
 ghost use Rattle.live_board.specs.Ready.{IsOpened, IsReady};
-ghost use Rattle.live_board.specs.Running.{HasRun};
-ghost use Rattle.live_board.specs.Standing.{Stands};
+ghost use Rattle.live_board.specs.RunCalls.{HasRun};
+ghost use Rattle.live_board.specs.States.{HasPast};
 
 use crate::answers::{read_in, status_in, taken_in};
 use crate::heard::Next;
 use crate::parts::Parts;
 use crate::ran::Ran;
 use crate::refused::Refused;
-use board_lines::{HostAct, Place};
+use board_terms::{HostAct, Place};
 use ctl_core::Port;
 use int09::Bios;
 use mcs48_isa::Image;
@@ -45,7 +45,7 @@ impl Keyboard {
     /// The host writes a byte to a port, in one joint step. Refused if the controller's input buffer is full.
     pub fn write(&mut self, port: Port, byte: u8) -> Result<(), Refused>
         ensures acted { IsActed (write_of port byte) self.old result self.new }
-        ensures told { IsTold (write_of port byte) self.old result self.new }
+        ensures log_kept { IsKeptLog (write_of port byte) self.old result self.new }
     {
         match port {
             Port::P60 => self.parts.act(HostAct::Write60(byte)),
@@ -56,9 +56,9 @@ impl Keyboard {
     /// The host reads port 60h, in one joint step: the last byte that the controller put out, 00 at first.
     pub fn read60(&mut self) -> Result<u8, Refused>
         ensures acted { IsActed Read60 self.old result self.new }
-        ensures told { IsTold Read60 self.old result self.new }
-        ensures byte { IfOk result (λ byte. (p : Past) → Stands p self.old
-            → Tells (λ t. t.read) p (acted p (self.old.joint.cycle - 4096) Read60) byte) }
+        ensures log_kept { IsKeptLog Read60 self.old result self.new }
+        ensures byte { IfOk result (λ byte. (p : Past) → HasPast p self.old
+            → GivesFirst (λ t. t.read) p (acted p (self.old.joint.cycle - 4096) Read60) byte) }
     {
         self.parts.act(HostAct::Read60)?;
         match read_in(self.parts.seen.items.as_slice()) {
@@ -70,9 +70,9 @@ impl Keyboard {
     /// The host reads the status at port 64h, in one joint step.
     pub fn status(&mut self) -> Result<u8, Refused>
         ensures acted { IsActed Status self.old result self.new }
-        ensures told { IsTold Status self.old result self.new }
-        ensures byte { IfOk result (λ byte. (p : Past) → Stands p self.old
-            → Tells (λ t. t.status) p (acted p (self.old.joint.cycle - 4096) Status) byte) }
+        ensures log_kept { IsKeptLog Status self.old result self.new }
+        ensures byte { IfOk result (λ byte. (p : Past) → HasPast p self.old
+            → GivesFirst (λ t. t.status) p (acted p (self.old.joint.cycle - 4096) Status) byte) }
     {
         self.parts.act(HostAct::Status)?;
         match status_in(self.parts.seen.items.as_slice()) {
@@ -84,9 +84,9 @@ impl Keyboard {
     /// A program takes the next word from the buffer of INT 09h, in one joint step; none if it is empty.
     pub fn take(&mut self) -> Result<Option<u16>, Refused>
         ensures acted { IsActed Take self.old result self.new }
-        ensures told { IsTold Take self.old result self.new }
-        ensures word { IfOk result (λ word. (p : Past) → Stands p self.old
-            → Tells (λ t. t.taken) p (acted p (self.old.joint.cycle - 4096) Take) word) }
+        ensures log_kept { IsKeptLog Take self.old result self.new }
+        ensures word { IfOk result (λ word. (p : Past) → HasPast p self.old
+            → GivesFirst (λ t. t.taken) p (acted p (self.old.joint.cycle - 4096) Take) word) }
     {
         self.parts.act(HostAct::Take)?;
         match taken_in(self.parts.seen.items.as_slice()) {
@@ -99,7 +99,7 @@ impl Keyboard {
     /// masked, as at first. One joint step.
     pub fn bios(&mut self, on: bool) -> Result<(), Refused>
         ensures acted { IsActed (masking_of on) self.old result self.new }
-        ensures told { IsTold (masking_of on) self.old result self.new }
+        ensures log_kept { IsKeptLog (masking_of on) self.old result self.new }
     {
         if on {
             self.parts.act(HostAct::Unmask)
@@ -111,7 +111,7 @@ impl Keyboard {
     /// The key at a place goes down or up. It is made before the next step; no step is made yet.
     pub fn key(&mut self, place: Place, down: bool) -> Result<(), Refused>
         ensures keyed { IsKeyed place down self.old result self.new }
-        ensures untold { (self.new.heard ≡ self.old.heard) × (self.new.rises ≡ self.old.rises) }
+        ensures log_unchanged { (self.new.heard ≡ self.old.heard) × (self.new.rises ≡ self.old.rises) }
         ensures joint { self.new.joint ≡ self.old.joint }
     {
         self.parts.key(place, down)
@@ -121,8 +121,8 @@ impl Keyboard {
     /// interrupt line is watched, until it rises. Answers how many passed, and why no more.
     pub fn run(&mut self, cycles: u64, watched: bool) -> Ran
         ensures cycles { self.old.joint.cycle + result.cycles ≡ self.new.joint.cycle }
-        ensures run { (p : Past) → Stands p self.old → HasRun p self.old cycles watched result.end self.new }
-        ensures told { (p : Past) → Stands p self.old → HasToldAll p self.old self.new }
+        ensures run { (p : Past) → HasPast p self.old → HasRun p self.old cycles watched result.end self.new }
+        ensures log_kept { (p : Past) → HasPast p self.old → HasKeptAll p self.old self.new }
     {
         self.parts.run(cycles, watched)
     }
@@ -133,7 +133,7 @@ impl Keyboard {
     pub fn open(image: &Image, bios: Bios) -> Keyboard
         requires start { bios ≡ start }
         ensures opened { IsOpened image.now.bytes result }
-        ensures stands { (p : Past) × (p.bytes ≡ image.now.bytes) × (p.edges ≡ []) × Stands p result }
+        ensures has_past { (p : Past) × (p.bytes ≡ image.now.bytes) × (p.edges ≡ []) × HasPast p result }
     {
         Keyboard {
             parts: Parts::open(image, bios),
@@ -163,7 +163,7 @@ impl Keyboard {
     /// so the same calls give the same answers.
     pub fn copied(&self, alloc: Global) -> Result<Keyboard, AllocError>
         ensures same { IfOk result (IsCopied self.now) }
-        ensures stands { IfOk result (λ k. (p : Past) → Stands p self.now → Stands p k) }
+        ensures has_past { IfOk result (λ k. (p : Past) → HasPast p self.now → HasPast p k) }
     {
         let parts = self.parts.copied(alloc)?;
         Ok(Keyboard { parts })

@@ -3,7 +3,7 @@
 //!
 //! This layer is the joint machine, driven by calls in place of a history that is known beforehand. What a call adds
 //! is at the end of the past (`specs/Pasts`), and the machine is always at the state of the joint run of that past
-//! (`specs/Standing`). It knows no layout and no model. Source: our own.
+//! (`specs/States`). It knows no layout and no model. Source: our own.
 #![tactic(auto)]
 
 mod adding;

@@ -1,17 +1,17 @@
 //! What is seen of a keyboard between two steps. No step is made, and nothing changes.
 
 ghost use Rattle.std.specs.Prelude.{◌≡◌, ◌≤◌, length};
-ghost use Rattle.board_lines.specs.Matrix.{rows_of};
+ghost use Rattle.board_terms.specs.Matrix.{rows_of};
 ghost use Rattle.joint_run.specs.Joint.{latch_of};
 ghost use Rattle.pc_wires.specs.Wires.{wires};
 ghost use Rattle.live_board.specs.Answers.{line_in, raises};
 ghost use Rattle.live_board.specs.Calls.{place_of};
 ghost use Rattle.live_board.specs.Looks.{registers_of};
 ghost use Rattle.live_board.specs.Pasts.{Past, state_of};
-ghost use Rattle.live_board.specs.Standing.{Stands};
+ghost use Rattle.live_board.specs.States.{HasPast};
 
 use crate::keyboard::Keyboard;
-use board_lines::Lines;
+use board_terms::Lines;
 use mcs48_core::{Mcu, Stuck};
 
 /// The controller's registers, in an order that C shares.
@@ -32,7 +32,7 @@ impl Keyboard {
     /// Whether the interrupt line is up: the controller's output buffer is full, and its interrupt is enabled.
     pub fn interrupt(&self) -> bool
         ensures line { result ≡ raises self.now.joint.outside.desk.port.core }
-        ensures state { (p : Past) → Stands p self.now → result ≡ line_in (state_of p) }
+        ensures state { (p : Past) → HasPast p self.now → result ≡ line_in (state_of p) }
     {
         self.parts.interrupt()
     }
@@ -40,7 +40,7 @@ impl Keyboard {
     /// The controller's registers. The byte of the output buffer isn't taken.
     pub fn registers(&self) -> Registers
         ensures registers { result ≡ registers_of self.now.joint.outside.desk.port.core }
-        ensures state { (p : Past) → (s : Stands p self.now) → result ≡ registers_of s.world.board.pc.side.port.core }
+        ensures state { (p : Past) → (s : HasPast p self.now) → result ≡ registers_of s.world.board.pc.side.port.core }
     {
         let controller = self.parts.joint.controller();
         Registers {
@@ -54,7 +54,7 @@ impl Keyboard {
     /// The keyboard's processor: its registers, flags and data memory.
     pub fn processor(&self) -> &Mcu
         ensures processor { result.now ≡ self.now.joint.mcu }
-        ensures state { (p : Past) → (s : Stands p self.now) → result.now ≡ s.world.cpu }
+        ensures state { (p : Past) → (s : HasPast p self.now) → result.now ≡ s.world.cpu }
     {
         self.parts.joint.mcu()
     }
@@ -87,7 +87,7 @@ impl Keyboard {
     /// How many words wait in the buffer of INT 09h, at most 15.
     pub fn words_waiting(&self) -> usize
         ensures count { result ≡ length self.now.joint.outside.desk.bios.words }
-        ensures state { (p : Past) → (s : Stands p self.now) → result ≡ length s.world.board.pc.side.bios.words }
+        ensures state { (p : Past) → (s : HasPast p self.now) → result ≡ length s.world.board.pc.side.bios.words }
         ensures range { result ≤ 15 }
     {
         self.parts.joint.bios().count()
@@ -95,14 +95,14 @@ impl Keyboard {
 
     /// The lights: Scroll as bit 0, Num as bit 1, Caps as bit 2.
     pub fn lights(&self) -> u8
-        ensures state { (p : Past) → (s : Stands p self.now) → result ≡ s.world.board.shown }
+        ensures state { (p : Past) → (s : HasPast p self.now) → result ≡ s.world.board.shown }
     {
         self.parts.joint.lights()
     }
 
     /// The two wires after the last cycle.
     pub fn wires(&self) -> Lines
-        ensures state { (p : Past) → (s : Stands p self.now)
+        ensures state { (p : Past) → (s : HasPast p self.now)
             → result ≡ wires (latch_of s.world.cpu.p2) s.world.board.pc }
     {
         self.parts.joint.lines()
@@ -125,7 +125,7 @@ impl Keyboard {
     /// How many cycles of 2.5 microseconds have passed since power-on; stamp 0 is cycle 4,096.
     pub fn cycle(&self) -> u64
         ensures cycle { result ≡ self.now.joint.cycle }
-        ensures state { (p : Past) → (s : Stands p self.now) → result ≡ s.world.cycle }
+        ensures state { (p : Past) → (s : HasPast p self.now) → result ≡ s.world.cycle }
     {
         self.parts.joint.cycle()
     }

@@ -2,7 +2,7 @@
 
 ghost use Rattle.std.specs.Prelude.{◌≡◌, ◌≤◌, ◌<◌, ◌+◌, ◌-◌, ◌^◌, ◌++◌, ◌∷◌, [], drop, length, map, IfOk, OnErr, OnOk};
 ghost use Rattle.int09.specs.Bios.{start};
-ghost use Rattle.joint_run.specs.Due.{due_step, told, IsJointStep};
+ghost use Rattle.joint_run.specs.Due.{due_step, with_seen, IsJointStep};
 ghost use Rattle.joint_run.specs.History.{IsStepOfRun};
 ghost use Rattle.live_board.specs.Answers.{line_in, raises};
 ghost use Rattle.live_board.specs.Heard.{heard_all, rise, said_so};
@@ -11,13 +11,13 @@ ghost use Rattle.live_board.specs.Passing.{at_fall, passed_by};
 ghost use Rattle.live_board.specs.Pasts.{Past, state_of, untouched};
 ghost use Rattle.live_board.specs.Ready.{IsOpened};
 ghost use Rattle.live_board.specs.Rising.{irq_of};
-ghost use Rattle.live_board.specs.Standing.{Stands};
+ghost use Rattle.live_board.specs.States.{HasPast};
 
 use crate::happened::Transfer;
 use crate::heard::Heard;
 use crate::irq::Irq;
 use arrayvec::ArrayVec;
-use board_lines::{Edge, HostAct};
+use board_terms::{Edge, HostAct};
 use int09::Bios;
 use joint_run::{Due, Joint, Seen};
 use mcs48_core::Stuck;
@@ -55,7 +55,7 @@ impl Parts {
     /// At power-on, with this program.
     fn power_on(image: &Image, bios: Bios) -> Parts
         requires start { bios ≡ start }
-        ensures first { Stands (untouched image.now.bytes 0) result × (result.joint.steps ≡ 0) × (result.joint.cycle ≡ 0) }
+        ensures first { HasPast (untouched image.now.bytes 0) result × (result.joint.steps ≡ 0) × (result.joint.cycle ≡ 0) }
         ensures none_kept { (result.heard.items.items ≡ []) × (result.heard.lost ≡ 0) }
     {
         Parts {
@@ -74,7 +74,7 @@ impl Parts {
     pub(crate) fn open(image: &Image, bios: Bios) -> Parts
         requires start { bios ≡ start }
         ensures opened { IsOpened image.now.bytes result }
-        ensures stands { (p : Past) × (p.bytes ≡ image.now.bytes) × (p.edges ≡ []) × Stands p result }
+        ensures has_past { (p : Past) × (p.bytes ≡ image.now.bytes) × (p.edges ≡ []) × HasPast p result }
     {
         let mut parts = Parts::power_on(image, bios);
         let _ = parts.run(STAMP_0, false);
@@ -85,7 +85,7 @@ impl Parts {
     /// Parts of their own: the machine in the same state, by the same edges that wait. No event of the host does.
     pub(crate) fn copied(&self, alloc: Global) -> Result<Parts, AllocError>
         ensures same { IfOk result (IsCopied self.now) }
-        ensures stands { IfOk result (λ k. (p : Past) → Stands p self.now → Stands p k) }
+        ensures has_past { IfOk result (λ k. (p : Past) → HasPast p self.now → HasPast p k) }
     {
         let bios = self.joint.bios().copied(alloc)?;
         Ok(Parts {
@@ -154,8 +154,8 @@ impl Parts {
     pub(crate) fn step(&mut self) -> Result<(), Stuck>
         requires near { self.old.joint.cycle < 2 ^ 62 }
         ensures step { IsJointStep self.old.due self.old.joint (due_step self.old.due self.old.joint)
-            (told result self.new.seen) self.new.joint }
-        ensures run { IsStepOfRun self.old.due self.old.joint (told result self.new.seen) self.new.joint }
+            (with_seen result self.new.seen) self.new.joint }
+        ensures run { IsStepOfRun self.old.due self.old.joint (with_seen result self.new.seen) self.new.joint }
         ensures some { OnOk result (0 < self.new.seen.cycles) }
         ensures few { OnOk result (self.new.seen.cycles < 3) }
         ensures edges { OnOk result (self.new.due.edges.items ≡ drop self.new.seen.edges self.old.due.edges.items) }
@@ -165,7 +165,7 @@ impl Parts {
             ++ map said_so self.new.seen.items.items)) }
         ensures risen { OnOk result (self.new.rises ≡ rise (irq_of self.old.joint.outside.desk.port) (irq_of self.new.joint.outside.desk.port)) }
         ensures unchanged { OnErr result ((self.new.joint ≡ self.old.joint) × (self.new.due ≡ self.old.due)) }
-        ensures untold { OnErr result ((self.new.heard ≡ self.old.heard) × (self.new.rises ≡ self.old.rises)) }
+        ensures log_unchanged { OnErr result ((self.new.heard ≡ self.old.heard) × (self.new.rises ≡ self.old.rises)) }
     {
         let was = self.irq();
         let at_fall = self.at_fall();
@@ -178,7 +178,7 @@ impl Parts {
     /// Whether the interrupt line is up: the controller's output buffer is full, and its interrupt is enabled.
     pub(crate) fn interrupt(&self) -> bool
         ensures line { result ≡ raises self.now.joint.outside.desk.port.core }
-        ensures state { (p : Past) → Stands p self.now → result ≡ line_in (state_of p) }
+        ensures state { (p : Past) → HasPast p self.now → result ≡ line_in (state_of p) }
     {
         let controller = self.joint.controller();
         controller.output_full() && controller.interrupt_enabled()

@@ -1,7 +1,7 @@
 //! The bytes that pass over the two wires.
 
 ghost use Rattle.std.specs.Prelude.{◌≡◌, ◌<◌, ◌≤◌, ◌^◌, length};
-ghost use Rattle.board_lines.specs.Bits.{value as value_of};
+ghost use Rattle.board_terms.specs.Bits.{value as value_of};
 ghost use Rattle.live_board.specs.Passing.{at_fall, ended_by};
 
 use crate::happened::Transfer;

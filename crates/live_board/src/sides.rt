@@ -4,10 +4,10 @@ ghost use Rattle.std.specs.Prelude.{◌≡◌};
 ghost use Rattle.joint_run.specs.Joint.{latch_of};
 ghost use Rattle.live_board.specs.Pasts.{Past};
 ghost use Rattle.live_board.specs.Sides.{sides_in, sides_of};
-ghost use Rattle.live_board.specs.Standing.{Stands};
+ghost use Rattle.live_board.specs.States.{HasPast};
 
 use crate::keyboard::Keyboard;
-use board_lines::Lines;
+use board_terms::Lines;
 use ctl_wire::drive_of;
 
 /// What each side drives after the last cycle: `false` for a wire that it pulls, `true` for one that it lets go. A wire is
@@ -32,7 +32,7 @@ impl Keyboard {
     /// What the keyboard and the controller drive on the two wires, both at this moment. No step is made.
     pub fn sides(&self) -> Sides
         ensures sides { result ≡ sides_of self.now.joint }
-        ensures state { (p : Past) → (s : Stands p self.now) → result ≡ sides_in s.world }
+        ensures state { (p : Past) → (s : HasPast p self.now) → result ≡ sides_in s.world }
     {
         let joint = &self.parts.joint;
         Sides {

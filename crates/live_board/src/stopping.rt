@@ -1,16 +1,16 @@
 //! A run that stops for what it is asked to.
 
 ghost use Rattle.std.specs.Prelude.{◌≡◌, ◌≤◌, ◌<◌, ◌^◌, ◌+◌, ◌⊎◌, None, true, false};
-ghost use Rattle.live_board.specs.Heard.{HasToldAll};
+ghost use Rattle.live_board.specs.Heard.{HasKeptAll};
 ghost use Rattle.live_board.specs.Pasts.{Past};
-ghost use Rattle.live_board.specs.Standing.{Stands};
+ghost use Rattle.live_board.specs.States.{HasPast};
 ghost use Rattle.live_board.specs.Stopping.{HasStopped, met_by};
 
 use crate::irq::Irq;
 use crate::keyboard::Keyboard;
 use crate::parts::{LAST, Parts};
-use crate::stops::{Ending, Met, Stopped, Stops, item_met, place_met, wires_met};
-use board_lines::Lines;
+use crate::stops::{Ending, Met, Stopped, Stops, counter_met, item_met, wires_met};
+use board_terms::Lines;
 
 /// In how many cycles quiet steps may be made: in none if the run is to stop at a place of the program, and else so that
 /// the step after them is within both limits, and begins before the count's end.
@@ -21,9 +21,9 @@ fn quiet_room(stops: &Stops, cycles: u64, steps: u64, cycle: u64) -> u64
     ensures within { result < cycles }
     ensures few { result < steps }
     ensures near { cycle + result < 2 ^ 62 }
-    ensures alone { (result ≡ 0) ⊎ (stops.now.place ≡ None) }
+    ensures alone { (result ≡ 0) ⊎ (stops.now.counter ≡ None) }
 {
-    match stops.place {
+    match stops.counter {
         Some(_) => 0,
         None => cycles.min(LAST - cycle).min(steps) - 1,
     }
@@ -46,15 +46,15 @@ impl Parts {
             rise: stops.rise && was.rises_to(self.irq()),
             item: stops.item && item_met(self.seen.items.as_slice()),
             wires: stops.wires && wires_met(lines, self.joint.lines()),
-            place: place_met(stops.place, self.joint.mcu().pc),
+            counter: counter_met(stops.counter, self.joint.mcu().pc),
         }
     }
 
     /// Goes on until so many cycles have passed, or so many steps were made, or a step did what it is to stop for.
     fn go_to(&mut self, stops: &Stops, cycles: u64, steps: u64) -> Ending
         ensures later { self.old.joint.cycle ≤ self.new.joint.cycle }
-        ensures stopped { (p : Past) → Stands p self.old → HasStopped stops.now p self.old cycles steps result self.new }
-        ensures told { (p : Past) → Stands p self.old → HasToldAll p self.old self.new }
+        ensures stopped { (p : Past) → HasPast p self.old → HasStopped stops.now p self.old cycles steps result self.new }
+        ensures log_kept { (p : Past) → HasPast p self.old → HasKeptAll p self.old self.new }
     {
         let start = self.joint.cycle();
         let first = self.joint.steps();
@@ -91,8 +91,8 @@ impl Parts {
     /// The same, and how many cycles passed.
     fn run_to(&mut self, stops: &Stops, cycles: u64, steps: u64) -> Stopped
         ensures cycles { self.old.joint.cycle + result.cycles ≡ self.new.joint.cycle }
-        ensures stopped { (p : Past) → Stands p self.old → HasStopped stops.now p self.old cycles steps result.end self.new }
-        ensures told { (p : Past) → Stands p self.old → HasToldAll p self.old self.new }
+        ensures stopped { (p : Past) → HasPast p self.old → HasStopped stops.now p self.old cycles steps result.end self.new }
+        ensures log_kept { (p : Past) → HasPast p self.old → HasKeptAll p self.old self.new }
     {
         let start = self.joint.cycle();
         let end = self.go_to(stops, cycles, steps);
@@ -109,8 +109,8 @@ impl Keyboard {
     /// many cycles passed, and why it ended.
     pub fn run_to(&mut self, stops: &Stops, cycles: u64, steps: u64) -> Stopped
         ensures cycles { self.old.joint.cycle + result.cycles ≡ self.new.joint.cycle }
-        ensures stopped { (p : Past) → Stands p self.old → HasStopped stops.now p self.old cycles steps result.end self.new }
-        ensures told { (p : Past) → Stands p self.old → HasToldAll p self.old self.new }
+        ensures stopped { (p : Past) → HasPast p self.old → HasStopped stops.now p self.old cycles steps result.end self.new }
+        ensures log_kept { (p : Past) → HasPast p self.old → HasKeptAll p self.old self.new }
     {
         self.parts.run_to(stops, cycles, steps)
     }

@@ -1,9 +1,9 @@
 //! What a run may stop for.
 
 ghost use Rattle.std.specs.Prelude.{◌≡◌};
-ghost use Rattle.live_board.specs.Stopping.{is_met, item_met, place_met, wires_met};
+ghost use Rattle.live_board.specs.Stopping.{is_met, item_met, counter_met, wires_met};
 
-use board_lines::Lines;
+use board_terms::Lines;
 use host_turn::Stamped;
 use mcs48_core::Stuck;
 
@@ -14,7 +14,7 @@ pub struct Stops {
     pub rise: bool,
     pub item: bool,
     pub wires: bool,
-    pub place: Option<u16>,
+    pub counter: Option<u16>,
 }
 
 /// Which of these a step did.
@@ -23,7 +23,7 @@ pub struct Met {
     pub rise: bool,
     pub item: bool,
     pub wires: bool,
-    pub place: bool,
+    pub counter: bool,
 }
 
 /// Why such a run ended.
@@ -51,7 +51,7 @@ impl Met {
     pub(crate) fn is_any(&self) -> bool
         ensures { result ≡ is_met self.now }
     {
-        self.rise || self.item || self.wires || self.place
+        self.rise || self.item || self.wires || self.counter
     }
 }
 
@@ -73,8 +73,8 @@ pub(crate) fn item_met(items: &[Stamped]) -> bool
 }
 
 /// Whether the counter is at the place.
-pub(crate) fn place_met(place: Option<u16>, counter: u16) -> bool
-    ensures { result ≡ place_met place counter }
+pub(crate) fn counter_met(place: Option<u16>, counter: u16) -> bool
+    ensures { result ≡ counter_met place counter }
 {
     match place {
         Some(place) => counter % 2048 == place,

@@ -1,5 +1,5 @@
 use crate::{Ending, Keyboard, Met, Next, Refused, RunEnd, Stops, Transfer, What};
-use board_lines::Place;
+use board_terms::Place;
 use ctl_core::Port;
 use fw_kernel::KERNEL;
 use int09::Bios;
@@ -17,7 +17,7 @@ const SELF_TEST: Transfer = Transfer {
 };
 
 #[test]
-fn the_keyboard_tests_itself_and_is_read_and_told(rt: HostRuntime) -> Result<(), AllocError> {
+fn the_keyboard_tests_itself_and_is_read_and_written(rt: HostRuntime) -> Result<(), AllocError> {
     let image = Image { bytes: KERNEL };
     let mut keyboard = Keyboard::open(&image, Bios::new(rt.alloc())?);
     assert!(rt;
@@ -143,7 +143,7 @@ fn a_run_stops_for_what_it_is_asked_to(rt: HostRuntime) -> Result<(), AllocError
         rise: false,
         item: false,
         wires: false,
-        place: None,
+        counter: None,
     };
     let seven = keyboard.run_to(&nothing, SECOND, 7);
     assert!(rt; seven.end == Ending::Passed && 7 <= seven.cycles && seven.cycles <= 14);
@@ -168,12 +168,12 @@ fn a_run_stops_for_what_it_is_asked_to(rt: HostRuntime) -> Result<(), AllocError
     assert!(rt; keyboard.run_to(&item, SECOND, SECOND).end == Ending::Passed);
     assert!(rt; keyboard.read60() == Ok(0xaa));
     let place = Stops {
-        place: Some(keyboard.place().pc),
+        counter: Some(keyboard.place().pc),
         ..nothing
     };
     let back = keyboard.run_to(&place, SECOND, SECOND);
-    assert!(rt; matches!(what_ended(back.end), Some(met) if met.place && !met.item));
-    assert!(rt; place.place == Some(keyboard.place().pc));
+    assert!(rt; matches!(what_ended(back.end), Some(met) if met.counter && !met.item));
+    assert!(rt; place.counter == Some(keyboard.place().pc));
     Ok(())
 }
 

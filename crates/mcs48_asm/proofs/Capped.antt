@@ -17,7 +17,7 @@ use Rattle.mcs48_asm.specs.Names.{Definition, Meanings, labelled, equated, named
 use Rattle.mcs48_asm.specs.declared.flaw.Flaw.{Flaw}
 use Rattle.mcs48_asm.specs.Faults.{arguments, is_above, is_huge, is_past, is_too_large, has_wrong_number, is_equate, is_refused}
 use Rattle.mcs48_asm.specs.Faults.{has_unknown_name, is_defined_again, is_outside, is_past_end, is_filled_again, fault_of}
-use Rattle.mcs48_asm.specs.Assembly.{fault_behind}
+use Rattle.mcs48_asm.specs.Assembly.{fault_after}
 use Rattle.mcs48_asm.specs.Capped.{capped, value_capped, argument_capped, statement_capped, line_capped, kept_places}
 use Rattle.mcs48_asm.proofs.Ranges.{any_places-alike}
 
@@ -319,9 +319,9 @@ filled_again-capped earlier at =
     ∙ ap (λ b. covers at k && b) (filled-capped earlier k h))
 
 pub fault-capped : (names : Meanings) (earlier : List Placed) (place : ℕ) (line : Line) → place ≤ 2048
-    → fault_behind (names_capped names) (map at_capped earlier)
+    → fault_after (names_capped names) (map at_capped earlier)
     (at_capped (record { start = start_of place line.statement; line = line }))
-    ≡ fault_behind names earlier (record { start = start_of place line.statement; line = line })
+    ≡ fault_after names earlier (record { start = start_of place line.statement; line = line })
 fault-capped names earlier place line h =
     let at : Placed = record { start = start_of place line.statement; line = line } in
     ap (λ m. fault_of (names_capped names) m (is_filled (map at_capped earlier)) (at_capped at)) (names-capped earlier)

@@ -60,8 +60,8 @@ pub word-before : (c : ℕ) (cs rest : List ℕ) → list_all is_word_character 
 word-before c cs rest all ends = (token-before (c ∷ cs) rest (word-token c cs all) ends, words-run c cs rest all ends)
 
 -- a token before a comma
-comma-behind : (text rest : List ℕ) → is_token text ≡ true → tokens_of (text ++ 44 ∷ rest) ≡ text ∷ codes "," ∷ tokens_of rest
-comma-behind text rest h = token-before text (44 ∷ rest) h refl
+comma-afterwards : (text rest : List ℕ) → is_token text ≡ true → tokens_of (text ++ 44 ∷ rest) ≡ text ∷ codes "," ∷ tokens_of rest
+comma-afterwards text rest h = token-before text (44 ∷ rest) h refl
     ∙ ap (λ ts. text ∷ ts) (before-comma 44 (goes_on rest) (tokens_of rest) refl)
 
 -- the operands of an entry
@@ -92,7 +92,7 @@ tail-is place (o ∷ u ∷ []) few all =
     let fourth = and_parts (list_all is_plain v) _ third.1 in
     record {
       ends = refl;
-      tokens = ap (λ x. tokens_of (t ++ 44 ∷ x)) (append-nil v) ∙ comma-behind t v first.0
+      tokens = ap (λ x. tokens_of (t ++ 44 ∷ x)) (append-nil v) ∙ comma-afterwards t v first.0
           ∙ ap (λ ts. t ∷ codes "," ∷ ts) (token-one v third.0);
       plain = ap (λ x. list_all is_plain (t ++ 44 ∷ x)) (append-nil v) ∙ list_all-append is_plain t (44 ∷ v)
           ∙ and_from _ _ second.0 fourth.0;

@@ -13,7 +13,7 @@ use Rattle.mcs48_asm.specs.Statements.{Statement, Nothing, Instruction, Origin, 
 use Rattle.mcs48_asm.specs.Places.{Placed, placed, is_filled, count_of, start_of}
 use Rattle.mcs48_asm.specs.Names.{Meanings, labelled, equated, definitions, value_named}
 use Rattle.mcs48_asm.specs.Faults.{arguments, is_past, is_too_large, has_wrong_number, has_labelled_equate}
-use Rattle.mcs48_asm.specs.Assembly.{fault_behind, first_fault, outcome_of, image_unless, image_of, answer_of}
+use Rattle.mcs48_asm.specs.Assembly.{fault_after, first_fault, outcome_of, image_unless, image_of, answer_of}
 use Rattle.mcs48_asm.specs.declared.flaw.Flaw.{Flaw}
 use Rattle.mcs48_asm.specs.Flaws.{number_of}
 use Rattle.mcs48_asm.specs.Capped.{capped, value_capped, statement_capped, line_capped, kept_places}
@@ -66,13 +66,13 @@ same-statement names (Origin n) h w = ap Origin (small-capped n (let l : n ≤ 2
 same-statement names (Data vs) h w = ap Data (same-data names vs h)
 same-statement names (Equate q n) h w = ap (Equate q) (small-capped n (let l : n ≤ 65535 = not_past 65535 n w in omega arith))
 
--- a line without a fault has no large number, and the place behind it is near
+-- a line without a fault has no large number, and the place after it is near
 pub record IsNear (at : Placed) : Type 0 where
   pub same : at_capped at ≡ at
-  pub behind : at.start + count_of at.line.statement ≤ 2048
+  pub afterwards : at.start + count_of at.line.statement ≤ 2048
 
 near : (names : Meanings) (earlier : List Placed) (place : ℕ) (line : Line) → place ≤ 2048
-    → fault_behind names earlier (record { start = start_of place line.statement; line = line }) ≡ None
+    → fault_after names earlier (record { start = start_of place line.statement; line = line }) ≡ None
     → IsNear (record { start = start_of place line.statement; line = line })
 near names earlier place line h none =
     let at : Placed = record { start = start_of place line.statement; line = line } in
@@ -86,7 +86,7 @@ near names earlier place line h none =
     let stated : statement_capped line.statement ≡ line.statement = same-statement names line.statement numbers.0 numbers.1 in
     record {
       same = λ i. record { start = begun i; line = record { flaw = line.flaw; label = line.label; statement = stated i } };
-      behind = counted_end (start_of place line.statement) (count_of line.statement) begins sound.within;
+      afterwards = counted_end (start_of place line.statement) (count_of line.statement) begins sound.within;
     }
 
 -- the first fault is the same
@@ -96,14 +96,14 @@ first : (names : Meanings) (earlier : List Placed) (place : ℕ) (lines : List L
 first names earlier place [] h = refl
 first names earlier place (line ∷ lines) h =
     let at : Placed = record { start = start_of place line.statement; line = line } in
-    go (fault_behind names earlier at) at (fault-capped names earlier place line h) refl
+    go (fault_after names earlier at) at (fault-capped names earlier place line h) refl
     (λ none. ap (λ ps. first_fault (names_capped names) ps
     (map at_capped (placed (at.start + count_of line.statement) lines))) (sym (map-append at_capped earlier (at ∷ [])))
-    ∙ first names (earlier ++ at ∷ []) (at.start + count_of line.statement) lines (near names earlier place line h none).behind)
+    ∙ first names (earlier ++ at ∷ []) (at.start + count_of line.statement) lines (near names earlier place line h none).afterwards)
   where
     go : (o : Option Flaw) (at : Placed)
-        → fault_behind (names_capped names) (map at_capped earlier) (at_capped at) ≡ fault_behind names earlier at
-        → fault_behind names earlier at ≡ o
+        → fault_after (names_capped names) (map at_capped earlier) (at_capped at) ≡ fault_after names earlier at
+        → fault_after names earlier at ≡ o
         → (o ≡ None → first_fault (names_capped names) (map at_capped earlier ++ at_capped at ∷ [])
         (map at_capped (placed (at.start + count_of line.statement) lines))
         ≡ first_fault names (earlier ++ at ∷ []) (placed (at.start + count_of line.statement) lines))
@@ -137,11 +137,11 @@ whole names earlier place [] h none = refl
 whole names earlier place (line ∷ lines) h none =
     let at : Placed = record { start = start_of place line.statement; line = line } in
     let next = at.start + count_of line.statement in
-    let parts = option-none (fault_behind names earlier at) (length earlier + 1)
+    let parts = option-none (fault_after names earlier at) (length earlier + 1)
     (first_fault names (earlier ++ at ∷ []) (placed next lines)) none in
     let here = near names earlier place line h parts.0 in
     ap (λ p. p ∷ map at_capped (placed next lines)) here.same
-    ∙ ap (λ ps. at ∷ ps) (whole names (earlier ++ at ∷ []) next lines here.behind parts.1)
+    ∙ ap (λ ps. at ∷ ps) (whole names (earlier ++ at ∷ []) next lines here.afterwards parts.1)
 
 answers : (ps : List Placed) (o : Option (ℕ × ℕ)) → first_fault (value_named (definitions ps)) [] ps ≡ o
     → first_fault (names_capped (value_named (definitions ps))) [] (map at_capped ps) ≡ o

@@ -58,7 +58,7 @@ first_line-upper text rest plain =
     ∙ ap (λ t. lines (t ++ 10 ∷ map to_ascii_uppercase rest)) (plain_text-upper text plain)
     ∙ first_line text (map to_ascii_uppercase rest) plain
 
--- a line that is a statement, and the lines behind it
+-- a line that is a statement, and the lines after it
 placed-said : (place : ℕ) (statement : Statement) (others : List Line)
     → ((before : ℕ) → start_of before statement ≡ before) → place + count_of statement ≤ 2048
     → placed place (said statement ∷ others) ≡ said_at place statement ∷ placed (place + count_of statement) others
@@ -74,7 +74,7 @@ pub record IsWritten (memory : List ℕ) (place : ℕ) (at : Placed) : Type 0 wh
       → slice_index (bytes_of names at.line.statement) k ≡ slice_index memory (place + k)
   pub faults : (names seen : Meanings) (filled : ℕ → Bool) → fault_of names seen filled at ≡ late_fault filled at
 
--- lines one behind the other from a place on, up to the end
+-- lines one after the other from a place on, up to the end
 abbrev pub Written : List ℕ → ℕ → ℕ → List Placed → Type 0
 Written memory end place [] = end ≤ place
 Written memory end place (at ∷ rest) = IsWritten memory place at × Written memory end (place + count_of at.line.statement) rest
@@ -91,7 +91,7 @@ IsZeroFrom memory end = (k : ℕ) → end ≤ k → slice_index memory k ≡ 0
 abbrev listed : List ℕ → ℕ → ℕ → ℕ → List Line
 listed memory end most place = map line_of (lines (map to_ascii_uppercase (lines_from memory end most place)))
 
--- one of two bytes that stand one behind the other
+-- one of two bytes that are one after the other
 one_of_two : (memory : List ℕ) (place k : ℕ) → k < 2
     → slice_index (slice_index memory place ∷ slice_index memory (place + 1) ∷ []) k ≡ slice_index memory (place + k)
 one_of_two memory place zero h = ap (slice_index memory) (omega arith)
@@ -133,14 +133,14 @@ listed-step memory end most place read sized below =
     ∙ ap (λ line. placed place (line ∷ listed memory end most next)) read.line
     ∙ placed-said place read.statement (listed memory end most next) read.start (omega (arith, read.count, sized.within, sized.length_is))
 
--- and no line stands behind the end
+-- and no line is after the end
 listed-done : (memory : List ℕ) (end most place : ℕ) → end ≤ place → placed place (listed memory end (suc most) place) ≡ []
 listed-done memory end most place past =
     let others : List ℕ = lines_from memory end most (place + size_of (instruction_at memory place)) in
     ap (λ b. placed place (map line_of (lines (map to_ascii_uppercase (cond b (line_at memory place ++ others) [])))))
     (le-ltb place end past)
 
--- the lines of a listing stand one behind the other
+-- the lines of a listing are one after the other
 listing-written : (memory : List ℕ) (end most place : ℕ)
     → ((k : ℕ) → k < 2048 → IsRead (text_at memory k) k (bytes_at memory k))
     → ((k : ℕ) → k < 2048 → IsSized memory k)
@@ -162,14 +162,14 @@ listing-written memory end (suc most) place reads sized all bound =
     (λ (past : end ≤ place). subst (λ ls. Written memory end place ls) (sym (listed-done memory end most place past)) past)
     (cases_lt place end)
 
--- a line covers no place before it and none behind it
+-- a line covers no place before it and none after it
 covers-not : (memory : List ℕ) (place : ℕ) (at : Placed) (k : ℕ) → IsWritten memory place at → (k < place)
     ⊎ (place + count_of at.line.statement ≤ k)
     → covers at k ≡ false
 covers-not memory place at k w (inl before) = rw w.start (grind (arith, nat_tests))
-covers-not memory place at k w (inr behind) = rw w.start (grind (arith, nat_tests))
+covers-not memory place at k w (inr afterwards) = rw w.start (grind (arith, nat_tests))
 
--- its bytes stand below place 2,048
+-- its bytes are below place 2,048
 written-within : (memory : List ℕ) (place : ℕ) (at : Placed) → IsWritten memory place at → is_past_end at ≡ false
 written-within memory place at w =
     and_right (nat_lt 0 (count_of at.line.statement)) (nat_lt 2048 (at.start + count_of at.line.statement))
@@ -197,15 +197,15 @@ written-sound memory place at names seen filled w free =
     ∙ ap (λ b. cond b (Some PastEnd) (cond (is_filled_again filled at) (Some PlaceTaken) None)) (written-within memory place at w)
     ∙ ap (λ b. cond b (Some PlaceTaken) None) (written-free memory place at filled w free)
 
--- one line more fills no place behind it
+-- one line more fills no place after it
 free-push : (memory : List ℕ) (place : ℕ) (earlier : List Placed) (at : Placed) → IsWritten memory place at
     → IsFree (is_filled earlier) place
     → IsFree (is_filled (earlier ++ at ∷ [])) (place + count_of at.line.statement)
-free-push memory place earlier at w free k behind =
+free-push memory place earlier at w free k afterwards =
     is_filled-push earlier at k
-    ∙ or_from (is_filled earlier k) (covers at k) (free k (omega arith)) (covers-not memory place at k w (inr behind))
+    ∙ or_from (is_filled earlier k) (covers at k) (free k (omega arith)) (covers-not memory place at k w (inr afterwards))
 
--- lines one behind the other have no fault
+-- lines one after the other have no fault
 written-faultless : (memory : List ℕ) (end place : ℕ) (names : Meanings) (earlier all : List Placed)
     → Written memory end place all → IsFree (is_filled earlier) place
     → first_fault names earlier all ≡ None
@@ -216,7 +216,7 @@ written-faultless memory end place names earlier (at ∷ rest) w free =
     ∙ written-faultless memory end (place + count_of at.line.statement) names (earlier ++ at ∷ []) rest w.1
     (free-push memory place earlier at w.0 free)
 
--- a byte of a line, or of those behind it
+-- a byte of a line, or of those after it
 byte-step : (t : Bool) (memory : List ℕ) (place : ℕ) (names : Meanings) (at : Placed) (k x : ℕ)
     → IsWritten memory place at → covers at k ≡ t → place ≤ k
     → (place + count_of at.line.statement ≤ k → x ≡ slice_index memory k)
@@ -234,7 +234,7 @@ byte-step false memory place names at k x w t from others =
     absurd (both_ways (covers at k) t
     (and_from (nat_le at.start k) (nat_lt k (at.start + count_of at.line.statement)) (le-leb at.start k (omega (arith, w.start)))
     (lt-ltb k (at.start + count_of at.line.statement) (omega (arith, w.start, below))))))
-    (λ (behind : place + count_of at.line.statement ≤ k). behind)
+    (λ (afterwards : place + count_of at.line.statement ≤ k). afterwards)
     (cases_lt k (place + count_of at.line.statement)))
 
 -- from a place on the bytes of the lines are those of the memory, which is 00 from the end on
@@ -244,7 +244,7 @@ written-byte : (memory : List ℕ) (end place : ℕ) (names : Meanings) (all : L
 written-byte memory end place names [] w zeros k from = sym (zeros k (omega arith))
 written-byte memory end place names (at ∷ rest) w zeros k from =
     byte-step (covers at k) memory place names at k (byte_at names rest k) w.0 refl from
-    (λ behind. written-byte memory end (place + count_of at.line.statement) names rest w.1 zeros k behind)
+    (λ afterwards. written-byte memory end (place + count_of at.line.statement) names rest w.1 zeros k afterwards)
 
 -- the end lies within the list
 end_of-within : (bytes : List ℕ) → end_of bytes ≤ length bytes

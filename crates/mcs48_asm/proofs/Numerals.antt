@@ -20,7 +20,7 @@ digit-word n h = grind (arith, nat_tests)
 digit-back : (n : ℕ) → n < 16 → digit_value (hex_digit n) ≡ n
 digit-back n h = grind (arith, nat_tests)
 
--- what two digits behind a 0 write, and three
+-- what two digits after a 0 write, and three
 abbrev two_digits : ℕ → ℕ → Option ℕ
 two_digits a b = if nat_lt a 16 && (nat_lt b 16 && true) then Some ((0 + a) * 16 + b) else None
 

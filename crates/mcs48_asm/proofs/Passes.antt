@@ -17,12 +17,12 @@ use Rattle.mcs48_asm.specs.Kept.{kept_line}
 use Rattle.mcs48_asm.specs.Statements.{Line}
 use Rattle.mcs48_asm.specs.Places.{Placed, places, covers, is_filled, count_of, start_of}
 use Rattle.mcs48_asm.specs.Faults.{fault_of, is_past_end, is_filled_again, is_refused, has_unknown_name, is_defined_again, is_off_page}
-use Rattle.mcs48_asm.specs.Assembly.{fault_behind, first_fault, byte_at, image_of, image_unless, outcome_of}
+use Rattle.mcs48_asm.specs.Assembly.{fault_after, first_fault, byte_at, image_of, image_unless, outcome_of}
 use Rattle.mcs48_asm.proofs.Ranges.{places-of, any_places-alike}
 use Rattle.mcs48_asm.proofs.Steps.{names-push, is_filled-push, byte_at-kept, byte_at-new}
 
 -- what the pass has made of these lines, where all lines are these and the rest
-pub record Stands (names : Meanings) (all rest : List Placed) (seen : Meanings) (filled : List Bool) (bytes : List ℕ)
+pub record IsPassed (names : Meanings) (all rest : List Placed) (seen : Meanings) (filled : List Bool) (bytes : List ℕ)
     (number : ℕ) (earlier : List Placed) : Type 0 where
   pub whole : all ≡ earlier ++ rest
   pub count : length earlier ≡ number
@@ -43,12 +43,12 @@ fault-alike names seen other f g at s h =
     let e : seen ≡ other = λ i q. s q i in
     ap (λ m. fault_of names m f at) e ∙ cc (filled_again-alike f g at h)
 
--- what the pass finds is the fault of the line behind these lines
-pub fault-behind : (names : Meanings) (all rest : List Placed) (seen : Meanings) (filled : List Bool) (bytes : List ℕ)
+-- what the pass finds is the fault of the line after these lines
+pub fault-afterwards : (names : Meanings) (all rest : List Placed) (seen : Meanings) (filled : List Bool) (bytes : List ℕ)
     (number : ℕ) (earlier : List Placed) (at : Placed)
-    → Stands names all rest seen filled bytes number earlier
-    → fault_of names seen (λ place. slice_index_or filled place false) at ≡ fault_behind names earlier at
-fault-behind names all rest seen filled bytes number earlier at s =
+    → IsPassed names all rest seen filled bytes number earlier
+    → fault_of names seen (λ place. slice_index_or filled place false) at ≡ fault_after names earlier at
+fault-afterwards names all rest seen filled bytes number earlier at s =
     fault-alike names seen (value_named (definitions earlier)) (λ place. slice_index_or filled place false)
     (is_filled earlier) at s.names_seen s.marks
 
@@ -108,13 +108,13 @@ or_swap false false = refl
 -- one line more, which has no fault
 pub next : (names : Meanings) (all : List Placed) (at : Placed) (rest : List Placed) (seen seen' : Meanings)
     (filled filled' : List Bool) (bytes bytes' : List ℕ) (number : ℕ) (earlier : List Placed)
-    → Stands names all (at ∷ rest) seen filled bytes number earlier
+    → IsPassed names all (at ∷ rest) seen filled bytes number earlier
     → fault_of names seen (λ place. slice_index_or filled place false) at ≡ None
     → ((q : List ℕ) → seen' q ≡ option_or (seen q) (value_named (defined at) q))
     → ((k : ℕ) → slice_index bytes' k
     ≡ cond (covers at k) (slice_index (bytes_of names at.line.statement) (k - at.start)) (slice_index bytes k))
     → ((k : ℕ) → slice_index_or filled' k false ≡ (covers at k || slice_index_or filled k false))
-    → Stands names all rest seen' filled' bytes' (number + 1) (earlier ++ at ∷ [])
+    → IsPassed names all rest seen' filled' bytes' (number + 1) (earlier ++ at ∷ [])
 next names all at rest seen seen' filled filled' bytes bytes' number earlier s none named written marked =
     let line = sound-line names seen (λ place. slice_index_or filled place false) at none in
     record {
@@ -127,26 +127,26 @@ next names all at rest seen seen' filled filled' bytes bytes' number earlier s n
           (λ t. sym (s.marks k l) ∙ free_place (λ place. slice_index_or filled place false) at k line.apart l t) (s.image k l);
       faults = s.faults ∙ ap
           (λ o. option_or (option_map (λ flaw. (length earlier + 1, number_of flaw)) o) (first_fault names (earlier ++ at ∷ []) rest))
-          (sym (fault-behind names all (at ∷ rest) seen filled bytes number earlier at s) ∙ none);
+          (sym (fault-afterwards names all (at ∷ rest) seen filled bytes number earlier at s) ∙ none);
     }
 
 -- a line with a fault
 pub faulty : (names : Meanings) (all : List Placed) (at : Placed) (rest : List Placed) (seen : Meanings)
     (filled : List Bool) (bytes : List ℕ) (number : ℕ) (earlier : List Placed) (fault : Flaw)
-    → Stands names all (at ∷ rest) seen filled bytes number earlier
+    → IsPassed names all (at ∷ rest) seen filled bytes number earlier
     → fault_of names seen (λ place. slice_index_or filled place false) at ≡ Some fault
     → outcome_of names all ≡ Err (number + 1, number_of fault)
 faulty names all at rest seen filled bytes number earlier fault s h =
     let found : first_fault names [] all ≡ Some (length earlier + 1, number_of fault) =
     s.faults ∙ ap (λ o. option_or (option_map (λ flaw. (length earlier + 1, number_of flaw)) o)
     (first_fault names (earlier ++ at ∷ []) rest))
-    (sym (fault-behind names all (at ∷ rest) seen filled bytes number earlier at s) ∙ h) in
+    (sym (fault-afterwards names all (at ∷ rest) seen filled bytes number earlier at s) ∙ h) in
     ap (λ f. image_unless f (image_of names all)) found ∙ ap (λ n. Err (n + 1, number_of fault)) s.count
 
 -- the end of the text
 pub ended : (names : Meanings) (all : List Placed) (seen : Meanings) (filled : List Bool) (bytes : List ℕ)
     (number : ℕ) (earlier : List Placed)
-    → Stands names all [] seen filled bytes number earlier → length bytes ≡ 2048 → outcome_of names all ≡ Ok bytes
+    → IsPassed names all [] seen filled bytes number earlier → length bytes ≡ 2048 → outcome_of names all ≡ Ok bytes
 ended names all seen filled bytes number earlier s l =
     let same : all ≡ earlier = s.whole ∙ append-nil earlier in
     let filled_so : bytes
@@ -162,15 +162,15 @@ pub placed-turn : (place start next : ℕ) (rest more front : List ℕ) (seen : 
     → next ≡ capped (start + count_of seen.statement)
     → kept_places place (map kept_line (lines rest))
     ≡ record { start = start; line = seen } ∷ kept_places next (map kept_line (lines more))
-placed-turn place start next rest more front seen first says starts behind =
+placed-turn place start next rest more front seen first says starts afterwards =
     let others = map kept_line (lines more) in
     ap (λ ls. kept_places place (map kept_line ls)) first
     ∙ sym (ap (λ line. kept_places place (line ∷ others)) says)
     ∙ sym (ap (λ s. record { start = s; line = seen } ∷ kept_places (capped (s + count_of seen.statement)) others) starts)
-    ∙ sym (ap (λ n. record { start = start; line = seen } ∷ kept_places n others) behind)
+    ∙ sym (ap (λ n. record { start = start; line = seen } ∷ kept_places n others) afterwards)
 
 -- no line yet
 pub begun : (names : Meanings) (all : List Placed) (seen : Meanings) (filled : List Bool) (bytes : List ℕ)
     → ((q : List ℕ) → seen q ≡ None) → ((k : ℕ) → k < 2048 → slice_index_or filled k false ≡ false)
-    → ((k : ℕ) → k < 2048 → slice_index bytes k ≡ 0) → Stands names all all seen filled bytes 0 []
+    → ((k : ℕ) → k < 2048 → slice_index bytes k ≡ 0) → IsPassed names all all seen filled bytes 0 []
 begun names all seen filled bytes s f b = record { whole = refl; count = refl; names_seen = s; marks = f; image = b; faults = refl }

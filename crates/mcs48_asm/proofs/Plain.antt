@@ -39,7 +39,7 @@ first_part p q none (c ∷ cs) mark rest all is =
     let both = and_parts (p c) (list_all p cs) all in
     slice_split-cons_no q c (cs ++ mark ∷ rest) (none c both.0) ∙ ap (onto_first c) (first_part p q none cs mark rest both.1 is)
 
--- nothing is cut off where no mark stands
+-- nothing is cut off where no mark is
 pub uncut : (p q : ℕ → Bool) → ((c : ℕ) → p c ≡ true → q c ≡ false) → (text : List ℕ) → list_all p text ≡ true → before_first q text ≡ text
 uncut p q none [] all = refl
 uncut p q none (c ∷ cs) all =

@@ -36,9 +36,9 @@ any_range-skip f n (suc place) before =
 
 -- a test that no place from one on passes
 pub any_range-none : (f : ℕ → Bool) (place n : ℕ) → ((k : ℕ) → place ≤ k → f k ≡ false) → list_any f (range_with_len place n) ≡ false
-any_range-none f place zero behind = refl
-any_range-none f place (suc n) behind =
-    rw (behind place (omega arith)) (any_range-none f (place + 1) n (λ k l. behind k (omega (arith, l))))
+any_range-none f place zero afterwards = refl
+any_range-none f place (suc n) afterwards =
+    rw (afterwards place (omega arith)) (any_range-none f (place + 1) n (λ k l. afterwards k (omega (arith, l))))
 
 -- the places of a memory of 2,048 bytes
 pub places-of : (n : ℕ) → n ≡ 2048 → range_with_len 0 n ≡ places

@@ -18,7 +18,7 @@ said statement = record { flaw = None; label = None; statement = statement }
 abbrev pub said_at : ℕ → Statement → Placed
 said_at place statement = record { start = place; line = said statement }
 
--- the faults that come of where a line's bytes stand
+-- the faults that come of where a line's bytes are
 abbrev pub late_fault : (ℕ → Bool) → Placed → Option Flaw
 late_fault filled at = if is_past_end at then Some PastEnd else (if is_filled_again filled at then Some PlaceTaken else None)
 

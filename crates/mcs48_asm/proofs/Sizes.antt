@@ -25,7 +25,7 @@ fitting : (t : Bool) (d : Decoded) (place : ℕ) → nat_le (place + d.len) 2048
 fitting true d place test few below = let within : place + d.len ≤ 2048 = leb-true (place + d.len) 2048 test in omega arith
 fitting false d place test few below = omega arith
 
--- and so what stands at a place
+-- and so what is at a place
 that_fits-room : (row : Option Decoded) (place : ℕ) → IfSome row (λ d. IsFew d.len) → place < 2048
     → IsRoom place (size_of (that_fits place row))
 that_fits-room None place few below = omega arith
@@ -39,7 +39,7 @@ byte_below memory bytes k =
     (λ (past : length memory ≤ k). rw (get_or_past memory k 0 past) (lit< tt))
     (cases_lt k (length memory))
 
--- what stands at a place of such a memory is one byte or two
+-- what is at a place of such a memory is one byte or two
 pub sized : (memory : List ℕ) → ((k : ℕ) → slice_index memory k < 256) → (place : ℕ) → place < 2048 → IsSized memory place
 sized memory bytes place below =
     let first : ℕ = slice_index memory place in

@@ -23,7 +23,7 @@ comma-word c h = grind (arith, nat_tests)
 comma-blank : (c : ℕ) → is_comma c ≡ true → is_blank c ≡ false
 comma-blank c h = grind (arith, nat_tests)
 
--- what stands before tokens
+-- what is before tokens
 pub before-blank : (c : ℕ) (g : Bool) (ts : List (List ℕ)) → is_blank c ≡ true → before_tokens c g ts ≡ ts
 before-blank c g ts h = ap (λ b. cond b ts (cond (g && not (is_comma c)) (onto_first c ts) ((c ∷ []) ∷ ts))) h
 
@@ -40,7 +40,7 @@ pub before-joined : (c : ℕ) (ts : List (List ℕ)) → is_blank c ≡ false �
 before-joined c ts h k = ap (λ b. cond b ts (cond (true && not (is_comma c)) (onto_first c ts) ((c ∷ []) ∷ ts))) h
     ∙ ap (λ b. cond (true && not b) (onto_first c ts) ((c ∷ []) ∷ ts)) k
 
--- a character that is no blank and no comma, the letters behind it, and what stands behind these
+-- a character that is no blank and no comma, the letters after it, and what is after these
 pub token-run : (c : ℕ) (word rest : List ℕ) → is_blank c ≡ false → is_comma c ≡ false
     → list_all is_word_character word ≡ true → goes_on rest ≡ false
     → tokens_of (c ∷ (word ++ rest)) ≡ (c ∷ word) ∷ tokens_of rest
@@ -51,12 +51,12 @@ token-run c (d ∷ ds) rest visible comma all ends =
     ∙ before-joined c (tokens_of (d ∷ (ds ++ rest))) visible comma
     ∙ ap (onto_first c) (token-run d ds rest (word-blank d both.0) (word-comma d both.0) both.1 ends)
 
--- the same, where so many letters stand behind the character
-pub token-cut : (c : ℕ) (behind : List ℕ) (n : ℕ) → is_blank c ≡ false → is_comma c ≡ false
-    → list_all is_word_character (take n behind) ≡ true → goes_on (drop n behind) ≡ false
-    → tokens_of (c ∷ behind) ≡ (c ∷ take n behind) ∷ tokens_of (drop n behind)
-token-cut c behind n visible comma all ends = ap (λ text. tokens_of (c ∷ text)) (sym (take-append-drop n behind))
-    ∙ token-run c (take n behind) (drop n behind) visible comma all ends
+-- the same, where so many letters are after the character
+pub token-cut : (c : ℕ) (afterwards : List ℕ) (n : ℕ) → is_blank c ≡ false → is_comma c ≡ false
+    → list_all is_word_character (take n afterwards) ≡ true → goes_on (drop n afterwards) ≡ false
+    → tokens_of (c ∷ afterwards) ≡ (c ∷ take n afterwards) ∷ tokens_of (drop n afterwards)
+token-cut c afterwards n visible comma all ends = ap (λ text. tokens_of (c ∷ text)) (sym (take-append-drop n afterwards))
+    ∙ token-run c (take n afterwards) (drop n afterwards) visible comma all ends
 
 -- one token: what begins with no blank and no comma, and goes on with letters, digits and _
 abbrev pub is_token : List ℕ → Bool
@@ -86,17 +86,17 @@ is_between c = not (is_word_character c)
 abbrev is_word : List ℕ → Bool
 is_word word = nat_lt 0 (length word)
 
--- the parts behind the first of a text that doesn't go on with a letter
-abbrev parts_behind : List ℕ → List (List ℕ)
-parts_behind [] = []
-parts_behind (c ∷ cs) = slice_split is_between cs
+-- the parts after the first of a text that doesn't go on with a letter
+abbrev parts_after : List ℕ → List (List ℕ)
+parts_after [] = []
+parts_after (c ∷ cs) = slice_split is_between cs
 
-split-end : (rest : List ℕ) → goes_on rest ≡ false → slice_split is_between rest ≡ [] ∷ parts_behind rest
+split-end : (rest : List ℕ) → goes_on rest ≡ false → slice_split is_between rest ≡ [] ∷ parts_after rest
 split-end [] h = refl
 split-end (c ∷ cs) h = slice_split-cons_yes is_between c cs (ap not h)
 
 split-word : (word rest : List ℕ) → list_all is_word_character word ≡ true → goes_on rest ≡ false
-    → slice_split is_between (word ++ rest) ≡ word ∷ parts_behind rest
+    → slice_split is_between (word ++ rest) ≡ word ∷ parts_after rest
 split-word [] rest all ends = split-end rest ends
 split-word (c ∷ cs) rest all ends =
     let both = and_parts (is_word_character c) (list_all is_word_character cs) all in
@@ -111,19 +111,19 @@ pub words-run : (c : ℕ) (cs rest : List ℕ) → list_all is_word_character (c
     → words_of ((c ∷ cs) ++ rest) ≡ (c ∷ cs) ∷ words_of rest
 words-run c cs rest all ends =
     ap (filter is_word) (split-word (c ∷ cs) rest all ends)
-    ∙ kept c cs (parts_behind rest)
+    ∙ kept c cs (parts_after rest)
     ∙ ap (λ words. (c ∷ cs) ∷ words) (sym (ap (filter is_word) (split-end rest ends)))
 
--- the same, where so many letters stand at the start
+-- the same, where so many letters are at the start
 pub words-cut : (text : List ℕ) (n : ℕ) → 1 ≤ length text → is_word_character (slice_index text 0) ≡ true
     → list_all is_word_character (take n text) ≡ true → goes_on (drop n text) ≡ false
     → words_of text ≡ take n text ∷ words_of (drop n text)
 words-cut [] n some h all ends = absurd (cc)
-words-cut (c ∷ behind) zero some h all ends = absurd (cc)
-words-cut (c ∷ behind) (suc n) some h all ends = ap (λ text. words_of (c ∷ text)) (sym (take-append-drop n behind))
-    ∙ words-run c (take n behind) (drop n behind) all ends
+words-cut (c ∷ afterwards) zero some h all ends = absurd (cc)
+words-cut (c ∷ afterwards) (suc n) some h all ends = ap (λ text. words_of (c ∷ text)) (sym (take-append-drop n afterwards))
+    ∙ words-run c (take n afterwards) (drop n afterwards) all ends
 
--- the words before a character that is in none, and those behind it
+-- the words before a character that is in none, and those after it
 onto-append : (c : ℕ) (text : List ℕ) (parts : List (List ℕ))
     → onto_first c (slice_split is_between text ++ parts) ≡ onto_first c (slice_split is_between text) ++ parts
 onto-append c text parts = let cut = split-is_cons is_between text in ap (λ ps. onto_first c (ps ++ parts)) cut.is

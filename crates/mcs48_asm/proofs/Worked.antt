@@ -1,4 +1,4 @@
--- Each of the sources gives what stands beside it: the definitions compute it.
+-- Each of the sources gives what is beside it: the definitions compute it.
 use Rattle.std.specs.Prelude.{refl}
 use Rattle.mcs48_asm.specs.Rows.{instructions, is_instruction, reserved, is_reserved}
 use Rattle.mcs48_asm.specs.Places.{places}

@@ -22,15 +22,15 @@ abbrev pub Fault : Type 0
 Fault = ℕ × ℕ
 
 -- the first flaw of a line after these lines
-abbrev pub fault_behind : Meanings → List Placed → Placed → Option Flaw
-fault_behind names earlier at = fault_of names (value_named (definitions earlier)) (is_filled earlier) at
+abbrev pub fault_after : Meanings → List Placed → Placed → Option Flaw
+fault_after names earlier at = fault_of names (value_named (definitions earlier)) (is_filled earlier) at
 
 -- the first faulty line after these lines, and its fault
 abbrev pub first_fault : Meanings → List Placed → List Placed → Option Fault
 first_fault names earlier [] = None
 first_fault names earlier (at ∷ rest) =
     option_or
-    (option_map (λ flaw. (length earlier + 1, number_of flaw)) (fault_behind names earlier at))
+    (option_map (λ flaw. (length earlier + 1, number_of flaw)) (fault_after names earlier at))
     (first_fault names (earlier ++ at ∷ []) rest)
 
 -- the byte at a place: that of the line that fills it, and 00 if none does

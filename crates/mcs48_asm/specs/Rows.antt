@@ -106,7 +106,7 @@ immediate _ = None
 abbrev pub word_read : List ℕ → List ℕ → Option Reading
 word_read word token = if bytes_eq word token then Some (fixed 0) else None
 
--- what tokens say as an operand like this, where they are one: it as the table writes it, with any number, and a value
+-- what tokens say as an operand like this, if they are one: it as the table writes it, with any number, and a value
 -- if the table has one
 abbrev pub read : Operand → List (List ℕ) → Option Reading
 read (Is word) tokens = alone (word_read word) tokens

@@ -28,9 +28,9 @@ goes_on (c ∷ cs) = is_word_character c
 -- a character before tokens: a blank parts them, a comma is one of its own, and any other character belongs to the word
 -- that begins right after it
 abbrev pub before_tokens : ℕ → Bool → List (List ℕ) → List (List ℕ)
-before_tokens c is_word_behind tokens =
+before_tokens c is_word_after tokens =
     if is_blank c then tokens
-    else (if is_word_behind && not (is_comma c) then onto_first c tokens else (c ∷ []) ∷ tokens)
+    else (if is_word_after && not (is_comma c) then onto_first c tokens else (c ∷ []) ∷ tokens)
 
 -- the tokens of a text: words, each with the # or @ right before it, and commas
 abbrev pub tokens_of : List ℕ → List (List ℕ)

@@ -23,7 +23,7 @@ pub(crate) fn put(memory: &mut [u8], start: usize, bytes: &[u8])
     ensures inside { (offset : ℕ) → offset < length bytes.now
         → slice_index memory.new (start + offset) ≡ slice_index bytes.now offset }
     ensures before { (place : ℕ) → place < start → slice_index memory.new place ≡ slice_index memory.old place }
-    ensures behind { (place : ℕ) → start + length bytes.now ≤ place
+    ensures afterwards { (place : ℕ) → start + length bytes.now ≤ place
         → slice_index memory.new place ≡ slice_index memory.old place }
 {
     for (offset, byte) in bytes.iter().enumerate() {
@@ -38,7 +38,7 @@ pub(crate) fn mark(filled: &mut [bool], start: usize, end: usize)
     ensures inside { (place : ℕ) → start ≤ place → place < end → slice_index_or filled.new place false ≡ true }
     ensures before { (place : ℕ) → place < start → slice_index_or filled.new place false
         ≡ slice_index_or filled.old place false }
-    ensures behind { (place : ℕ) → end ≤ place → slice_index_or filled.new place false
+    ensures afterwards { (place : ℕ) → end ≤ place → slice_index_or filled.new place false
         ≡ slice_index_or filled.old place false }
 {
     for place in start..end {

@@ -103,10 +103,10 @@ fn low_of<'a>(low: &[u8], name: &'a [u8]) -> Option<Value<'a>>
 pub(crate) fn value_from<'a>(first: &'a [u8], rest: &'a [u8]) -> Option<Value<'a>>
     ensures { option_map value_seen result ≡ option_map value_capped (value_of (first.now ∷ tokens_of rest.now)) }
 {
-    let Some((name, behind)) = next_token(rest) else {
+    let Some((name, afterwards)) = next_token(rest) else {
         return number_or_name(first);
     };
-    match next_token(behind) {
+    match next_token(afterwards) {
         None => low_of(first, name),
         Some(_) => None,
     }

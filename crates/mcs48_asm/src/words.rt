@@ -40,13 +40,17 @@ fn run_length(text: &[u8]) -> usize
 }
 
 /// How many letters, digits and _ belong to the token that a character begins; a comma is one of its own.
-fn token_length(first: u8, behind: &[u8]) -> usize
+fn token_length(first: u8, afterwards: &[u8]) -> usize
     requires { is_blank first ≡ false }
-    ensures within { result ≤ length behind.now }
-    ensures token { tokens_of (first ∷ behind.now) ≡ (first ∷ take result behind.now) ∷ tokens_of
-        (drop result behind.now) }
+    ensures within { result ≤ length afterwards.now }
+    ensures token { tokens_of (first ∷ afterwards.now) ≡ (first ∷ take result afterwards.now) ∷ tokens_of
+        (drop result afterwards.now) }
 {
-    if first == b',' { 0 } else { run_length(behind) }
+    if first == b',' {
+        0
+    } else {
+        run_length(afterwards)
+    }
 }
 
 /// The first token of a text and what is after it; None if it has no token.
@@ -55,10 +59,10 @@ pub(crate) fn next_token(text: &[u8]) -> Option<(&[u8], &[u8])>
         ≡ parts.0.now ∷ tokens_of parts.1.now) }
 {
     let tokens = unindented(text);
-    let [first, behind @ ..] = tokens else {
+    let [first, afterwards @ ..] = tokens else {
         return None;
     };
-    Some(tokens.split_at(token_length(*first, behind) + 1))
+    Some(tokens.split_at(token_length(*first, afterwards) + 1))
 }
 
 /// The token that is alone in a text.

@@ -1,4 +1,4 @@
--- A jump to where the processor stands changes the timer alone.
+-- A jump to where the processor is changes the timer alone.
 use Rattle.std.proofs.Common.{◌≡◌, ◌<◌, ℕ, ◌+◌, ◌*◌, ◌-◌, ◌/◌, ◌%◌, Bool, true, false, ◌&&◌, not, List, Some, refl, ap, sym, ◌∙◌, arith}
 use Rattle.std.specs.Prelude.{if◌then◌else◌, nat_le, ◌==◌}
 use Rattle.std.specs.declared.option.Option.{Option}
@@ -90,7 +90,7 @@ turn Timer n pins m level short =
     (ap (λ b. if b then true else m.tf) (not_full e below))
     (ap (λ b. if b && m.tim_on then true else m.rq) (not_full e below)) (sym level)
 
--- the next step is such a jump: no interrupt is taken, the JMP at the counter leads there, and T1 stands as at the last
+-- the next step is such a jump: no interrupt is taken, the JMP at the counter leads there, and T1 is as at the last
 -- step
 pub record IsInPlace (bytes : List ℕ) (pins : Pins) (m : Cpu) : Type 0 where
   pub no_external : takes_external pins m ≡ false

@@ -23,7 +23,7 @@ end_of-take : (bytes : List ℕ) (i : ℕ) → i < length bytes →
 end_of-take bytes i h =
     ap end_of (take_more bytes i 0 h) ∙ end_of-append (take i bytes) (slice_index bytes i)
 
--- a byte 00 leaves the end, another byte moves it behind itself
+-- a byte 00 leaves the end, another byte moves it after itself
 pub end_of-zero : (bytes : List ℕ) (i : ℕ) → i < length bytes → slice_index bytes i ≡ 0
     → end_of (take (i + 1) bytes) ≡ end_of (take i bytes)
 end_of-zero bytes i h zero_there =

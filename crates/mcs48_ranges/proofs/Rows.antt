@@ -35,7 +35,7 @@ timed_by (Some q) r e h =
     (grind (arith, nat_tests, some), grind (arith, nat_tests, few))
 timed_by None r e h = absurd cc
 
--- a row takes one or two cycles, whatever stands behind its first byte
+-- a row takes one or two cycles, whatever is after its first byte
 pub row_timed : (b n : ℕ) (r : Decoded) → row_of b n ≡ Some r → (0 < r.cycles) × (r.cycles ≤ 2)
 row_timed b n r e = timed_by (row_of b n) r e (picked (λ line. is_timed (line n)) lines b refl (timed_lines n))
 

@@ -4,15 +4,15 @@ use Rattle.std.proofs.Common.{List, Some, None, refl, ap, sym, ◌∙◌, subst,
 use Rattle.std.specs.Prelude.{if◌then◌else◌, nat_lt, nat_le}
 use Rattle.std.specs.declared.option.Option.{Option}
 use Rattle.std.proofs.lemmas.Bool.Decides.{nat_tests}
-use Rattle.board_lines.specs.declared.event.HostEvent.{HostEvent}
-use Rattle.board_lines.specs.Cadence.{KeepsCadenceTo}
+use Rattle.board_terms.specs.declared.event.HostEvent.{HostEvent}
+use Rattle.board_terms.specs.Cadence.{KeepsCadenceTo}
 use Rattle.byte_time.specs.declared.UnderWay.{UnderWay}
 use Rattle.byte_time.specs.declared.meeting.Meeting.{Meeting}
 use Rattle.byte_time.specs.declared.meeting.Meeting.TheVariants.{Got, Inhibited, Idle, Sent, Cut}
 use Rattle.byte_time.specs.ByteTime.{Arrives, quietly, meeting_by, sent_or_cut, sends, ended_as, carried}
 use Rattle.ctl_link.specs.declared.link.Link.{Link}
 use Rattle.ctl_link.specs.declared.link.Link.TheVariants.{Free, Hold, Ask, Request, Busy}
-use Rattle.ctl_link.specs.declared.port.Port.{Port}
+use Rattle.ctl_link.specs.declared.port.LinkEnd.{LinkEnd}
 use Rattle.host_turn.specs.Run.{Side, says_lights}
 use Rattle.kbd_model.specs.declared.edge.TickEdge.{TickEdge}
 use Rattle.kbd_model.specs.Codes.{keys_of}
@@ -86,8 +86,8 @@ module _ (layout : KeyLayout) (history : KeyHistory) (starts : ℕ → ℕ) wher
       → meeting_at layout history starts n ≡ meeting → keys_at (suc n) ≡ ticked (keys_of layout) (met_as meeting) (edges_at n) (keys_at n)
   keys_after n meeting h = ap (λ m. ticked (keys_of layout) (met_as m) (edges_at n) (keys_at n)) h
 
-  module _ (P : Port UnderWay → Type 0) (stays : Stays P) (n : ℕ) where
-    -- what stays so from a tick's start to its look at the link, to its meeting, and behind that to the next start
+  module _ (P : LinkEnd UnderWay → Type 0) (stays : Stays P) (n : ℕ) where
+    -- what stays so from a tick's start to its look at the link, to its meeting, and after that to the next start
     look_keeps : P (at_tick layout history starts n).side.port
         → P (earlier_side history.host (4096 + starts n) (at_tick layout history starts n)).port
     look_keeps h =
@@ -121,7 +121,7 @@ module _ (layout : KeyLayout) (history : KeyHistory) (starts : ℕ → ℕ) wher
     asked : IsAsked 0xfe since (at_tick layout history starts n).side.port
     counted : wrong_before layout history starts n ≡ wrong
 
-  -- how many came wrong, behind a tick that takes no byte off the line
+  -- how many came wrong, after a tick that takes no byte off the line
   count_stays : (n wrong : ℕ) (meeting : Meeting) → meeting_at layout history starts n ≡ meeting
       → ((flip : Option ℕ) → fate_of meeting flip wrong ≡ NoByte) → wrong_before layout history starts n ≡ wrong
       → wrong_before layout history starts (suc n) ≡ wrong
@@ -184,7 +184,7 @@ module _ (layout : KeyLayout) (history : KeyHistory) (starts : ℕ → ℕ) wher
         counted = count_stays n wrong (Got 0xfe) m (λ flip. refl) h.counted;
       }
 
-  -- and the one behind it
+  -- and the one after it
   sent_again : (byte n : ℕ)
       → Replies byte (keys_at n) → AwaitsReply (at_tick layout history starts n).side.port → meeting_at layout history starts n ≡ Sent byte
   sent_again byte n keys link =
@@ -241,11 +241,11 @@ module _ (layout : KeyLayout) (history : KeyHistory) (starts : ℕ → ℕ) wher
           let above : suc n ≤ j = grind (arith, nat_tests, e) in
           there j above (omega (arith, u))
 
-  -- behind a tick whose byte came wrong, and is asked for again
-  waits_behind : (n byte : ℕ) → fate_at layout history starts n ≡ Again byte
+  -- after a tick whose byte came wrong, and is asked for again
+  waits_after : (n byte : ℕ) → fate_at layout history starts n ≡ Again byte
       → Waits (asked_for byte (keys_at n)) (suc (wrong_before layout history starts n))
       (arrival_in layout history starts n) (pause (keys_at n)) (suc n)
-  waits_behind n byte f =
+  waits_after n byte f =
       let start : ℕ = 4096 + starts n in
       let now : ℕ = arrival_in layout history starts n in
       let w : Whole LayeredKeyboard = at_tick layout history starts n in
@@ -277,7 +277,7 @@ module _ (layout : KeyLayout) (history : KeyHistory) (starts : ℕ → ℕ) wher
       let late : (m : ℕ) → suc n ≤ m → m ≤ last → now + 64 ≤ 4096 + starts m = λ m l u.
       let there = cadence m u in omega (arith, here.most, there.least, l) in
       let r : Comes (asked_for byte (keys_at n)) (suc wrong) left (suc n) =
-      comes (asked_for byte (keys_at n)) (suc wrong) now left (suc n) last late (omega (arith, within)) (waits_behind n byte f) in
+      comes (asked_for byte (keys_at n)) (suc wrong) now left (suc n) last late (omega (arith, within)) (waits_after n byte f) in
       record {
         idle = λ j l u. r.idle j (omega (arith, l)) (omega (arith, u));
         asked = subst (λ v. meeting_at layout history starts v ≡ Got 0xfe) z r.asked;

@@ -3,7 +3,7 @@ use Rattle.std.proofs.Common.{◌≡◌, ◌≤◌, ℕ, zero, suc, ◌+◌, ◌
 use Rattle.std.specs.Prelude.{if◌then◌else◌, nat_lt}
 use Rattle.std.specs.declared.option.Option.{Option}
 use Rattle.std.proofs.lemmas.Bool.Decides.{nat_tests}
-use Rattle.board_lines.specs.declared.event.HostEvent.{HostEvent}
+use Rattle.board_terms.specs.declared.event.HostEvent.{HostEvent}
 use Rattle.byte_time.specs.declared.UnderWay.{UnderWay}
 use Rattle.byte_time.specs.declared.meeting.Meeting.{Meeting}
 use Rattle.byte_time.specs.declared.meeting.Meeting.TheVariants.{Got, Inhibited, Idle, Sent, Cut}
@@ -14,7 +14,7 @@ use Rattle.ctl_core.specs.Translation.{translation, translates, arrived, after_w
 use Rattle.ctl_core.specs.declared.translation.Translated.{Translated}
 use Rattle.ctl_link.specs.declared.link.Link.{Link}
 use Rattle.ctl_link.specs.declared.link.Link.TheVariants.{Free, Hold, Ask, Request, Busy}
-use Rattle.ctl_link.specs.declared.port.Port.{Port}
+use Rattle.ctl_link.specs.declared.port.LinkEnd.{LinkEnd}
 use Rattle.ctl_link.specs.Link.{core_after, received}
 use Rattle.host_turn.specs.Run.{Side, side_at_start, says_lights}
 use Rattle.key_file.specs.Histories.{KeyHistory}
@@ -87,7 +87,7 @@ arrives_so byte wrong None s h = right_so byte s
 arrives_so byte wrong (Some bit) s h = wrong_so byte wrong s h
 
 -- by the link before the cycle of the arrival
-link_so : (now byte wrong : ℕ) (l : Link UnderWay) (p : Port UnderWay) → p.core.resends ≡ wrong
+link_so : (now byte wrong : ℕ) (l : Link UnderWay) (p : LinkEnd UnderWay) → p.core.resends ≡ wrong
     → (arrived_in now byte l p).core.resends ≡ wrong_with (fate_of (sent_or_cut byte l) (flip_in l) wrong) wrong
 link_so now byte wrong Free p h = h
 link_so now byte wrong (Hold since) p h = h
@@ -161,39 +161,39 @@ module _ (layout : KeyLayout) (history : KeyHistory) (starts : ℕ → ℕ) wher
       }
 
 -- what is done with a byte that comes right, or wrong
-right_does : (now byte : ℕ) (u : UnderWay) (p : Port UnderWay)
+right_does : (now byte : ℕ) (u : UnderWay) (p : LinkEnd UnderWay)
     → p.link ≡ Busy u → u.flip ≡ None → IsReceived now byte p (happened_at now (Arrives byte) p)
 right_does now byte u p h f =
     let e : happened_at now (Arrives byte) p ≡ received now (Some byte) p =
     ap (λ l. arrived_in now byte l p) h ∙ ap (λ flip. received now (arriving flip byte) p) f in
-    record { core = ap (λ (q : Port UnderWay). q.core) e; link = ap (λ (q : Port UnderWay). q.link) e }
+    record { core = ap (λ (q : LinkEnd UnderWay). q.core) e; link = ap (λ (q : LinkEnd UnderWay). q.link) e }
 
-wrong_received : (now byte bit : ℕ) (u : UnderWay) (p : Port UnderWay)
+wrong_received : (now byte bit : ℕ) (u : UnderWay) (p : LinkEnd UnderWay)
     → p.link ≡ Busy u → u.flip ≡ Some bit → happened_at now (Arrives byte) p ≡ received now None p
 wrong_received now byte bit u p h f = ap (λ l. arrived_in now byte l p) h ∙ ap (λ flip. received now (arriving flip byte) p) f
 
-again_does : (now byte bit : ℕ) (u : UnderWay) (p : Port UnderWay)
+again_does : (now byte bit : ℕ) (u : UnderWay) (p : LinkEnd UnderWay)
     → p.link ≡ Busy u → u.flip ≡ Some bit → asks_again p.core ≡ true → IsAskedAgain now p (happened_at now (Arrives byte) p)
 again_does now byte bit u p h f a =
     let e = wrong_received now byte bit u p h f in
     record {
-      core = ap (λ (q : Port UnderWay). q.core) e
+      core = ap (λ (q : LinkEnd UnderWay). q.core) e
           ∙ ap (λ b. if b then record p.core { resends = p.core.resends + 1 } else gave_up p.core) a;
-      link = ap (λ (q : Port UnderWay). q.link) e ∙ ap (λ b. if b then Ask 0xfe now else Hold now) a;
+      link = ap (λ (q : LinkEnd UnderWay). q.link) e ∙ ap (λ b. if b then Ask 0xfe now else Hold now) a;
     }
 
-given_up_does : (now byte bit : ℕ) (u : UnderWay) (p : Port UnderWay)
+given_up_does : (now byte bit : ℕ) (u : UnderWay) (p : LinkEnd UnderWay)
     → p.link ≡ Busy u → u.flip ≡ Some bit → asks_again p.core ≡ false → IsGivenUp now p (happened_at now (Arrives byte) p)
 given_up_does now byte bit u p h f a =
     let e = wrong_received now byte bit u p h f in
     record {
-      core = ap (λ (q : Port UnderWay). q.core) e
+      core = ap (λ (q : LinkEnd UnderWay). q.core) e
           ∙ ap (λ b. if b then record p.core { resends = p.core.resends + 1 } else gave_up p.core) a;
-      link = ap (λ (q : Port UnderWay). q.link) e ∙ ap (λ b. if b then Ask 0xfe now else Hold now) a;
+      link = ap (λ (q : LinkEnd UnderWay). q.link) e ∙ ap (λ b. if b then Ask 0xfe now else Hold now) a;
     }
 
 -- by the flip, and by the count
-does_by : (now byte wrong : ℕ) (u : UnderWay) (p : Port UnderWay) (flip : Option ℕ)
+does_by : (now byte wrong : ℕ) (u : UnderWay) (p : LinkEnd UnderWay) (flip : Option ℕ)
     → p.link ≡ Busy u → u.flip ≡ flip → p.core.resends ≡ wrong → Does (flipped_fate flip wrong byte) now p
 does_by now byte wrong u p None h f c = right_does now byte u p h f
 does_by now byte wrong u p (Some bit) h f c = by (nat_lt wrong 3) (ap (λ v. nat_lt v 3) c)
@@ -202,7 +202,7 @@ does_by now byte wrong u p (Some bit) h f c = by (nat_lt wrong 3) (ap (λ v. nat
     by true e = again_does now byte bit u p h f e
     by false e = given_up_does now byte bit u p h f e
 
-does_link : (now byte wrong : ℕ) (l : Link UnderWay) (p : Port UnderWay)
+does_link : (now byte wrong : ℕ) (l : Link UnderWay) (p : LinkEnd UnderWay)
     → p.link ≡ l → p.core.resends ≡ wrong → Does (fate_of (sent_or_cut byte l) (flip_in l) wrong) now p
 does_link now byte wrong Free p h c = tt
 does_link now byte wrong (Hold since) p h c = tt

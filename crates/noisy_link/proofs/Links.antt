@@ -1,15 +1,15 @@
--- What the link comes to by itself: a byte that is asked for is requested, and passes; behind it the link is free, and
+-- What the link comes to by itself: a byte that is asked for is requested, and passes; after it the link is free, and
 -- nothing of the host's is taken before a reply.
 use Rattle.std.proofs.Common.{◌≡◌, ◌≤◌, ℕ, zero, suc, ◌+◌, ◌⊎◌, inl, inr, Bool, true, false, List, refl, ap, ◌∙◌, arith}
 use Rattle.std.specs.Prelude.{if◌then◌else◌, nat_le}
 use Rattle.std.specs.declared.option.Option.{Option}
 use Rattle.std.proofs.lemmas.Bool.Decides.{nat_tests}
-use Rattle.board_lines.specs.declared.event.HostEvent.{HostEvent}
+use Rattle.board_terms.specs.declared.event.HostEvent.{HostEvent}
 use Rattle.byte_time.specs.declared.UnderWay.{UnderWay}
 use Rattle.byte_time.specs.ByteTime.{Quiet, Begins, Closes, IsWhole, is_open, closed, byte_cycle, quietly, sends}
 use Rattle.ctl_link.specs.declared.link.Link.{Link}
 use Rattle.ctl_link.specs.declared.link.Link.TheVariants.{Free, Ask, Request, Busy}
-use Rattle.ctl_link.specs.declared.port.Port.{Port}
+use Rattle.ctl_link.specs.declared.port.LinkEnd.{LinkEnd}
 use Rattle.ctl_link.specs.Link.{broken_off, settled}
 use Rattle.host_turn.specs.declared.desk.Desk.{Desk}
 use Rattle.host_turn.specs.Host.{Turn, turn}
@@ -17,22 +17,22 @@ use Rattle.host_turn.specs.Cycle.{cycled, host_of, port_by}
 use Rattle.host_turn.specs.Run.{Side}
 use Rattle.noisy_link.proofs.Cycles.{Stays, cycle_gives, cycle_keeps, span_keeps}
 
--- the controller after its settling, behind a turn of the host
-abbrev after_turn : ℕ → Turn → Port UnderWay → Port UnderWay
+-- the controller after its settling, after a turn of the host
+abbrev after_turn : ℕ → Turn → LinkEnd UnderWay → LinkEnd UnderWay
 after_turn now t p = (settled now (broken_off is_open now (port_by t p))).port
 
 abbrev turn_of : ℕ → Option HostEvent → Desk UnderWay → Turn
 turn_of now next d = turn now d.port.filled next (host_of d)
 
 -- FE is requested
-abbrev pub IsRequest : ℕ → Port UnderWay → Type 0
+abbrev pub IsRequest : ℕ → LinkEnd UnderWay → Type 0
 IsRequest byte p = p.link ≡ Request byte
 
 pub request_stays : (byte : ℕ) → Stays (IsRequest byte)
 request_stays byte now next d h = ap (λ (l : Link UnderWay). (after_turn now (turn_of now next d) (record d.port { link = l })).link) h
 
 -- it was asked for since then, and may be requested already
-abbrev pub IsAsked : ℕ → ℕ → Port UnderWay → Type 0
+abbrev pub IsAsked : ℕ → ℕ → LinkEnd UnderWay → Type 0
 IsAsked byte since p = (p.link ≡ Ask byte since) ⊎ (p.link ≡ Request byte)
 
 asked_by : (byte since now : ℕ) (late : Bool) (l : Link UnderWay)
@@ -66,11 +66,11 @@ requested byte since events (suc n) now m some late h =
     (cycle_gives (IsAsked byte since) (IsRequest byte) events now Quiet m (λ next d a. late_request byte since now next d late a) h)
 
 -- once it has passed a reply is awaited, with a free link
-pub record AwaitsReply (p : Port UnderWay) : Type 0 where
+pub record AwaitsReply (p : LinkEnd UnderWay) : Type 0 where
   pub link : p.link ≡ Free
   pub awaits : p.awaits ≡ true
 
-with_both : (p : Port UnderWay) (l : Link UnderWay) → p.link ≡ l → p.awaits ≡ true → p ≡ record p { link = l; awaits = true }
+with_both : (p : LinkEnd UnderWay) (l : Link UnderWay) → p.link ≡ l → p.awaits ≡ true → p ≡ record p { link = l; awaits = true }
 with_both p l h a = ap (λ v. record p { link = v }) h ∙ ap (λ v. record p { link = l; awaits = v }) a
 
 pub awaits_stays : Stays AwaitsReply
@@ -78,8 +78,8 @@ awaits_stays now next d h =
     let t : Turn = turn_of now next d in
     let e = with_both d.port Free h.link h.awaits in
     record {
-      link = ap (λ (p : Port UnderWay). (after_turn now t p).link) e;
-      awaits = ap (λ (p : Port UnderWay). (after_turn now t p).awaits) e;
+      link = ap (λ (p : LinkEnd UnderWay). (after_turn now t p).link) e;
+      awaits = ap (λ (p : LinkEnd UnderWay). (after_turn now t p).awaits) e;
     }
 
 -- the byte for the keyboard, from the cycle in which it begins to the one in which it is whole
@@ -89,8 +89,8 @@ handed events now m =
     cycle_keeps AwaitsReply awaits_stays events (320 + now) IsWhole (quietly events 319 (suc now) (byte_cycle events now (Begins false) m))
     (record { link = refl; awaits = refl })
 
--- the keyboard's byte behind it can't be broken off
-record IsReply (flip : Option ℕ) (breakable : Bool) (p : Port UnderWay) : Type 0 where
+-- the keyboard's byte after it can't be broken off
+record IsReply (flip : Option ℕ) (breakable : Bool) (p : LinkEnd UnderWay) : Type 0 where
   link : p.link ≡ Busy (record { from_keyboard = true; flip = flip; breakable = breakable })
   awaits : p.awaits ≡ true
 
@@ -99,8 +99,8 @@ reply_stays flip breakable now next d h =
     let t : Turn = turn_of now next d in
     let e = with_both d.port (Busy (record { from_keyboard = true; flip = flip; breakable = breakable })) h.link h.awaits in
     record {
-      link = ap (λ (p : Port UnderWay). (after_turn now t p).link) e ∙ kept breakable;
-      awaits = ap (λ (p : Port UnderWay). (after_turn now t p).awaits) e ∙ still breakable;
+      link = ap (λ (p : LinkEnd UnderWay). (after_turn now t p).link) e ∙ kept breakable;
+      awaits = ap (λ (p : LinkEnd UnderWay). (after_turn now t p).awaits) e ∙ still breakable;
     }
   where
     kept : (breakable : Bool)
@@ -117,7 +117,7 @@ reply_stays flip breakable now next d h =
     still true = refl
     still false = refl
 
-closes_reply : (flip : Option ℕ) (p : Port UnderWay) → IsReply flip true p → IsReply flip false (record p { link = closed p.link })
+closes_reply : (flip : Option ℕ) (p : LinkEnd UnderWay) → IsReply flip true p → IsReply flip false (record p { link = closed p.link })
 closes_reply flip p h = record { link = ap closed h.link; awaits = h.awaits }
 
 -- it is still under way in its last cycle

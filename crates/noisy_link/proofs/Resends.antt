@@ -2,9 +2,9 @@
 use Rattle.std.proofs.Common.{◌≡◌, ℕ, Bool, true, false, not, ◌&&◌, Some, None, refl, ◌∙◌}
 use Rattle.std.specs.Prelude.{if◌then◌else◌, is_some}
 use Rattle.std.specs.declared.option.Option.{Option}
-use Rattle.board_lines.specs.declared.event.HostAct.{HostAct}
-use Rattle.board_lines.specs.declared.event.HostAct.TheVariants.{Write60, Write64, Read60, Mask, Unmask, Take, Status, Flip}
-use Rattle.board_lines.specs.declared.event.HostEvent.{HostEvent}
+use Rattle.board_terms.specs.declared.event.HostAct.{HostAct}
+use Rattle.board_terms.specs.declared.event.HostAct.TheVariants.{Write60, Write64, Read60, Mask, Unmask, Take, Status, Flip}
+use Rattle.board_terms.specs.declared.event.HostEvent.{HostEvent}
 use Rattle.byte_time.specs.declared.UnderWay.{UnderWay}
 use Rattle.byte_time.specs.ByteTime.{is_open}
 use Rattle.ctl_core.specs.Controller.{ControllerState}
@@ -18,7 +18,7 @@ use Rattle.ctl_core.specs.declared.command.Command.{Command}
 use Rattle.ctl_core.specs.declared.command.Command.TheVariants.{ReadCommandByte, WriteCommandByte, SelfTest, InterfaceTest, Disable, Enable}
 use Rattle.ctl_core.specs.declared.command.Command.TheVariants.{ReadInputPort, ReadOutputPort, WriteOutputPort, PulseOutput, Unlisted}
 use Rattle.ctl_link.specs.declared.link.Link.TheVariants.{Hold}
-use Rattle.ctl_link.specs.declared.port.Port.{Port}
+use Rattle.ctl_link.specs.declared.port.LinkEnd.{LinkEnd}
 use Rattle.ctl_link.specs.Link.{held_since, took_where, may_break, broken_off}
 use Rattle.host_turn.specs.Host.{Host, acted, acted_where, event_turn, interrupts, read_by_bios, in_silence, is_done, turn}
 use Rattle.host_turn.specs.Cycle.{host_of, port_by}
@@ -75,31 +75,31 @@ taken_so : (port : Address) (byte : ℕ) (s : ControllerState) → (taken_by por
 taken_so P60 byte s = passed_so s.awaited byte (record s { input = None; awaited = None })
 taken_so P64 byte s = commanded_so (command_of byte) (record s { input = None; awaited = None })
 
-input_so : (now : ℕ) (held : Option ℕ) (input : Option Input) (p : Port UnderWay)
+input_so : (now : ℕ) (held : Option ℕ) (input : Option Input) (p : LinkEnd UnderWay)
     → (took_where now held (taken_from input p.core) p).port.core.resends ≡ p.core.resends
 input_so now None input p = refl
 input_so now (Some since) None p = refl
 input_so now (Some since) (Some input) p = taken_so input.port input.byte p.core
 
-takes_so : (now : ℕ) (held : Option ℕ) (full : Bool) (p : Port UnderWay)
+takes_so : (now : ℕ) (held : Option ℕ) (full : Bool) (p : LinkEnd UnderWay)
     → (took_where now held (if full then None else taken p.core) p).port.core.resends ≡ p.core.resends
 takes_so now None true p = refl
 takes_so now (Some since) true p = refl
 takes_so now held false p = input_so now held p.core.input p
 
-broken_so : (breaks : Bool) (now : ℕ) (p : Port UnderWay)
+broken_so : (breaks : Bool) (now : ℕ) (p : LinkEnd UnderWay)
     → (if breaks then record p { link = Hold now } else p).core.resends ≡ p.core.resends
 broken_so true now p = refl
 broken_so false now p = refl
 
 -- a cycle
-abbrev pub Counts : ℕ → Port UnderWay → Type 0
+abbrev pub Counts : ℕ → LinkEnd UnderWay → Type 0
 Counts resends p = p.core.resends ≡ resends
 
 pub counts_stay : (resends : ℕ) → Stays (Counts resends)
 counts_stay resends now next d h =
-    let p : Port UnderWay = port_by (turn now d.port.filled next (host_of d)) d.port in
-    let q : Port UnderWay = broken_off is_open now p in
+    let p : LinkEnd UnderWay = port_by (turn now d.port.filled next (host_of d)) d.port in
+    let q : LinkEnd UnderWay = broken_off is_open now p in
     takes_so now (held_since now q.awaits q.link) q.core.output_full q
     ∙ broken_so (may_break is_open p.link && not p.awaits && is_some p.core.input) now p
     ∙ turn_so now d.port.filled next (host_of d) ∙ h

@@ -3,13 +3,13 @@
 use Rattle.std.specs.Prelude.{◌≡◌, ◌≤◌, ◌<◌, ℕ, ◌+◌, ◌-◌, ◌==◌, ◌⊎◌, ◌++◌, true, if◌then◌else◌}
 use Rattle.std.specs.List.Sorted.{IsPermutation}
 use Rattle.std.proofs.Common.{zero, suc}
-use Rattle.board_lines.specs.Cadence.{KeepsCadenceTo}
+use Rattle.board_terms.specs.Cadence.{KeepsCadenceTo}
 use Rattle.byte_time.specs.declared.UnderWay.{UnderWay}
 use Rattle.byte_time.specs.declared.meeting.Meeting.TheVariants.{Got, Idle, Sent}
 use Rattle.byte_time.specs.ByteTime.{Arrives, happened_at}
 use Rattle.ctl_core.specs.Translation.{after_received}
 use Rattle.ctl_link.specs.declared.link.Link.TheVariants.{Hold, Ask}
-use Rattle.ctl_link.specs.declared.port.Port.{Port}
+use Rattle.ctl_link.specs.declared.port.LinkEnd.{LinkEnd}
 use Rattle.kbd_model.specs.Keyboard.{Keyboard}
 use Rattle.kbd_model.specs.Once.{is_reset_due}
 use Rattle.key_file.specs.Histories.{KeyHistory}
@@ -19,24 +19,24 @@ use Rattle.noisy_link.specs.Fates.{Fate, NoByte, Right, Again, GivenUp, arrival_
 use Rattle.noisy_link.specs.Fates.{all_right, all_given_up, all_asked_again}
 
 -- a byte that came right is received, and put out or taken for the mark of a break; the link is held
-pub record IsReceived (now byte : ℕ) (before after : Port UnderWay) : Type 0 where
+pub record IsReceived (now byte : ℕ) (before after : LinkEnd UnderWay) : Type 0 where
   pub core : after.core ≡ after_received before.core byte true
   pub link : after.link ≡ Hold now
 
 -- a byte that is asked for again: it is counted, nothing else of the controller changes, and FE is to be sent
-pub record IsAskedAgain (now : ℕ) (before after : Port UnderWay) : Type 0 where
+pub record IsAskedAgain (now : ℕ) (before after : LinkEnd UnderWay) : Type 0 where
   pub core : after.core ≡ record before.core { resends = before.core.resends + 1 }
   pub link : after.link ≡ Ask 0xfe now
 
 -- a byte that is given up: FF is put out with the parity bit set, the count begins anew, nothing else changes; the link
 -- is held, and nothing is asked for
-pub record IsGivenUp (now : ℕ) (before after : Port UnderWay) : Type 0 where
+pub record IsGivenUp (now : ℕ) (before after : LinkEnd UnderWay) : Type 0 where
   pub core : after.core
       ≡ record before.core { output_full = true; output = 0xff; parity = true; resends = 0 }
   pub link : after.link ≡ Hold now
 
 -- what the arrival of a byte does to the controller, by its fate
-abbrev pub Does : Fate → ℕ → Port UnderWay → Type 0
+abbrev pub Does : Fate → ℕ → LinkEnd UnderWay → Type 0
 Does NoByte now p = Unit {0}
 Does (Right byte) now p = IsReceived now byte p (happened_at now (Arrives byte) p)
 Does (Again byte) now p = IsAskedAgain now p (happened_at now (Arrives byte) p)

@@ -53,7 +53,7 @@ pub fn key_named(name: &str) -> Option<Key>
     key_spelled(name.as_bytes())
 }
 
-/// The key whose name has these bytes; None exactly if no key's has, as where they are no text.
+/// The key whose name has these bytes; None exactly if no key's has, so too if they are no text.
 pub fn key_spelled(name: &[u8]) -> Option<Key>
     ensures key { result ≡ key_with_name name.now }
 {

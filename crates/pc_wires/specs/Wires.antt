@@ -1,7 +1,7 @@
 -- A cycle of the PC's side, by what the keyboard drives in it.
 use Rattle.std.specs.Prelude.{ℕ, Bool, true, ◌&&◌, List}
-use Rattle.board_lines.specs.declared.event.HostEvent.{HostEvent}
-use Rattle.board_lines.specs.declared.lines.Lines.{Lines}
+use Rattle.board_terms.specs.declared.event.HostEvent.{HostEvent}
+use Rattle.board_terms.specs.declared.lines.Lines.{Lines}
 use Rattle.ctl_wire.specs.declared.wire.Wire.{Wire}
 use Rattle.ctl_wire.specs.Cycles.{port_looked}
 use Rattle.ctl_wire.specs.Wire.{drive, is_breakable}
@@ -25,7 +25,7 @@ joined a b = record { clk = a.clk && b.clk; dat = a.dat && b.dat }
 abbrev pub wires : Lines → Pc → Lines
 wires latch b = joined latch (drive b.side.port.link)
 
--- the controller looks at the wires: the clock falls where it was high at the last look and is low now
+-- the controller looks at the wires: the clock falls if it was high at the last look and is low now
 abbrev pub looked : ℕ → Lines → Pc → Pc
 looked now line b = record {
   side = record b.side { port = port_looked now b.clock line b.side.port };

@@ -8,7 +8,7 @@ use Rattle.ctl_core.specs.Translation.{translation, arrived}
 use Rattle.ctl_core.specs.declared.translation.Translated.{Translated}
 use Rattle.ctl_link.specs.declared.link.Link.TheVariants.{Free, Hold, Busy}
 use Rattle.ctl_link.specs.Link.{filled_by}
-use Rattle.board_lines.specs.declared.event.HostEvent.{HostEvent}
+use Rattle.board_terms.specs.declared.event.HostEvent.{HostEvent}
 use Rattle.host_turn.specs.declared.stamped.Stamped.{Stamped}
 use Rattle.host_turn.specs.Run.{Side, stamped}
 use Rattle.byte_time.specs.declared.UnderWay.{UnderWay}

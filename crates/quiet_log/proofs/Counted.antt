@@ -14,10 +14,10 @@ use Rattle.quiet_log.specs.Once.{meeting_at, came, all_arrived, all_taken_away, 
 use Rattle.quiet_log.proofs.EachOnce.{same_order, moved_first, each_byte_once}
 use Rattle.quiet_log.proofs.Silent.{silent_in_test}
 
--- what stands behind a list is what is left when that is dropped
-behind_dropped : (xs more : List ℕ) → drop (length xs) (xs ++ more) ≡ more
-behind_dropped [] more = refl
-behind_dropped (x ∷ xs) more = behind_dropped xs more
+-- what is after a list is what is left when that is dropped
+after_dropped : (xs more : List ℕ) → drop (length xs) (xs ++ more) ≡ more
+after_dropped [] more = refl
+after_dropped (x ∷ xs) more = after_dropped xs more
 
 -- what waits after a tick: the rest, and what came
 waits_then : (meeting : Meeting) (before after : Keyboard) → Passes meeting before after
@@ -27,13 +27,13 @@ waits_then meeting before after p =
     let rest : List ℕ = left meeting before in
     let more : List ℕ = p.rest.more in
     let d : drop (length (first ++ rest)) (waiting after) ≡ more =
-    ap (λ v. drop (length (first ++ rest)) v) p.rest.is ∙ behind_dropped (first ++ rest) more in
+    ap (λ v. drop (length (first ++ rest)) v) p.rest.is ∙ after_dropped (first ++ rest) more in
     subst (λ v. IsPermutation (rest ++ (first ++ v)) (waiting after)) (sym d)
     (IsPermutation-trans (rest ++ (first ++ more)) (first ++ (rest ++ more)) (waiting after)
     (moved_first rest first more)
     (same_order (first ++ (rest ++ more)) (waiting after) (sym (append_assoc first rest more) ∙ sym p.rest.is)))
 
--- a tick more: what arrived in it, what it took away, and what waits behind it
+-- a tick more: what arrived in it, what it took away, and what waits after it
 one_more : (before all gone now a d rest new next : List ℕ) → IsPermutation before (all ++ (gone ++ now))
     → IsPermutation now (a ++ (d ++ rest)) → IsPermutation (rest ++ new) next
     → IsPermutation (before ++ new) ((all ++ a) ++ ((gone ++ d) ++ next))

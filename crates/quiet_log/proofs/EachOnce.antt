@@ -6,7 +6,7 @@ use Rattle.std.specs.declared.option.Option.{Option}
 use Rattle.std.specs.List.Sorted.{IsPermutation}
 use Rattle.std.proofs.lemmas.List.Sorted.{IsPermutation-refl, IsPermutation-append_comm}
 use Rattle.std.proofs.lemmas.List.Sorted.{IsPermutation-append_left, IsPermutation-append_right, IsPermutation-trans}
-use Rattle.board_lines.specs.declared.event.HostEvent.{HostEvent}
+use Rattle.board_terms.specs.declared.event.HostEvent.{HostEvent}
 use Rattle.byte_time.specs.declared.meeting.Meeting.{Meeting}
 use Rattle.byte_time.specs.declared.meeting.Meeting.TheVariants.{Got, Inhibited, Idle, Sent, Cut}
 use Rattle.layout_reader.specs.Layouts.{KeyLayout, is_fn_place}
@@ -18,7 +18,7 @@ use Rattle.kbd_model.specs.Codes.{Keys, keys_of}
 use Rattle.kbd_model.specs.Queue.{KeyQueue, clear, kept}
 use Rattle.kbd_model.specs.Keyboard.{Keyboard, offer}
 use Rattle.kbd_model.specs.Tick.{met, tested_if, scanned, ticked}
-use Rattle.kbd_model.specs.Once.{byte_if, clears_queue, is_reset_due, queued, reply_bytes, waiting, IsBehind, GotKeeps, OnlyAdds}
+use Rattle.kbd_model.specs.Once.{byte_if, clears_queue, is_reset_due, queued, reply_bytes, waiting, Extends, GotKeeps, OnlyAdds}
 use Rattle.kbd_model.proofs.Once.{offers_first, sent_leaves, reset_leaves, got_leaves}
 use Rattle.kbd_model.proofs.Adds.{rest_adds, stays_in_line, Adds, scans_add}
 use Rattle.link_model.specs.Machine.{LayeredKeyboard, keyboard, met_as}
@@ -30,7 +30,7 @@ use Rattle.quiet_log.proofs.Once.{arrives_as_offered, tested_or_idle}
 pub same_order : (xs ys : List ℕ) → xs ≡ ys → IsPermutation xs ys
 same_order xs ys e = subst (λ v. IsPermutation xs v) e (IsPermutation-refl xs)
 
--- what stands behind others may stand before them
+-- what is after others may be before them
 pub moved_first : (xs ys zs : List ℕ) → IsPermutation (xs ++ (ys ++ zs)) (ys ++ (xs ++ zs))
 moved_first xs ys zs =
     IsPermutation-trans (xs ++ (ys ++ zs)) ((xs ++ ys) ++ zs) (ys ++ (xs ++ zs))
@@ -59,13 +59,13 @@ first_known : (xs : List ℕ) (byte : ℕ) → slice_get xs 0 ≡ Some byte → 
 first_known [] byte e = absurd cc
 first_known (x ∷ xs) byte e = let z : x ≡ byte = cc in ap (λ v. v ∷ xs) z
 
--- AA that became due stands before the queue
-aa_behind : (before after : Bool) (q q' : List ℕ) → (before ≡ true → after ≡ true) → IsBehind q q'
-    → IsBehind (byte_if (after && not before) 0xaa ++ (byte_if before 0xaa ++ q)) (byte_if after 0xaa ++ q')
-aa_behind true true q q' h b = record { more = b.more; is = ap (λ v. 0xaa ∷ v) b.is }
-aa_behind true false q q' h b = let e : false ≡ true = h refl in absurd cc
-aa_behind false true q q' h b = record { more = b.more; is = ap (λ v. 0xaa ∷ v) b.is }
-aa_behind false false q q' h b = b
+-- AA that became due is before the queue
+aa_after : (before after : Bool) (q q' : List ℕ) → (before ≡ true → after ≡ true) → Extends q q'
+    → Extends (byte_if (after && not before) 0xaa ++ (byte_if before 0xaa ++ q)) (byte_if after 0xaa ++ q')
+aa_after true true q q' h b = record { more = b.more; is = ap (λ v. 0xaa ∷ v) b.is }
+aa_after true false q q' h b = let e : false ≡ true = h refl in absurd cc
+aa_after false true q q' h b = record { more = b.more; is = ap (λ v. 0xaa ∷ v) b.is }
+aa_after false false q q' h b = b
 
 none_new : (b : Bool) → (b && not b) ≡ false
 none_new true = refl
@@ -74,9 +74,9 @@ none_new false = refl
 module _ (keys : Keys) (edges : List TickEdge) (k : Keyboard) where
   -- nothing passes, and the test has ended: all that waited waits on
   waits_on : (meeting : Meeting) → met (met_as meeting) keys k ≡ k → k.test ≡ 0
-      → IsBehind (waiting k) (waiting (ticked keys (met_as meeting) edges k))
+      → Extends (waiting k) (waiting (ticked keys (met_as meeting) edges k))
   waits_on meeting e t =
-      subst (λ v. IsBehind (waiting v) (waiting (ticked keys (met_as meeting) edges k))) e
+      subst (λ v. Extends (waiting v) (waiting (ticked keys (met_as meeting) edges k))) e
       (stays_in_line keys (met_as meeting) edges k t)
 
   -- a byte from the system
@@ -90,7 +90,7 @@ module _ (keys : Keys) (edges : List TickEdge) (k : Keyboard) where
       let gone : List ℕ = if c then cleared_away k.queue else [] in
       let stays : List ℕ = queued (if c then clear k.queue else k.queue) in
       let g : GotKeeps keys byte true k = got_leaves keys byte true k in
-      let h : IsBehind (waiting m) (waiting after) = stays_in_line keys (kbd.Got byte true) edges k t in
+      let h : Extends (waiting m) (waiting after) = stays_in_line keys (kbd.Got byte true) edges k t in
       let w : waiting m ≡ reply_bytes after.reply ++ (aa ++ stays) =
       ap (λ v. reply_bytes v ++ (byte_if m.aa_due 0xaa ++ queued m.queue))
       (sym (rest_adds keys (kbd.Got byte true) edges k).reply)
@@ -123,7 +123,7 @@ module _ (keys : Keys) (edges : List TickEdge) (k : Keyboard) where
     -- with no reset due
     sends : is_reset_due k.reply ≡ false → Passes (Sent byte) k after
     sends n =
-        let h : IsBehind (waiting (met kbd.Sent keys k)) (waiting after) = stays_in_line keys kbd.Sent edges k t in
+        let h : Extends (waiting (met kbd.Sent keys k)) (waiting after) = stays_in_line keys kbd.Sent edges k t in
         let l : others ≡ waiting (met kbd.Sent keys k) = ap (λ v. drop 1 v) (sent_leaves keys k byte o n) in
         let gone : Bool → List ℕ = λ c. if c then byte_if k.aa_due 0xaa ++ cleared_away k.queue else [] in
         let stays : Bool → List ℕ = λ c. if c then queued (clear k.queue) else others in
@@ -131,7 +131,7 @@ module _ (keys : Keys) (edges : List TickEdge) (k : Keyboard) where
           first = record { more = others; is = known };
           each = subst (λ c. IsPermutation (waiting k) (byte ∷ (gone c ++ stays c))) (sym n)
               (same_order (waiting k) (byte ∷ others) known);
-          rest = subst (λ c. IsBehind (stays c) (waiting after)) (sym n)
+          rest = subst (λ c. Extends (stays c) (waiting after)) (sym n)
               (record { more = h.more; is = h.is ∙ ap (λ v. v ++ h.more) (sym l) });
         }
 
@@ -144,7 +144,7 @@ module _ (keys : Keys) (edges : List TickEdge) (k : Keyboard) where
     -- with one
     resets : is_reset_due k.reply ≡ true → Passes (Sent byte) k after
     resets n =
-        let h : IsBehind (waiting (met kbd.Sent keys k)) (waiting after) = stays_in_line keys kbd.Sent edges k t in
+        let h : Extends (waiting (met kbd.Sent keys k)) (waiting after) = stays_in_line keys kbd.Sent edges k t in
         let aa : List ℕ = byte_if k.aa_due 0xaa in
         let cleared : List ℕ = queued (clear k.queue) in
         let gone : Bool → List ℕ = λ c. if c then aa ++ cleared_away k.queue else [] in
@@ -163,7 +163,7 @@ module _ (keys : Keys) (edges : List TickEdge) (k : Keyboard) where
         record {
           first = record { more = others; is = known };
           each = subst (λ c. IsPermutation (waiting k) (byte ∷ (gone c ++ stays c))) (sym n) all;
-          rest = subst (λ c. IsBehind (stays c) (waiting after)) (sym n)
+          rest = subst (λ c. Extends (stays c) (waiting after)) (sym n)
               (record { more = h.more; is = h.is ∙ ap (λ v. v ++ h.more) (reset_leaves keys k n) });
         }
 
@@ -186,11 +186,11 @@ module _ (keys : Keys) (edges : List TickEdge) (k : Keyboard) where
             let s : Adds k (scanned keys false edges k) = scans_add keys false edges k in
             let a : then'.aa_due ≡ k.aa_due = ap (λ v. (scanned keys false edges v).aa_due) z ∙ s.aa_due in
             let n : (then'.aa_due && not k.aa_due) ≡ false = ap (λ v. v && not k.aa_due) a ∙ none_new k.aa_due in
-            subst (λ v. IsBehind (byte_if v 0xaa ++ waiting k) (waiting then')) (sym n)
+            subst (λ v. Extends (byte_if v 0xaa ++ waiting k) (waiting then')) (sym n)
             (stays_in_line keys kbd.Idle edges k t)
         | inr r ↦
             let h : OnlyAdds k then' = rest_adds keys kbd.Idle edges k in
-            let b = aa_behind k.aa_due then'.aa_due (queued k.queue) (queued then'.queue) h.aa_due h.queue in
+            let b = aa_after k.aa_due then'.aa_due (queued k.queue) (queued then'.queue) h.aa_due h.queue in
             let front : List ℕ = byte_if (then'.aa_due && not k.aa_due) 0xaa in
             record {
               more = b.more;

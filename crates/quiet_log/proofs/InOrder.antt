@@ -1,7 +1,7 @@
 -- Over ticks without a command or a reset, all that waited arrives in its order, or waits still.
 use Rattle.std.proofs.Common.{◌≡◌, ℕ, suc, zero, ◌+◌, ◌-◌, ◌≤◌, ◌<◌, List, [], ◌++◌, Bool, Some}
 use Rattle.std.proofs.Common.{refl, ap, sym, ◌∙◌, subst, arith, append_assoc, append-nil}
-use Rattle.board_lines.specs.declared.event.HostEvent.{HostEvent}
+use Rattle.board_terms.specs.declared.event.HostEvent.{HostEvent}
 use Rattle.byte_time.specs.declared.meeting.Meeting.{Meeting}
 use Rattle.byte_time.specs.declared.meeting.Meeting.TheVariants.{Got, Inhibited, Idle, Sent, Cut}
 use Rattle.key_file.specs.Histories.{KeyHistory}
@@ -11,7 +11,7 @@ use Rattle.kbd_model.specs.Layers.{layered}
 use Rattle.kbd_model.specs.Codes.{Keys, keys_of}
 use Rattle.kbd_model.specs.Keyboard.{Keyboard, offer}
 use Rattle.kbd_model.specs.Tick.{met, ticked}
-use Rattle.kbd_model.specs.Once.{waiting, IsBehind}
+use Rattle.kbd_model.specs.Once.{waiting, Extends}
 use Rattle.kbd_model.proofs.Once.{sent_leaves}
 use Rattle.kbd_model.proofs.Adds.{stays_in_line}
 use Rattle.link_model.specs.Machine.{LayeredKeyboard, keyboard, met_as}
@@ -20,12 +20,12 @@ use Rattle.link_model.specs.TickEdges.{tick_edges}
 use Rattle.quiet_log.specs.Once.{arrived, IsPlain, at_tick, meeting_at, all_arrived, IsPlainTick}
 use Rattle.quiet_log.proofs.Once.{arrives_as_offered}
 
--- the byte that arrives is the first that waited, and leaves; the others wait on, in their order; what is new stands
+-- the byte that arrives is the first that waited, and leaves; the others wait on, in their order; what is new is
 -- behind them. Where nothing arrives nothing leaves
 record Leaves (arrived before after : List ℕ) : Type 0 where
   others : List ℕ
   leaves : before ≡ arrived ++ others
-  behind : IsBehind others after
+  afterwards : Extends others after
 
 -- in a plain tick of the keyboard what arrives leaves
 passes_by : (keys : Keys) (edges : List TickEdge) (k : Keyboard) (meeting : Meeting) → k.test ≡ 0
@@ -33,17 +33,17 @@ passes_by : (keys : Keys) (edges : List TickEdge) (k : Keyboard) (meeting : Meet
     → Leaves (arrived meeting) (waiting k) (waiting (ticked keys (met_as meeting) edges k))
 passes_by keys edges k (Got byte) e o p = absurd p
 passes_by keys edges k Inhibited e o p =
-    record { others = waiting k; leaves = refl; behind = stays_in_line keys (met_as Inhibited) edges k e }
+    record { others = waiting k; leaves = refl; afterwards = stays_in_line keys (met_as Inhibited) edges k e }
 passes_by keys edges k Idle e o p =
-    record { others = waiting k; leaves = refl; behind = stays_in_line keys (met_as Idle) edges k e }
+    record { others = waiting k; leaves = refl; afterwards = stays_in_line keys (met_as Idle) edges k e }
 passes_by keys edges k (Sent byte) e o p =
     record {
       others = waiting (met (met_as (Sent byte)) keys k);
       leaves = sent_leaves keys k byte (o byte refl) p;
-      behind = stays_in_line keys (met_as (Sent byte)) edges k e;
+      afterwards = stays_in_line keys (met_as (Sent byte)) edges k e;
     }
 passes_by keys edges k Cut e o p =
-    record { others = waiting k; leaves = refl; behind = stays_in_line keys (met_as Cut) edges k e }
+    record { others = waiting k; leaves = refl; afterwards = stays_in_line keys (met_as Cut) edges k e }
 
 -- so it is in the model of a layout
 plain_tick : (layout : KeyLayout) (events : List HostEvent) (edges : List (ℕ × Bool)) (start rest : ℕ)
@@ -56,13 +56,13 @@ plain_tick layout events edges start rest w e p =
     (λ byte h. (arrives_as_offered layout events start byte w h).1) p
 
 -- from tick to tick
-one_more : (before now next all : List ℕ) (a : List ℕ) → IsBehind before (all ++ now) → Leaves a now next
-    → IsBehind before ((all ++ a) ++ next)
+one_more : (before now next all : List ℕ) (a : List ℕ) → Extends before (all ++ now) → Leaves a now next
+    → Extends before ((all ++ a) ++ next)
 one_more before now next all a h p =
-    let more : List ℕ = p.behind.more in
+    let more : List ℕ = p.afterwards.more in
     record {
       more = h.more ++ more;
-      is = append_assoc all a next ∙ ap (λ v. all ++ (a ++ v)) p.behind.is
+      is = append_assoc all a next ∙ ap (λ v. all ++ (a ++ v)) p.afterwards.is
           ∙ ap (λ v. all ++ v) (sym (append_assoc a p.others more) ∙ ap (λ v. v ++ more) (sym p.leaves))
           ∙ sym (append_assoc all now more) ∙ ap (λ v. v ++ more) h.is ∙ append_assoc before h.more more;
     }
@@ -70,7 +70,7 @@ one_more before now next all a h p =
 -- and over ticks in a row
 pub all_in_order : (layout : KeyLayout) (history : KeyHistory) (starts : ℕ → ℕ) (n count : ℕ)
     → ((j : ℕ) → n ≤ j → j < count + n → IsPlainTick layout history starts j)
-    → IsBehind (waiting (at_tick layout history starts n).keys.keyboard)
+    → Extends (waiting (at_tick layout history starts n).keys.keyboard)
     (all_arrived layout history starts n count ++ waiting (at_tick layout history starts (count + n)).keys.keyboard)
 all_in_order layout history starts n zero h =
     let z : n ≡ zero + n = omega arith in
@@ -89,9 +89,9 @@ all_in_order layout history starts n (suc count) h =
     let p : Leaves a (waiting w.keys.keyboard) (waiting (at_tick layout history starts (suc m)).keys.keyboard) =
     plain_tick layout history.host (tick_edges starts history.edges m) (4096 + starts m)
     (starts (suc m) - starts m - 609) w t.tested t.plain in
-    let before : IsBehind (waiting (at_tick layout history starts n).keys.keyboard) (all ++ waiting w.keys.keyboard) =
+    let before : Extends (waiting (at_tick layout history starts n).keys.keyboard) (all ++ waiting w.keys.keyboard) =
     all_in_order layout history starts n count (λ j l u. h j l (omega (arith, u))) in
-    subst (λ v. IsBehind (waiting (at_tick layout history starts n).keys.keyboard)
+    subst (λ v. Extends (waiting (at_tick layout history starts n).keys.keyboard)
     ((all ++ a) ++ waiting (at_tick layout history starts v).keys.keyboard))
     z (one_more (waiting (at_tick layout history starts n).keys.keyboard) (waiting w.keys.keyboard)
     (waiting (at_tick layout history starts (suc m)).keys.keyboard) all a before p)

@@ -5,15 +5,15 @@ use Rattle.std.specs.Prelude.{if◌then◌else◌}
 use Rattle.std.specs.declared.option.Option.{Option}
 use Rattle.std.specs.Option.{option_map_or}
 use Rattle.std.proofs.lemmas.List.{length-append, length-map}
-use Rattle.board_lines.specs.declared.event.Edge.{Edge}
-use Rattle.board_lines.specs.declared.event.HostEvent.{HostEvent}
-use Rattle.board_lines.specs.Cadence.{IsLast, KeepsCadenceTo, listed, tick_of}
+use Rattle.board_terms.specs.declared.event.Edge.{Edge}
+use Rattle.board_terms.specs.declared.event.HostEvent.{HostEvent}
+use Rattle.board_terms.specs.Cadence.{IsLast, KeepsCadenceTo, listed, tick_of}
 use Rattle.ctl_core.specs.Controller.{ControllerState, asks_again, gave_up, put_out}
 use Rattle.ctl_core.specs.declared.translation.Translated.{Translated}
 use Rattle.ctl_core.specs.Translation.{translation, translates}
 use Rattle.ctl_link.specs.declared.link.Link.{Link}
 use Rattle.ctl_link.specs.declared.link.Link.TheVariants.{Free, Hold, Ask, Request, Busy}
-use Rattle.ctl_link.specs.declared.port.Port.{Port}
+use Rattle.ctl_link.specs.declared.port.LinkEnd.{LinkEnd}
 use Rattle.ctl_link.specs.Link.{core_after}
 use Rattle.pc_tables.specs.declared.item.Item.TheVariants.{Lights}
 use Rattle.host_turn.specs.declared.stamped.Stamped.{Stamped}
@@ -50,7 +50,7 @@ received_most o s =
     let m = output_most (core_after o s).output_full in
     omega (arith, i, m)
 
-arrives_most : (now byte : ℕ) (l : Link UnderWay) (p : Port UnderWay) → weight (arrived_in now byte l p).core ≤ 3 + weight p.core
+arrives_most : (now byte : ℕ) (l : Link UnderWay) (p : LinkEnd UnderWay) → weight (arrived_in now byte l p).core ≤ 3 + weight p.core
 arrives_most now byte Free p = omega arith
 arrives_most now byte (Hold since) p = omega arith
 arrives_most now byte (Ask asked since) p = omega arith
@@ -65,7 +65,7 @@ brought Closes = 0
 brought (Arrives byte) = 3
 brought IsWhole = 0
 
-happens_most : (now : ℕ) (e : Event) (p : Port UnderWay) → weight (happened_at now e p).core ≤ brought e + weight p.core
+happens_most : (now : ℕ) (e : Event) (p : LinkEnd UnderWay) → weight (happened_at now e p).core ≤ brought e + weight p.core
 happens_most now Quiet p = omega arith
 happens_most now (Begins true) p = omega arith
 happens_most now (Begins false) p = omega arith

@@ -3,7 +3,7 @@ use Rattle.std.proofs.Common.{◌≡◌, ℕ, ◌+◌, List, Bool, true, false, 
 use Rattle.std.specs.Prelude.{if◌then◌else◌}
 use Rattle.std.specs.declared.option.Option.{Option}
 use Rattle.std.proofs.lemmas.Bool.{eqb-true}
-use Rattle.board_lines.specs.declared.event.HostEvent.{HostEvent}
+use Rattle.board_terms.specs.declared.event.HostEvent.{HostEvent}
 use Rattle.byte_time.specs.declared.UnderWay.{UnderWay}
 use Rattle.host_turn.specs.Run.{Side}
 use Rattle.byte_time.specs.ByteTime.{Event, Quiet, Begins, Closes, Arrives, IsWhole, arrived_in, meeting_by, sends, sent_or_cut, ended_as}
@@ -12,7 +12,7 @@ use Rattle.byte_time.specs.declared.meeting.Meeting.TheVariants.{Got, Inhibited,
 use Rattle.ctl_link.specs.Link.{is_busy}
 use Rattle.ctl_link.specs.declared.link.Link.{Link}
 use Rattle.ctl_link.specs.declared.link.Link.TheVariants.{Free, Hold, Ask, Request, Busy}
-use Rattle.ctl_link.specs.declared.port.Port.{Port}
+use Rattle.ctl_link.specs.declared.port.LinkEnd.{LinkEnd}
 use Rattle.layout_reader.specs.Layouts.{KeyLayout, is_fn_place}
 use Rattle.kbd_model.specs.declared.edge.TickEdge.{TickEdge}
 use Rattle.kbd_model.specs.Layers.{layered}
@@ -83,7 +83,7 @@ only_arrival (Sent b) offset byte h =
 only_arrival Cut offset byte h = no_arrival Quiet byte _ refl h
 
 -- a link without a byte under way
-nothing_arrives : (now byte : ℕ) (l : Link UnderWay) (p : Port UnderWay) → is_busy l ≡ false
+nothing_arrives : (now byte : ℕ) (l : Link UnderWay) (p : LinkEnd UnderWay) → is_busy l ≡ false
     → (arrived_in now byte l p ≡ p) × (sent_or_cut byte l ≡ Cut)
 nothing_arrives now byte Free p h = (refl, refl)
 nothing_arrives now byte (Hold since) p h = (refl, refl)

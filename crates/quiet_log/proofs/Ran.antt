@@ -1,6 +1,6 @@
 -- The model's run of a quiet history is at rest at each tick start, and its log has no start in it.
 use Rattle.std.proofs.Common.{◌≡◌, ℕ, suc, zero, ◌+◌, ◌-◌, ◌*◌, ◌≤◌, ◌<◌, inl, inr, List, [], ◌++◌, length, Bool, refl, ap, sym, ◌∙◌, arith}
-use Rattle.board_lines.specs.Cadence.{KeepsCadenceTo, IsLast, listed}
+use Rattle.board_terms.specs.Cadence.{KeepsCadenceTo, IsLast, listed}
 use Rattle.host_turn.specs.declared.stamped.Stamped.{Stamped}
 use Rattle.key_file.specs.Histories.{KeyHistory}
 use Rattle.link_model.specs.Machine.{KeyboardMachine, keyboard}

@@ -5,9 +5,9 @@ use Rattle.std.specs.Prelude.{if◌then◌else◌, nat_le, All}
 use Rattle.std.specs.List.{filter}
 use Rattle.std.proofs.lemmas.Bool.Decides.{nat_tests}
 use Rattle.std.proofs.lemmas.List.Elements.{All-head, All-tail, All-filter}
-use Rattle.board_lines.specs.declared.event.Edge.{Edge}
-use Rattle.board_lines.specs.Cadence.{KeepsCadenceTo}
-use Rattle.board_lines.specs.Edges.{of_place}
+use Rattle.board_terms.specs.declared.event.Edge.{Edge}
+use Rattle.board_terms.specs.Cadence.{KeepsCadenceTo}
+use Rattle.board_terms.specs.Edges.{of_place}
 use Rattle.link_model.specs.TickEdges.{read_at, none_before, is_least, is_seen, change_of, tick_edges}
 use Rattle.link_model.proofs.Edges.{AreAt, are_at, same_by_place}
 use Rattle.quiet_log.specs.Quiet.{IsLate, even}

@@ -2,7 +2,7 @@
 use Rattle.std.proofs.Common.{◌≡◌, ℕ, suc, ◌+◌, ◌-◌, ◌*◌, ◌≤◌, ◌<◌, List, ◌++◌, Bool, false, refl, ap, sym, ◌∙◌, arith}
 use Rattle.std.proofs.lemmas.List.{append_assoc, map-append}
 use Rattle.ctl_link.specs.declared.link.Link.TheVariants.{Free}
-use Rattle.board_lines.specs.Cadence.{KeepsCadenceTo, tick_of}
+use Rattle.board_terms.specs.Cadence.{KeepsCadenceTo, tick_of}
 use Rattle.pc_tables.specs.declared.item.Item.{Item}
 use Rattle.host_turn.specs.declared.stamped.Stamped.{Stamped}
 use Rattle.host_turn.specs.Run.{Side, stamped, lights_said, says_lights}
@@ -45,7 +45,7 @@ module _ {S : Type 0} (kb : KeyboardMachine S) (h : KeyHistory) (quiet : IsQuiet
       shown = kb.lights c.keys;
     }
 
-  -- behind the byte: nothing, the events of the second half, and nothing up to the next start
+  -- after the byte: nothing, the events of the second half, and nothing up to the next start
   ends : (n : ℕ) (q : Pc) (filled : ℕ) (log : List Stamped) → n < last → IsAhead h.host (4096 + 2048 * n) q
       → quietly h.host (starts (suc n) - starts n - 673) (673 + (4096 + starts n)) (side Free false q filled log)
       ≡ side Free false (pc_after h.host 1024 (5120 + 2048 * n) q) filled
@@ -59,8 +59,8 @@ module _ {S : Type 0} (kb : KeyboardMachine S) (h : KeyHistory) (quiet : IsQuiet
       let half : ℕ = 5120 + 2048 * n in
       let next : ℕ = 4096 + 2048 * suc n in
       let before : ℕ = 351 + 2048 * n - starts n in
-      let behind : ℕ = starts (suc n) - 2048 * suc n in
-      let all : before + (1024 + behind) ≡ starts (suc n) - starts n - 673 = omega (arith, lo, hi, lo', hi') in
+      let afterwards : ℕ = starts (suc n) - 2048 * suc n in
+      let all : before + (1024 + afterwards) ≡ starts (suc n) - starts n - 673 = omega (arith, lo, hi, lo', hi') in
       let to_half : before + from ≡ half = omega (arith, lo, hi) in
       let to_next : 1024 + half ≡ next = omega arith in
       let s : Side UnderWay = side Free false q filled log in
@@ -68,15 +68,15 @@ module _ {S : Type 0} (kb : KeyboardMachine S) (h : KeyHistory) (quiet : IsQuiet
       let log' : List Stamped = log ++ said_in h.host 1024 half q in
       let s' : Side UnderWay = side Free false q' filled log' in
       let undue : IsUndue h.host q from before = nothing_due h quiet n q a from before (omega (arith, lo, hi)) in
-      let undue' : IsUndue h.host q' next behind =
-      nothing_due h quiet (suc n) q' (ahead_next h quiet n q a) next behind (omega (arith, hi')) in
-      quiet_more h.host before (1024 + behind) (starts (suc n) - starts n - 673) from s all
-      ∙ ap (λ y. quietly h.host (1024 + behind) y (quietly h.host before from s)) to_half
-      ∙ ap (λ v. quietly h.host (1024 + behind) half v) (free_span h.host q filled log before from undue)
-      ∙ quiet_more h.host 1024 behind (1024 + behind) half s refl
-      ∙ ap (λ v. quietly h.host behind (1024 + half) v) (acts_span h.host (quiet_next h quiet) 1024 half q filled log)
-      ∙ ap (λ y. quietly h.host behind y s') to_next
-      ∙ free_span h.host q' filled log' behind next undue'
+      let undue' : IsUndue h.host q' next afterwards =
+      nothing_due h quiet (suc n) q' (ahead_next h quiet n q a) next afterwards (omega (arith, hi')) in
+      quiet_more h.host before (1024 + afterwards) (starts (suc n) - starts n - 673) from s all
+      ∙ ap (λ y. quietly h.host (1024 + afterwards) y (quietly h.host before from s)) to_half
+      ∙ ap (λ v. quietly h.host (1024 + afterwards) half v) (free_span h.host q filled log before from undue)
+      ∙ quiet_more h.host 1024 afterwards (1024 + afterwards) half s refl
+      ∙ ap (λ v. quietly h.host afterwards (1024 + half) v) (acts_span h.host (quiet_next h quiet) 1024 half q filled log)
+      ∙ ap (λ y. quietly h.host afterwards y s') to_next
+      ∙ free_span h.host q' filled log' afterwards next undue'
 
   -- up to the meeting: nothing but the lights
   looks : (n shown lights : ℕ) (q : Pc) (filled : ℕ) (log : List Stamped) → n < last

@@ -9,7 +9,7 @@ use Rattle.ctl_link.specs.declared.link.Link.{Link}
 use Rattle.ctl_link.specs.declared.link.Link.TheVariants.{Free, Hold, Busy}
 use Rattle.ctl_link.specs.Link.{broken_off, settled}
 use Rattle.pc_tables.specs.declared.item.Item.TheVariants.{Port as PortItem}
-use Rattle.board_lines.specs.declared.event.HostEvent.{HostEvent}
+use Rattle.board_terms.specs.declared.event.HostEvent.{HostEvent}
 use Rattle.host_turn.specs.declared.stamped.Stamped.{Stamped}
 use Rattle.host_turn.specs.Host.{Host, Turn, waits, acted_where, in_silence, bios_turn, read_by_bios}
 use Rattle.host_turn.specs.Cycle.{cycled, ends_cycle, host_of, port_by}

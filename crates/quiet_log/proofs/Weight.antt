@@ -4,9 +4,9 @@ use Rattle.std.specs.Prelude.{if◌then◌else◌, nat_le, is_some, slice_get}
 use Rattle.std.specs.declared.option.Option.{Option}
 use Rattle.std.proofs.lemmas.List.{length-append, length-map}
 use Rattle.std.proofs.lemmas.Option.{slice_get_within}
-use Rattle.board_lines.specs.declared.event.HostAct.{HostAct}
-use Rattle.board_lines.specs.declared.event.HostAct.TheVariants.{Write60, Write64, Read60, Mask, Unmask, Take, Flip, Status as AskStatus}
-use Rattle.board_lines.specs.declared.event.HostEvent.{HostEvent}
+use Rattle.board_terms.specs.declared.event.HostAct.{HostAct}
+use Rattle.board_terms.specs.declared.event.HostAct.TheVariants.{Write60, Write64, Read60, Mask, Unmask, Take, Flip, Status as AskStatus}
+use Rattle.board_terms.specs.declared.event.HostEvent.{HostEvent}
 use Rattle.ctl_core.specs.Controller.{ControllerState, interrupt_enabled}
 use Rattle.ctl_core.specs.Commands.{taken_by, taken_from, commanded, command_of, passed}
 use Rattle.ctl_core.specs.declared.command.Command.{Command}
@@ -19,7 +19,7 @@ use Rattle.ctl_core.specs.declared.port.Port.TheVariants.{P60, P64}
 use Rattle.ctl_core.specs.declared.port.Input.{Input}
 use Rattle.ctl_link.specs.declared.link.Link.TheVariants.{Hold}
 use Rattle.host_turn.specs.declared.desk.Desk.{Desk}
-use Rattle.ctl_link.specs.declared.port.Port.{Port}
+use Rattle.ctl_link.specs.declared.port.LinkEnd.{LinkEnd}
 use Rattle.ctl_link.specs.Link.{took_where, held_since, settled, broken_off, may_break}
 use Rattle.host_turn.specs.Host.{Host, Turn, in_silence, read_by_bios, acted, acted_where, is_done, event_turn, interrupts, bios_turn, turn}
 use Rattle.host_turn.specs.Cycle.{said_of, Cycled, cycled, host_of, port_by}
@@ -135,7 +135,7 @@ after_input P64 byte s = after_command (command_of byte) (record s { input = Non
 
 -- where it may be taken, and there is one
 module _ {F : Type 0} where
-  after_took : (now : ℕ) (held : Option ℕ) (full : Bool) (input : Option Input) (p : Port F)
+  after_took : (now : ℕ) (held : Option ℕ) (full : Bool) (input : Option Input) (p : LinkEnd F)
       → p.core.output_full ≡ full → p.core.input ≡ input
       → length (said_of (took_where now held (if full then None else taken_from input p.core) p).did)
       + weight (took_where now held (if full then None else taken_from input p.core) p).port.core ≤ weight p.core
@@ -147,13 +147,13 @@ module _ {F : Type 0} where
       let t = after_input input.port input.byte p.core in
       omega (arith, i, t)
 
-  after_settled : (now : ℕ) (p : Port F)
+  after_settled : (now : ℕ) (p : LinkEnd F)
       → length (said_of (settled now p).did) + weight (settled now p).port.core ≤ weight p.core
   after_settled now p =
       after_took now (held_since now p.awaits p.link) p.core.output_full p.core.input p refl refl
 
   -- a break changes the link alone
-  same_core : (b : Bool) (now : ℕ) (p : Port F) → (if b then record p { link = Hold now } else p).core ≡ p.core
+  same_core : (b : Bool) (now : ℕ) (p : LinkEnd F) → (if b then record p { link = Hold now } else p).core ≡ p.core
   same_core true now p = refl
   same_core false now p = refl
 
@@ -163,8 +163,8 @@ module _ {F : Type 0} where
       ≤ weight d.port.core + of_event (cycled breaks now next d).done
   after_cycle breaks now next d =
       let t : Turn = turn now d.port.filled next (host_of d) in
-      let p : Port F = port_by t d.port in
-      let q : Port F = broken_off breaks now p in
+      let p : LinkEnd F = port_by t d.port in
+      let q : LinkEnd F = broken_off breaks now p in
       let a = length-append t.items (said_of (settled now q).did) in
       let b = after_turn now d.port.filled next (host_of d) in
       let c : weight q.core ≡ weight p.core =

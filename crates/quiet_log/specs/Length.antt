@@ -1,6 +1,6 @@
 -- How long a log is.
 use Rattle.std.specs.Prelude.{◌≤◌, ◌<◌, ℕ, ◌+◌, ◌-◌, ◌*◌, List, length}
-use Rattle.board_lines.specs.Cadence.{KeepsCadenceTo, IsLast, listed}
+use Rattle.board_terms.specs.Cadence.{KeepsCadenceTo, IsLast, listed}
 use Rattle.layout_reader.specs.Layouts.{KeyLayout}
 use Rattle.key_file.specs.Histories.{KeyHistory}
 use Rattle.key_file.specs.Accepted.{IsAccepted}

@@ -3,12 +3,12 @@ use Rattle.std.specs.Prelude.{◌≡◌, ◌≤◌, ◌<◌, ℕ, ◌+◌, ◌�
 use Rattle.std.specs.Prelude.{List, [], ◌∷◌, ◌++◌, length, drop, Some, None}
 use Rattle.std.specs.List.Sorted.{IsPermutation}
 use Rattle.std.proofs.Common.{zero, suc}
-use Rattle.board_lines.specs.declared.event.HostEvent.{HostEvent}
+use Rattle.board_terms.specs.declared.event.HostEvent.{HostEvent}
 use Rattle.byte_time.specs.declared.UnderWay.{UnderWay}
 use Rattle.byte_time.specs.ByteTime.{Arrives, arriving, happened_at}
 use Rattle.ctl_link.specs.Link.{is_busy, received}
 use Rattle.ctl_link.specs.declared.link.Link.TheVariants.{Busy}
-use Rattle.ctl_link.specs.declared.port.Port.{Port}
+use Rattle.ctl_link.specs.declared.port.LinkEnd.{LinkEnd}
 use Rattle.byte_time.specs.declared.meeting.Meeting.{Meeting}
 use Rattle.byte_time.specs.declared.meeting.Meeting.TheVariants.{Got, Inhibited, Idle, Sent, Cut}
 use Rattle.key_file.specs.Histories.{KeyHistory}
@@ -16,7 +16,7 @@ use Rattle.layout_reader.specs.Layouts.{KeyLayout}
 use Rattle.kbd_model.specs.Queue.{KeyQueue, clear}
 use Rattle.kbd_model.specs.Keyboard.{Keyboard, offer}
 use Rattle.kbd_model.specs.Laws.{thrown, Clears}
-use Rattle.kbd_model.specs.Once.{byte_if, clears_queue, is_reset_due, queued, reply_bytes, waiting, IsBehind}
+use Rattle.kbd_model.specs.Once.{byte_if, clears_queue, is_reset_due, queued, reply_bytes, waiting, Extends}
 use Rattle.link_model.specs.Machine.{LayeredKeyboard, keyboard}
 use Rattle.link_model.specs.Expected.{Whole, meeting_from, whole_tick, whole_at}
 use Rattle.link_model.specs.Laws.{ended_by, event_at}
@@ -28,10 +28,10 @@ pub record ArrivalLaw : Type 0 where
   pub arrives : (byte : ℕ) → event_at (Sent byte) 608 ≡ Arrives byte
   pub only : (begins : Meeting) (offset byte : ℕ) → event_at begins offset ≡ Arrives byte
       → (begins ≡ Sent byte) × (offset ≡ 608)
-  pub under_way : (now byte : ℕ) (p : Port UnderWay) (u : UnderWay) → p.link ≡ Busy u
+  pub under_way : (now byte : ℕ) (p : LinkEnd UnderWay) (u : UnderWay) → p.link ≡ Busy u
       → (happened_at now (Arrives byte) p ≡ received now (arriving u.flip byte) p)
       × (ended_by (Sent byte) p.link ≡ Sent byte)
-  pub broken_off : (now byte : ℕ) (p : Port UnderWay) → is_busy p.link ≡ false
+  pub broken_off : (now byte : ℕ) (p : LinkEnd UnderWay) → is_busy p.link ≡ false
       → (happened_at now (Arrives byte) p ≡ p) × (ended_by (Sent byte) p.link ≡ Cut)
 
 -- what arrives is what the keyboard offered as the tick began, once its test had ended
@@ -81,9 +81,9 @@ put_before Cut before after = []
 -- a tick of the keyboard: what arrives is the first that waited; each byte that waited arrives, or is taken away, or is
 -- among the rest, and is so once; the rest waits on in its order, and all else that is new is after it
 pub record Passes (meeting : Meeting) (before after : Keyboard) : Type 0 where
-  pub first : IsBehind (arrived meeting) (waiting before)
+  pub first : Extends (arrived meeting) (waiting before)
   pub each : IsPermutation (waiting before) (arrived meeting ++ (taken_away meeting before ++ left meeting before))
-  pub rest : IsBehind (put_before meeting before after ++ left meeting before) (waiting after)
+  pub rest : Extends (put_before meeting before after ++ left meeting before) (waiting after)
 
 -- no reply waits while the test runs
 abbrev pub IsSilentInTest : Keyboard → Type 0
@@ -120,13 +120,13 @@ SilentInTest =
     (layout : KeyLayout) (history : KeyHistory) (starts : ℕ → ℕ) (n : ℕ)
     → IsSilentInTest (at_tick layout history starts n).keys.keyboard
 
--- what comes to wait in a tick: before the rest, and after it
+-- what begins to wait in a tick: before the rest, and after it
 abbrev pub came : Meeting → Keyboard → Keyboard → List ℕ
 came meeting before after =
     let first : List ℕ = put_before meeting before after in
     first ++ drop (length (first ++ left meeting before)) (waiting after)
 
--- what arrives, what else is taken away and what comes to wait in so many ticks from one on
+-- what arrives, what else is taken away and what begins to wait in so many ticks from one on
 module _ (layout : KeyLayout) (history : KeyHistory) (starts : ℕ → ℕ) (n : ℕ) where
   abbrev pub all_arrived : ℕ → List ℕ
   all_arrived zero = []
@@ -169,10 +169,10 @@ ClearsNothing (Sent byte) k = is_reset_due k.reply ≡ false
 ClearsNothing Cut k = Unit {0}
 
 -- bytes are among others, in their order
-abbrev pub StandsIn : List ℕ → List ℕ → Type 0
-StandsIn [] ys = Unit {0}
-StandsIn (x ∷ xs) [] = ⊥
-StandsIn (x ∷ xs) (y ∷ ys) = ((x ≡ y) × StandsIn xs ys) ⊎ StandsIn (x ∷ xs) ys
+abbrev pub IsSubsequence : List ℕ → List ℕ → Type 0
+IsSubsequence [] ys = Unit {0}
+IsSubsequence (x ∷ xs) [] = ⊥
+IsSubsequence (x ∷ xs) (y ∷ ys) = ((x ≡ y) × IsSubsequence xs ys) ⊎ IsSubsequence (x ∷ xs) ys
 
 -- over ticks in a row that clear nothing, with replies or without: what waited after the reply arrives in its order,
 -- or waits still
@@ -181,7 +181,7 @@ LineInOrder =
     (layout : KeyLayout) (history : KeyHistory) (starts : ℕ → ℕ) (n count : ℕ)
     → ((j : ℕ) → n ≤ j → j < count + n
     → ClearsNothing (meeting_at layout history starts j) (at_tick layout history starts j).keys.keyboard)
-    → StandsIn (line (at_tick layout history starts n).keys.keyboard)
+    → IsSubsequence (line (at_tick layout history starts n).keys.keyboard)
     (all_arrived layout history starts n count ++ line (at_tick layout history starts (count + n)).keys.keyboard)
 
 -- a tick gets no byte from the system and makes no reset, and the test has ended
@@ -201,5 +201,5 @@ abbrev pub AllInOrder : Type 0
 AllInOrder =
     (layout : KeyLayout) (history : KeyHistory) (starts : ℕ → ℕ) (n count : ℕ)
     → ((j : ℕ) → n ≤ j → j < count + n → IsPlainTick layout history starts j)
-    → IsBehind (waiting (at_tick layout history starts n).keys.keyboard)
+    → Extends (waiting (at_tick layout history starts n).keys.keyboard)
     (all_arrived layout history starts n count ++ waiting (at_tick layout history starts (count + n)).keys.keyboard)

@@ -1,12 +1,12 @@
 //! Frames on the wires, as the decoder reads them.
 
-use board_lines::{Lines, frame_of};
 use board_probes::{LineDecoder, Transfer};
+use board_terms::{Lines, frame_of};
 use std::test::Fail;
 
 /// What the decoder answers to a sample; None if it isn't after the last one.
 fn heard(decoder: &mut LineDecoder, cycle: u64, clk: bool, dat: bool) -> Option<Transfer> {
-    if decoder.is_behind(cycle) {
+    if decoder.is_later_than(cycle) {
         decoder.sample(cycle, Lines { clk, dat })
     } else {
         None

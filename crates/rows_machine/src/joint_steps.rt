@@ -1,7 +1,7 @@
 //! Small programs on the board, worked out by hand.
 
 use arrayvec::ArrayVec;
-use board_lines::{Edge, HostAct, HostEvent, Lines, Place};
+use board_terms::{Edge, HostAct, HostEvent, Lines, Place};
 use int09::Bios;
 use joint_run::{Due, Joint, Seen, Stamped};
 use mcs48_isa::Image;
@@ -81,7 +81,7 @@ fn lamps_are_said_in_the_first_cycle_of_their_step(rt: HostRuntime) -> Result<()
 }
 
 #[test]
-fn an_edge_is_made_in_the_first_step_behind_its_stamp(rt: HostRuntime) -> Result<(), Fail> {
+fn an_edge_is_made_in_the_first_step_after_its_stamp(rt: HostRuntime) -> Result<(), Fail> {
     // MOV A,#F3H; OUTL P1,A; then INS A,BUS and JMP 003 over and over: column 3 is read in every fourth cycle
     let image = program(&[0x23, 0xf3, 0x39, 0x08, 0x04, 0x03]);
     let mut joint = Joint::power_on(&image, Bios::new(rt.alloc())?);
@@ -109,7 +109,7 @@ fn an_edge_is_made_in_the_first_step_behind_its_stamp(rt: HostRuntime) -> Result
 }
 
 #[test]
-fn one_event_a_cycle_and_the_hold_behind_it(rt: HostRuntime) -> Result<(), Fail> {
+fn one_event_a_cycle_and_the_hold_after_it(rt: HostRuntime) -> Result<(), Fail> {
     // JMP 000 over and over, two cycles each
     let image = program(&[0x04, 0x00]);
     let mut joint = Joint::power_on(&image, Bios::new(rt.alloc())?);

@@ -4,7 +4,7 @@
 ghost use Rattle.std.specs.Prelude.{◌≤◌, length};
 
 use board_probes::{AddressProbe, Probe};
-use board_run::{Board, End, Ended};
+use board_run::{End, Ended, ProgramRun};
 use fw_compile::compile;
 use io_edge::MemSink;
 use key_file::{History, ListFeed, read_history};
@@ -57,7 +57,7 @@ fn ran(
     requires { length keys.now ≤ 4194304 }
 {
     let history = history_of(rt, alloc, keys)?;
-    let board = Board::new(alloc, image, 0, ListFeed::new(&history))?;
+    let board = ProgramRun::new(alloc, image, 0, ListFeed::new(&history))?;
     let mut out = MemSink::new(alloc, 65536, Vec::new(alloc))?;
     match board.run_to(&mut out, probes) {
         Ok(ended) => Ok((out, ended)),
@@ -103,11 +103,11 @@ fn an_image_says_what_its_layout_says(rt: HostRuntime) -> Result<(), Fail> {
     let mut wanted = text.as_slice();
     for line in 0..100 {
         match (cut(left), cut(wanted)) {
-            (Some((stamp, item, after)), Some((tick, same, behind))) => {
+            (Some((stamp, item, after)), Some((tick, same, afterwards))) => {
                 assert!(rt; item == same);
                 assert!(rt; number(stamp) / 2048 == number(tick));
                 left = after;
-                wanted = behind;
+                wanted = afterwards;
             }
             (_, _) => {
                 assert!(rt; line > 6);
@@ -170,7 +170,7 @@ fn it_ends_before_the_step_at_the_end_stamp(rt: HostRuntime) -> Result<(), Fail>
     // 1,365 turns of two steps and three cycles, and one cycle more
     assert!(rt; ended.cycles() == 4096 && ended.steps() == 2731);
     for probe in probes.iter() {
-        assert!(rt; probe.tell().count == 1366);
+        assert!(rt; probe.report().count == 1366);
     }
     Ok(())
 }
@@ -295,7 +295,7 @@ fn a_put_that_fails_ends_it(rt: HostRuntime) -> Result<(), Fail> {
     let alloc = rt.alloc();
     let image = image_of(&[0x9a, 0xef, 0x8a, 0xff, 0x04, 0x00]);
     let history = history_of(&rt, alloc, b"0 end\n")?;
-    let board = Board::new(alloc, &image, 0, ListFeed::new(&history))?;
+    let board = ProgramRun::new(alloc, &image, 0, ListFeed::new(&history))?;
     let mut fails = Vec::new(alloc);
     fails.push(3)?;
     let mut out = MemSink::new(alloc, 65536, fails)?;

@@ -1,7 +1,7 @@
 //! Scripts by hand: what they print, and each way to be wrong.
 
 use board_probes::{AddressProbe, CellProbe, Probe, RegisterProbe};
-use fw_debug::{Debuggee, LineFault, Session, SessionFault, check_script};
+use debugger::{Debuggee, LineFault, Session, SessionFault, check_script};
 use key_file::read_history;
 use layout_reader::us84_layout;
 use mcs48_isa::Image;

@@ -1,7 +1,7 @@
 //! Steps made at once beside single steps, state by state.
 
 use arrayvec::ArrayVec;
-use board_lines::{Edge, HostAct, HostEvent, Place};
+use board_terms::{Edge, HostAct, HostEvent, Place};
 use int09::Bios;
 use joint_glide::go_on;
 use joint_run::{Due, Joint, Seen};
@@ -133,8 +133,15 @@ fn check_same(rt: &impl Abort, one: &Joint, other: &Joint) {
 }
 
 /// Single steps, up to as many as the other machine has made at once: those before the last take nothing, say nothing, and
-/// don't lead to the place; the last one tells the same.
-fn follow(rt: &impl Abort, alone: &mut Joint, glided: &Joint, due: &Due, told: &Seen, place: u16) {
+/// don't lead to the place; the last one says the same.
+fn follow(
+    rt: &impl Abort,
+    alone: &mut Joint,
+    glided: &Joint,
+    due: &Due,
+    reported: &Seen,
+    place: u16,
+) {
     for _ in 0..100_000 {
         assert!(rt; alone.cycle() < 100_000_000);
         let Ok(seen) = alone.step(due) else {
@@ -143,10 +150,10 @@ fn follow(rt: &impl Abort, alone: &mut Joint, glided: &Joint, due: &Due, told: &
         if alone.steps() >= glided.steps() {
             assert_eq!(rt;
                 (seen.cycles, seen.edges, seen.host),
-                (told.cycles, told.edges, told.host)
+                (reported.cycles, reported.edges, reported.host)
             );
-            assert_eq!(rt; seen.lines, told.lines);
-            assert!(rt; seen.items.as_slice() == told.items.as_slice());
+            assert_eq!(rt; seen.lines, reported.lines);
+            assert!(rt; seen.items.as_slice() == reported.items.as_slice());
             check_same(rt, alone, glided);
             return;
         }
@@ -258,7 +265,7 @@ fn an_edge_that_is_due_is_made_by_the_last_step(rt: HostRuntime) -> Result<(), F
 }
 
 #[test]
-fn where_the_processor_is_stuck_the_steps_before_stand(rt: HostRuntime) -> Result<(), Fail> {
+fn if_the_processor_is_stuck_the_steps_before_are_kept(rt: HostRuntime) -> Result<(), Fail> {
     // three NOPs, and a byte that begins no instruction
     let image = program(&[0x00, 0x00, 0x00, 0x01]);
     let mut joint = Joint::power_on(&image, Bios::new(rt.alloc())?);

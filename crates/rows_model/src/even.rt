@@ -1,7 +1,7 @@
 //! Ticks that start at the multiples of 2,048.
 
 ghost use Rattle.std.specs.Prelude.{◌≡◌, ◌<◌, ◌≤◌, ◌-◌, ◌*◌, length, IfOk};
-ghost use Rattle.board_lines.specs.Cadence.{IsLast, KeepsCadenceTo, listed};
+ghost use Rattle.board_terms.specs.Cadence.{IsLast, KeepsCadenceTo, listed};
 
 use std::alloc::{AllocError, Global};
 

@@ -17,7 +17,7 @@ fn refuses(rt: &impl Abort, text: &[u8], line: u32, number: u8)
 }
 
 #[test]
-fn data_stand_where_their_lines_say(rt: HostRuntime) -> Result<(), Fail> {
+fn data_are_where_their_lines_say(rt: HostRuntime) -> Result<(), Fail> {
     let add = read_hex(b":04000000237F030156\n:00000001FF\n")?;
     assert_eq!(rt; &add.bytes[..5], [0x23, 0x7f, 0x03, 0x01, 0x00].as_slice());
     let page = read_hex(b":010105005A9F\n\n:0300FD002305A335\n:0200000004FDFD\n:00000001FF\n")?;

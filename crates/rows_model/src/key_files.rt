@@ -2,7 +2,7 @@
 
 ghost use Rattle.std.specs.Prelude.{◌≤◌, length};
 
-use board_lines::{Edge, HostAct, HostEvent, Place};
+use board_terms::{Edge, HostAct, HostEvent, Place};
 use key_file::{Feed, FileFault, History, KeyFault, ListFeed, check_history, read_history};
 use layout_reader::{Layout, us84_layout};
 use std::alloc::{AllocError, Global};
@@ -19,7 +19,7 @@ struct Refused {
     fault: KeyFault,
 }
 
-/// A key file that breaks a rule that tells no stamps.
+/// A key file that breaks a rule that names no stamps.
 fn input(text: &'static str, line: u32, number: u8) -> Refused {
     Refused {
         text,
@@ -88,7 +88,7 @@ fn one_fault() -> [Refused; 41] {
     ]
 }
 
-/// Lines with two faults or more, of which the lowest number is told.
+/// Lines with two faults or more, of which the lowest number is reported.
 fn two_faults() -> [Refused; 19] {
     [
         input("x jump", 1, 1),
@@ -168,7 +168,7 @@ fn hands_out<F: Feed>(rt: &impl Abort, feed: &mut F, history: &History) {
 }
 
 #[test]
-fn each_fault_is_told_with_its_line_and_number(rt: HostRuntime) -> Result<(), Fail> {
+fn each_fault_is_reported_with_its_line_and_number(rt: HostRuntime) -> Result<(), Fail> {
     let layout = us84_layout(rt.alloc())?;
     for row in &one_fault() {
         refuses(&rt, rt.alloc(), &layout, row.text.as_bytes(), row.fault);
@@ -177,7 +177,7 @@ fn each_fault_is_told_with_its_line_and_number(rt: HostRuntime) -> Result<(), Fa
 }
 
 #[test]
-fn of_two_faults_the_lowest_number_is_told(rt: HostRuntime) -> Result<(), Fail> {
+fn of_two_faults_the_lowest_number_is_reported(rt: HostRuntime) -> Result<(), Fail> {
     let layout = us84_layout(rt.alloc())?;
     for row in &two_faults() {
         refuses(&rt, rt.alloc(), &layout, row.text.as_bytes(), row.fault);

@@ -34,7 +34,7 @@ fn an_empty_text_has_an_end(rt: HostRuntime) -> Result<(), Fail> {
 }
 
 #[test]
-fn the_first_byte_without_a_key_is_told(rt: HostRuntime) -> Result<(), Fail> {
+fn the_first_byte_without_a_key_is_reported(rt: HostRuntime) -> Result<(), Fail> {
     let layout = us84_layout(rt.alloc())?;
     assert_eq!(rt;
         plan(rt.alloc(), &layout, b"a\x80\x00").err(),
@@ -91,7 +91,7 @@ const ON_MOVED: &[u8] = b"162816 press q
 ";
 
 #[test]
-fn keys_go_by_what_they_send_and_are_named_as_they_stand(rt: HostRuntime) -> Result<(), Fail> {
+fn keys_go_by_what_they_send_and_are_named_as_written(rt: HostRuntime) -> Result<(), Fail> {
     let layout = read_layout(rt.alloc(), MOVED)?;
     assert_eq!(rt; plan(rt.alloc(), &layout, b"bB\n")?.as_slice(), ON_MOVED);
     Ok(())

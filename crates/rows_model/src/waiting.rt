@@ -11,7 +11,7 @@ use std::test::Fail;
 /// in tick 79, and one a cycle later in tick 80, at 164,512: 4,703 cycles after it, and 5 more if that tick starts
 /// late. A byte more takes a tick more, as does the F0 before a release's code, which INT 09h doesn't see.
 #[test]
-fn an_edge_behind_its_columns_read_waits_for_the_next(rt: HostRuntime) -> Result<(), Fail> {
+fn an_edge_after_its_columns_read_waits_for_the_next(rt: HostRuntime) -> Result<(), Fail> {
     let alloc = rt.alloc();
     let rows = [
         ("159808 press a\n200000 end", 0x1e, 79),

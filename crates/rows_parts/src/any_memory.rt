@@ -4,7 +4,7 @@ ghost use Rattle.std.specs.Prelude.{◌≡◌, ◌<◌, ◌/◌, ◌%◌};
 
 use crate::typing_hi::TYPING_HI;
 use arrayvec::ArrayVec;
-use board_lines::{Edge, HostEvent};
+use board_terms::{Edge, HostEvent};
 use fw_compile::compile;
 use fw_kernel::labels::RESTART;
 use fw_kernel::{KERNEL, TICK};
@@ -87,7 +87,7 @@ fn to_first_start(mcu: &mut Mcu) -> Result<u32, Fail> {
     Ok(cycles)
 }
 
-/// Of 32 parts that hold anything each comes to its first tick start when one with cleared memory does, and in the same
+/// Of 32 parts that hold anything each reaches its first tick start when one with cleared memory does, and in the same
 /// state: the same counter, status, accumulator, timer and latches, and the same 128 bytes of data memory.
 #[test]
 fn any_memory_comes_to_one_first_tick(rt: HostRuntime) -> Result<(), Fail> {
@@ -134,7 +134,7 @@ fn upset(seed: u32) -> Mcu {
     mcu
 }
 
-/// Of 200 such processors each comes to its first tick start when one after reset does, and in the same state.
+/// Of 200 such processors each reaches its first tick start when one after reset does, and in the same state.
 #[test]
 fn any_state_at_000_comes_to_one_first_tick(rt: HostRuntime) -> Result<(), Fail> {
     let mut cleared = reset();

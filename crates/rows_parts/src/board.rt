@@ -1,4 +1,4 @@
-use board_lines::{Frame, Matrix, Place, byte_of, frame_of};
+use board_terms::{Frame, Matrix, Place, byte_of, frame_of};
 use std::test::Fail;
 
 fn number_at(column: u8, row: u8) -> Option<u8> {

@@ -58,7 +58,7 @@ fn a_put_answers_what_the_writer_took(rt: HostRuntime) -> Result<(), Fail> {
 }
 
 #[test]
-fn memory_fails_where_it_is_told_to(rt: HostRuntime) -> Result<(), Fail> {
+fn memory_fails_when_it_is_asked_to(rt: HostRuntime) -> Result<(), Fail> {
     let mut files = Vec::new(rt.alloc());
     files.push((
         String::from_str(rt.alloc(), "f")?,

@@ -1,17 +1,17 @@
 //! Worked examples, cycle by cycle. What is known of a byte under way is a number here.
 
 use ctl_core::{Did, Port as HostPort};
-use ctl_link::{Link, Passing, Port};
+use ctl_link::{Link, LinkEnd, Passing};
 use std::process::Abort;
 
 /// The host writes a byte.
-fn write(rt: &impl Abort, port: &mut Port<u8>, to: HostPort, byte: u8) {
+fn write(rt: &impl Abort, port: &mut LinkEnd<u8>, to: HostPort, byte: u8) {
     assert!(rt; port.core.host_write(to, byte).is_ok());
 }
 
 #[test]
 fn a_hold_lasts_64_cycles(rt: HostRuntime) {
-    let mut port: Port<u8> = Port::new();
+    let mut port: LinkEnd<u8> = LinkEnd::new();
     write(&rt, &mut port, HostPort::P64, 0xaa);
     assert_eq!(rt; port.settle(10), Did::Nothing);
     assert_eq!(rt; port.link, Link::Hold(10));
@@ -25,7 +25,7 @@ fn a_hold_lasts_64_cycles(rt: HostRuntime) {
 
 #[test]
 fn a_byte_for_the_keyboard_is_asked_for_and_then_requested(rt: HostRuntime) {
-    let mut port: Port<u8> = Port::new();
+    let mut port: LinkEnd<u8> = LinkEnd::new();
     write(&rt, &mut port, HostPort::P60, 0xed);
     assert_eq!(rt; port.settle(20), Did::ToKeyboard(0xed));
     assert_eq!(rt; port.link, Link::Ask(0xed, 20));
@@ -38,8 +38,8 @@ fn a_byte_for_the_keyboard_is_asked_for_and_then_requested(rt: HostRuntime) {
 }
 
 #[test]
-fn a_hold_counts_for_the_ask_behind_it(rt: HostRuntime) {
-    let mut port: Port<u8> = Port::new();
+fn a_hold_counts_for_the_ask_after_it(rt: HostRuntime) {
+    let mut port: LinkEnd<u8> = LinkEnd::new();
     write(&rt, &mut port, HostPort::P64, 0xab);
     assert_eq!(rt; port.settle(10), Did::Nothing);
     assert_eq!(rt; port.core.host_read60(), 0x00);
@@ -54,7 +54,7 @@ fn a_hold_counts_for_the_ask_behind_it(rt: HostRuntime) {
 
 #[test]
 fn a_long_hold_becomes_a_request_at_once(rt: HostRuntime) {
-    let mut port: Port<u8> = Port::new();
+    let mut port: LinkEnd<u8> = LinkEnd::new();
     write(&rt, &mut port, HostPort::P64, 0xab);
     assert_eq!(rt; port.settle(10), Did::Nothing);
     assert_eq!(rt; port.settle(90), Did::Nothing);
@@ -66,7 +66,7 @@ fn a_long_hold_becomes_a_request_at_once(rt: HostRuntime) {
 
 #[test]
 fn nothing_is_taken_while_the_output_buffer_is_full(rt: HostRuntime) {
-    let mut port: Port<u8> = Port::new();
+    let mut port: LinkEnd<u8> = LinkEnd::new();
     write(&rt, &mut port, HostPort::P64, 0xaa);
     assert_eq!(rt; port.settle(10), Did::Nothing);
     write(&rt, &mut port, HostPort::P60, 0xf4);
@@ -77,7 +77,7 @@ fn nothing_is_taken_while_the_output_buffer_is_full(rt: HostRuntime) {
 
 #[test]
 fn nothing_is_taken_while_a_reply_is_awaited(rt: HostRuntime) {
-    let mut port: Port<u8> = Port::new();
+    let mut port: LinkEnd<u8> = LinkEnd::new();
     assert!(rt; !port.core.output_full());
     port.hand_over();
     write(&rt, &mut port, HostPort::P60, 0xf4);
@@ -94,7 +94,7 @@ fn nothing_is_taken_while_a_reply_is_awaited(rt: HostRuntime) {
 
 #[test]
 fn a_disabled_keyboard_is_held_off(rt: HostRuntime) {
-    let mut port: Port<u8> = Port::new();
+    let mut port: LinkEnd<u8> = LinkEnd::new();
     write(&rt, &mut port, HostPort::P64, 0xad);
     assert_eq!(rt; port.settle(5), Did::Nothing);
     assert_eq!(rt; port.link, Link::Hold(5));
@@ -107,7 +107,7 @@ fn a_disabled_keyboard_is_held_off(rt: HostRuntime) {
 
 #[test]
 fn the_start_of_a_break_fills_nothing(rt: HostRuntime) {
-    let mut port: Port<u8> = Port::new();
+    let mut port: LinkEnd<u8> = LinkEnd::new();
     assert!(rt; !port.core.output_full());
     port.receive(100, Some(0xf0));
     assert_eq!(rt; port.link, Link::Hold(100));
@@ -120,7 +120,7 @@ fn the_start_of_a_break_fills_nothing(rt: HostRuntime) {
 
 #[test]
 fn a_byte_that_comes_wrong_is_asked_for_three_times(rt: HostRuntime) {
-    let mut port: Port<u8> = Port::new();
+    let mut port: LinkEnd<u8> = LinkEnd::new();
     for count in [1, 2, 3] {
         assert!(rt; !port.core.output_full());
         port.receive(100, None);
@@ -151,7 +151,7 @@ impl Passing for Open {
 
 /// Whether a byte under way is broken off in cycle 50.
 fn is_broken(rt: &impl Abort, open: bool, awaits: bool, full: bool) -> bool {
-    let mut port: Port<Open> = Port::new();
+    let mut port: LinkEnd<Open> = LinkEnd::new();
     port.link = Link::Busy(Open(open));
     port.awaits = awaits;
     if full {

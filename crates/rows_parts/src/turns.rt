@@ -4,7 +4,7 @@
 ghost use Rattle.std.specs.Prelude.{◌≡◌, ◌≤◌, length};
 
 use arrayvec::ArrayVec;
-use board_lines::{HostAct, HostEvent};
+use board_terms::{HostAct, HostEvent};
 use ctl_link::{Link, Passing};
 use host_turn::Desk;
 use int09::Bios;
@@ -152,7 +152,7 @@ fn a_masked_byte_is_read_in_the_cycle_that_unmasks(rt: HostRuntime) -> Result<()
 }
 
 #[test]
-fn the_items_of_a_cycle_stand_in_their_order(rt: HostRuntime) -> Result<(), Fail> {
+fn the_items_of_a_cycle_are_in_their_order(rt: HostRuntime) -> Result<(), Fail> {
     let mut desk: Desk<Open> = Desk::new(Bios::new(rt.alloc())?);
     assert!(rt; !desk.port.core.output_full());
     desk.port.receive(5000, Some(0x1c));

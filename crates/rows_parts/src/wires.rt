@@ -1,7 +1,7 @@
 ghost use Rattle.std.specs.Prelude.{◌≡◌, false};
 ghost use Rattle.ctl_wire.specs.Cycles.{next_cycle};
 
-use board_lines::Lines;
+use board_terms::Lines;
 use ctl_core::Port;
 use ctl_wire::CtlWire;
 use std::process::Abort;

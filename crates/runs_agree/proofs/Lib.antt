@@ -1,4 +1,4 @@
 pub mod RunsAlike
 pub mod BoardsAlike
 pub mod Sessions
-pub mod TellsBeginning
+pub mod SaysBeginning

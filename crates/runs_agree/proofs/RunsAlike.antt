@@ -3,13 +3,13 @@ use Rattle.std.proofs.Common.{◌≡◌, ◌≤◌, ◌<◌, ℕ, zero, suc, ◌
 use Rattle.std.proofs.Common.{length, ltb, refl, ap, sym, subst, ◌∙◌, arith, length-append}
 use Rattle.std.proofs.lemmas.Bool.Decides.{nat_tests}
 use Rattle.std.proofs.lemmas.List.{get_or_append_left}
-use Rattle.board_lines.specs.Cadence.{listed}
+use Rattle.board_terms.specs.Cadence.{listed}
 use Rattle.joint_feed.proofs.Going.{same_state}
 use Rattle.joint_feed.specs.Stories.{Story, state_at}
 use Rattle.joint_run.specs.Joint.{Beside, log_of}
 use Rattle.joint_run.specs.Run.{World}
 use Rattle.runs_agree.specs.Alike.{AreAlike}
-use Rattle.subsystem.specs.Running.{IsOutcome, lines_of, Outcome}
+use Rattle.subsystem.specs.LayoutOutcomes.{IsOutcome, lines_of, Outcome}
 use Rattle.story_run.specs.Starts.{start_stamp, starts_among}
 use Rattle.subsystem.proofs.Agreed.{run_starts, run_last}
 

@@ -6,17 +6,17 @@ use Rattle.std.proofs.lemmas.Bool.Decides.{nat_tests}
 use Rattle.std.proofs.lemmas.List.{get_or_append_left}
 use Rattle.std.proofs.Math.Seq.{get_or-append_seam}
 use Rattle.std.specs.declared.option.Option.{Option}
-use Rattle.board_lines.specs.Cadence.{listed}
+use Rattle.board_terms.specs.Cadence.{listed}
 use Rattle.board_probes.specs.Probes.{Watch}
-use Rattle.fw_debug.specs.Sessions.{Debug, Debuggee, next_from, next_state, of_layout, session_is_over, stepped_to, walk}
+use Rattle.debugger.specs.Sessions.{Debug, Debuggee, next_from, next_state, of_layout, session_is_over, stepped_to, walk}
 use Rattle.fw_logic.specs.JointRun.{KeepsTimeFrom}
 use Rattle.joint_feed.specs.Stories.{Story, state_at, starts_tick}
 use Rattle.joint_run.specs.Joint.{Beside, joint_start_of}
 use Rattle.joint_run.specs.Run.{World}
 use Rattle.story_run.specs.Starts.{start_stamp, starts_among}
-use Rattle.subsystem.specs.Running.{IsOutcome, Outcome}
+use Rattle.subsystem.specs.LayoutOutcomes.{IsOutcome, Outcome}
 use Rattle.subsystem.proofs.Going.{GoesOnTo, is_over}
-use Rattle.runs_agree.specs.Sessions.{EndsBehind}
+use Rattle.runs_agree.specs.Sessions.{EndsAfter}
 use Rattle.subsystem.proofs.Agreed.{run_last, run_starts}
 use Rattle.runs_agree.proofs.RunsAlike.{starts_stay}
 use Rattle.subsystem.proofs.Lines.{one_longer}
@@ -136,8 +136,8 @@ module _ (s : Story) (t : KeepsTimeFrom (joint_start_of s.held) s.bytes s.edges 
             walked_to n (suc k) (stepped_to w (record { steps = k; probes = probes })).probes (one_more k l w next) (omega (arith, m))
       ] refl
 
-  pub ends_behind : EndsBehind d run.steps
-  ends_behind = record {
+  pub ends_afterwards : EndsAfter d run.steps
+  ends_afterwards = record {
     goes_on = λ k below. ap is_none (next_before k below).1;
     ended = ap is_none none_at_end;
     walked = λ n probes far. walked_to n 0 probes (omega arith) (omega (arith, far));

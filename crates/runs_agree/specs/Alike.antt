@@ -1,10 +1,10 @@
 -- What is run has one run.
 use Rattle.std.specs.Prelude.{◌≡◌}
-use Rattle.board_run.specs.Running as board
+use Rattle.board_run.specs.BoardOutcomes as board
 use Rattle.joint_feed.specs.Stories.{Story}
-use Rattle.subsystem.specs.Running.{IsOutcome, Outcome}
+use Rattle.subsystem.specs.LayoutOutcomes.{IsOutcome, Outcome}
 
--- two runs tell the same
+-- two runs say the same
 pub record AreAlike (a b : Outcome) : Type 0 where
   pub log : a.log ≡ b.log
   pub starts : a.starts ≡ b.starts

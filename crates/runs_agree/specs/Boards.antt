@@ -1,7 +1,7 @@
 -- What a run on the board says, against the run of a layout.
 use Rattle.std.specs.Prelude.{◌≡◌, ◌≤◌, ◌<◌, ℕ, ◌+◌, List, ◌++◌}
 use Rattle.story_run.specs.declared.ending.End.TheVariants.{Over}
-use Rattle.board_run.specs.Running.{IsOutcome, Outcome}
+use Rattle.board_run.specs.BoardOutcomes.{IsOutcome, Outcome}
 use Rattle.fw_compile.specs.Image.{image_of}
 use Rattle.host_turn.specs.declared.stamped.Stamped.{Stamped}
 use Rattle.joint_feed.specs.Stories.{Story, story}
@@ -9,14 +9,14 @@ use Rattle.key_file.specs.Accepted.{IsLawfulFor}
 use Rattle.key_file.specs.Histories.{KeyHistory}
 use Rattle.layout_reader.specs.Layouts.{IsKeyLayout, KeyLayout}
 use Rattle.story_run.specs.Running.{AreIn}
-use Rattle.subsystem.specs.Running.{lines_of}
-use Rattle.subsystem.specs.Running as layout
+use Rattle.subsystem.specs.LayoutOutcomes.{lines_of}
+use Rattle.subsystem.specs.LayoutOutcomes as layout
 use Rattle.wire_trace.specs.Trace.{trace_to}
 
--- a run on the board tells the beginning of a layout's run: it ends at the end stamp or a cycle later; what it said
+-- a run on the board says the beginning of a layout's run: it ends at the end stamp or a cycle later; what it said
 -- was said before it ended, and the layout's run said the same, with the ticks in place of the cycles, and then what
 -- it said from there on; and its trace is the beginning of the trace of the layout's run
-pub record TellsRun (s : Story) (board : Outcome) (run : layout.Outcome) : Type 0 where
+pub record SaysRun (s : Story) (board : Outcome) (run : layout.Outcome) : Type 0 where
   pub over : board.end ≡ Over
   pub reaches : 4096 + s.stop ≤ board.cycles
   pub soon : board.cycles < 4096 + s.stop + 2
@@ -29,7 +29,7 @@ pub record TellsRun (s : Story) (board : Outcome) (run : layout.Outcome) : Type 
   pub trace : trace_to s run.steps ≡ trace_to s board.steps ++ changes
 
 -- so it is with each layout's compiled image under a history that is lawful for it
-abbrev pub BoardsTellRuns : Type 0
-BoardsTellRuns = (of : KeyLayout) (history : KeyHistory) (board : Outcome) (run : layout.Outcome) → IsKeyLayout of
+abbrev pub BoardsSayRuns : Type 0
+BoardsSayRuns = (of : KeyLayout) (history : KeyHistory) (board : Outcome) (run : layout.Outcome) → IsKeyLayout of
     → IsLawfulFor of history → IsOutcome (story (image_of of) history) board
-    → layout.IsOutcome (story (image_of of) history) run → TellsRun (story (image_of of) history) board run
+    → layout.IsOutcome (story (image_of of) history) run → SaysRun (story (image_of of) history) board run

@@ -6,13 +6,13 @@ use Rattle.key_file.specs.Accepted.{IsLawfulFor}
 use Rattle.key_file.specs.Histories.{KeyHistory}
 use Rattle.layout_reader.specs.Layouts.{IsKeyLayout, KeyLayout}
 use Rattle.story_run.specs.declared.ending.Ending.TheVariants.{TickStart}
-use Rattle.story_run.specs.Running.{IsOverBehind}
-use Rattle.subsystem.specs.Running.{IsOutcome, Outcome}
+use Rattle.story_run.specs.Running.{IsOverAfter}
+use Rattle.subsystem.specs.LayoutOutcomes.{IsOutcome, Outcome}
 
 -- after the steps after which the run of a layout's image is over, under a history that is lawful for the layout, it
--- has come to an outcome, of as many steps
+-- has reached an outcome, of as many steps
 abbrev pub RunsComeToOutcomes : Type 0
 RunsComeToOutcomes =
     (layout : KeyLayout) (history : KeyHistory) (steps : ℕ) → IsKeyLayout layout → IsLawfulFor layout history
-    → IsOverBehind TickStart (story (image_of layout) history) steps
+    → IsOverAfter TickStart (story (image_of layout) history) steps
     → (run : Outcome) × IsOutcome (story (image_of layout) history) run × (run.steps ≡ steps)

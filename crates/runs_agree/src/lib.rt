@@ -7,7 +7,7 @@
 #![tactic(auto)]
 
 ghost use Rattle.runs_agree.specs.Alike.{BoardsAreAlike, RunsAreAlike};
-ghost use Rattle.runs_agree.specs.Boards.{BoardsTellRuns};
+ghost use Rattle.runs_agree.specs.Boards.{BoardsSayRuns};
 ghost use Rattle.runs_agree.specs.Outcomes.{RunsComeToOutcomes};
 ghost use Rattle.runs_agree.specs.Sessions.{SessionsEndWithRuns};
 
@@ -25,7 +25,7 @@ pub fn boards_are_alike()
     ensures alike { BoardsAreAlike }
 {}
 
-/// If the run of a layout's compiled image, under a history that is lawful for it, is over, it has come to an outcome,
+/// If the run of a layout's compiled image, under a history that is lawful for it, is over, it has reached an outcome,
 /// of as many steps. Nothing is done when it is called; the law is its contract.
 pub fn runs_come_to_outcomes()
     ensures outcomes { RunsComeToOutcomes }
@@ -46,8 +46,8 @@ pub fn sessions_end_with_runs()
 /// item by item in the same cycles, up to the end stamp, and is never stuck. The layout's run goes on to the first
 /// tick start at or after the end stamp, and may say more until then. Nothing is done when it is called; the law is
 /// its contract.
-pub fn boards_tell_runs()
-    ensures tell { BoardsTellRuns }
+pub fn boards_say_runs()
+    ensures report { BoardsSayRuns }
 {
     run_and_model_agree();
 }

@@ -31,27 +31,27 @@ module _ (u : Halt) (s : Story) (old new : Course) (before after : List Watch) (
 
   -- what a count of the last step's events asks for
   pub fed_now : IsFed s.edges s.events new.ahead
-  fed_now = subst (λ (a : Ahead). IsFed s.edges s.events a) (sym g.stepped.ahead) g.onward.going.standing.on.fed
+  fed_now = subst (λ (a : Ahead). IsFed s.edges s.events a) (sym g.stepped.ahead) g.onward.going.run_so_far.on.fed
 
   pub taken_now : (fed : Fed) → HasTaken fed old.ahead → HasTaken fed new.ahead
   taken_now fed t = subst (λ (a : Ahead). HasTaken fed a) (sym ahead_same) t
 
   pub made_now : new.ahead.made ≤ length s.edges
-  made_now = subst (λ (a : Ahead). a.made ≤ length s.edges) (sym g.stepped.ahead) g.onward.going.standing.on.made_within
+  made_now = subst (λ (a : Ahead). a.made ≤ length s.edges) (sym g.stepped.ahead) g.onward.going.run_so_far.on.made_within
 
   pub done_now : new.ahead.done ≤ length s.events
-  done_now = subst (λ (a : Ahead). a.done ≤ length s.events) (sym g.stepped.ahead) g.onward.going.standing.on.done_within
+  done_now = subst (λ (a : Ahead). a.done ≤ length s.events) (sym g.stepped.ahead) g.onward.going.run_so_far.on.done_within
 
   pub edges_now : new.seen.edges ≤ length new.ahead.due.edges.items
   edges_now =
       subst (λ (a : Ahead). new.seen.edges ≤ length a.due.edges.items) (sym g.stepped.ahead)
-      (edges_taken s last new.joint new.seen g.onward.going.standing.on g.onward.going.accepted.lawful.thin
+      (edges_taken s last new.joint new.seen g.onward.going.run_so_far.on g.onward.going.accepted.lawful.thin
       g.onward.going.accepted.lawful.edges_in_order g.stepped.step g.stepped.run)
 
   pub host_now : new.seen.host ≤ length new.ahead.due.host.items
   host_now =
       subst (λ (a : Ahead). new.seen.host ≤ length a.due.host.items) (sym g.stepped.ahead)
-      (host_taken s last new.joint new.seen g.onward.going.standing.on g.onward.going.accepted.lawful.thin
+      (host_taken s last new.joint new.seen g.onward.going.run_so_far.on g.onward.going.accepted.lawful.thin
       g.onward.going.accepted.lawful.edges_in_order g.stepped.step g.stepped.run)
 
   step_now : new.joint.steps ≡ suc last.joint.steps
@@ -81,16 +81,16 @@ module _ (u : Halt) (s : Story) (old new : Course) (before after : List Watch) (
     there = here s counted on_now
 
     -- what the last step said
-    items_now : AreIn start.standing.on.world.cycle new.joint.cycle new.seen.items.items
+    items_now : AreIn start.run_so_far.on.world.cycle new.joint.cycle new.seen.items.items
     items_now =
-        let w = g.onward.going.standing.on.world in
+        let w = g.onward.going.run_so_far.on.world in
         let v = on_now.world in
         let items = new.seen.items.items in
-        let first : state_at s last.joint.steps ≡ Some w = here s last g.onward.going.standing.on in
+        let first : state_at s last.joint.steps ≡ Some w = here s last g.onward.going.run_so_far.on in
         let next : state_at s (suc last.joint.steps) ≡ Some v = ap (state_at s) (sym step_now) ∙ there in
         let said : Said w.cycle v.cycle (log_of w.board) (log_of v.board) = step_said s last.joint.steps w v first next in
         let both : log_of w.board ++ said.more ≡ log_of w.board ++ items =
-        sym said.behind ∙ says u s last new g.between after g.onward.going g.stepped w v first next in
+        sym said.afterwards ∙ says u s last new g.between after g.onward.going g.stepped w v first next in
         let these : said.more ≡ items =
         sym (drop-append_seam (log_of w.board) said.more)
         ∙ ap (drop (length (log_of w.board))) both ∙ drop-append_seam (log_of w.board) items in
@@ -98,27 +98,27 @@ module _ (u : Halt) (s : Story) (old new : Course) (before after : List Watch) (
         subst (λ (n : ℕ). AreIn w.cycle n items) (sym on_now.in_run.cycle)
         (subst (λ (l : List Stamped). AreIn w.cycle v.cycle l) these said.each) in
         let so_far = g.onward.cycle in
-        let from = start.standing.on.in_run.cycle in
-        let to = g.onward.going.standing.on.in_run.cycle in
-        all_in_less start.standing.on.world.cycle w.cycle new.joint.cycle items (omega (arith, so_far, from, to)) until
+        let from = start.run_so_far.on.in_run.cycle in
+        let to = g.onward.going.run_so_far.on.in_run.cycle in
+        all_in_less start.run_so_far.on.world.cycle w.cycle new.joint.cycle items (omega (arith, so_far, from, to)) until
 
     pub advanced : HasAdvanced u s old before counted after
     advanced =
         let so_far = g.onward.cycle in
         let now = cycles_now.0 in
         let few = cycles_now.1 in
-        let from = start.standing.on.in_run.cycle in
+        let from = start.run_so_far.on.in_run.cycle in
         let near = soon u s last g.onward.going in
         record {
-          behind = record {
+          afterwards = record {
             timely = start.timely;
-            standing = record { on = on_now; goes_on = goes_on_to u s last new g.between after g.onward.going g.stepped };
+            run_so_far = record { on = on_now; goes_on = goes_on_to u s last new g.between after g.onward.going g.stepped };
             last = last.joint.steps;
             quiet = g.onward.quiet;
             steps = step_now;
             said = log_more u s last new g.between after g.onward.going g.stepped on_now.world there;
-            from = start.standing.on.world;
-            there = here s old start.standing.on;
+            from = start.run_so_far.on.world;
+            there = here s old start.run_so_far.on;
             later = omega (arith, so_far, now, from);
             near = omega (arith, few, near);
             items = items_now;

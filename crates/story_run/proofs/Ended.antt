@@ -1,4 +1,4 @@
--- A run that keeps its time is over behind some steps, and a run goes on at no state behind those.
+-- A run that keeps its time is over after some steps, and a run goes on at no state after those.
 use Rattle.std.proofs.Common.{◌≡◌, ◌≤◌, ◌⊎◌, ℕ, zero, suc, ◌+◌, Bool, true, false, ◌&&◌, leb, Some, inl, inr, refl, ap, sym, ◌∙◌, arith}
 use Rattle.std.specs.Prelude.{nat_le}
 use Rattle.std.proofs.lemmas.Bool.Decides.{nat_tests}
@@ -13,12 +13,12 @@ use Rattle.story_run.specs.declared.ending.End.TheVariants.{Over, Stuck}
 use Rattle.story_run.specs.declared.ending.Ending.{Ending}
 use Rattle.story_run.specs.declared.ending.Ending.TheVariants.{TickStart}
 use Rattle.story_run.specs.Advance.{IsEnding}
-use Rattle.story_run.specs.Running.{EndsAt, GoesOnTo, IsOverBehind, is_over}
+use Rattle.story_run.specs.Running.{EndsAt, GoesOnTo, IsOverAfter, is_over}
 use Rattle.story_run.proofs.Steps.{on_at}
 use Rattle.story_run.proofs.Timekeeping.{never_stuck}
 
--- a run that is over behind some steps goes on at no state behind them
-pub goes_on_within : (e : Ending) (s : Story) (n k : ℕ) → IsOverBehind e s n → GoesOnTo e s k → k ≤ n
+-- a run that is over after some steps goes on at no state behind them
+pub goes_on_within : (e : Ending) (s : Story) (n k : ℕ) → IsOverAfter e s n → GoesOnTo e s k → k ≤ n
 goes_on_within e s n k end on =
     elim (leb k n) as (λ b. leb k n ≡ b → k ≤ n) [
       | true ↦ λ f. grind (arith, nat_tests, f)
@@ -33,7 +33,7 @@ goes_on_within e s n k end on =
 module _ (s : Story) (t : KeepsTimeFrom (joint_start_of s.held) s.bytes s.edges s.events) where
   -- it goes on up to a state, or was over before
   abbrev Judged : ℕ → Type 0
-  Judged n = GoesOnTo TickStart s n ⊎ ((k : ℕ) × IsOverBehind TickStart s k)
+  Judged n = GoesOnTo TickStart s n ⊎ ((k : ℕ) × IsOverAfter TickStart s k)
 
   judged_at : (n : ℕ) (w : World Beside) (b : Bool)
       → state_at s n ≡ Some w → is_over TickStart s w ≡ b → GoesOnTo TickStart s n → Judged (suc n)
@@ -49,14 +49,14 @@ module _ (s : Story) (t : KeepsTimeFrom (joint_start_of s.held) s.bytes s.edges 
   judged (suc n) = judged_by n (judged n)
 
   over_within : (n : ℕ) (w : World Beside)
-      → state_at s n ≡ Some w → is_over TickStart s w ≡ true → Judged (suc n) → (k : ℕ) × IsOverBehind TickStart s k
+      → state_at s n ≡ Some w → is_over TickStart s w ≡ true → Judged (suc n) → (k : ℕ) × IsOverAfter TickStart s k
   over_within n w there over (inl on) =
       let open_still : is_over TickStart s w ≡ false = ap (is_over TickStart s) (same_state (sym there ∙ on.2)) ∙ on.3 in
       absurd (cc (open_still, over))
   over_within n w there over (inr end) = end
 
-  -- the run comes to its end
-  pub comes_to_end : (k : ℕ) × IsOverBehind TickStart s k
+  -- the run reaches its end
+  pub comes_to_end : (k : ℕ) × IsOverAfter TickStart s k
   comes_to_end =
       let e = (t.ends s.stop).1 in
       let w = e.start.state in
@@ -72,10 +72,10 @@ module _ (s : Story) (t : KeepsTimeFrom (joint_start_of s.held) s.bytes s.edges 
   over_at k w (Stuck place) ends = absurd (never_stuck s (suc k) t ends.none)
 
   -- so it is over where it ends
-  abbrev pub over_behind : (c : Course) (end : End) → IsEnding TickStart s c end → IsOverBehind TickStart s c.joint.steps
-  over_behind c end h = record {
-    goes_on = h.standing.goes_on;
-    world = h.standing.on.world;
-    reached = here s c h.standing.on;
-    over = over_at c.joint.steps h.standing.on.world end h.ends;
+  abbrev pub over_after : (c : Course) (end : End) → IsEnding TickStart s c end → IsOverAfter TickStart s c.joint.steps
+  over_after c end h = record {
+    goes_on = h.run_so_far.goes_on;
+    world = h.run_so_far.on.world;
+    reached = here s c h.run_so_far.on;
+    over = over_at c.joint.steps h.run_so_far.on.world end h.ends;
   }

@@ -16,7 +16,7 @@ use Rattle.joint_run.specs.declared.machine.Machine.{Machine}
 use Rattle.mcs48_core.specs.declared.stepping.Stuck.{Stuck}
 use Rattle.story_run.specs.declared.ending.Halt.{Halt}
 use Rattle.story_run.specs.Advance.{IsStuckNow}
-use Rattle.story_run.specs.Gliding.{IsGoing, IsHeldUp, IsQuiet}
+use Rattle.story_run.specs.Gliding.{IsGoing, IsHeldUp, IsSilent}
 use Rattle.story_run.specs.Running.{GoesOnTo, is_over, place_of}
 use Rattle.story_run.proofs.Stuck.{stuck_where_none}
 
@@ -40,33 +40,33 @@ module _ (u : Halt) (s : Story) (old new : Course) (before after : List Watch) (
   on_now : IsOnCourse s new
   on_now =
       subst (λ (a : Ahead). IsOnCourse s (record { joint = new.joint; ahead = a; seen = new.seen; fill = new.fill })) (sym h.ahead)
-      (on_moved s last new.joint new.seen new.fill h.joint going.standing.on)
+      (on_moved s last new.joint new.seen new.fill h.joint going.run_so_far.on)
 
   there : state_at s new.joint.steps ≡ Some on_now.world
   there = here s new on_now
 
-  same_world : on_now.world ≡ going.standing.on.world
-  same_world = same_state (sym there ∙ ap (state_at s) steps_same ∙ here s last going.standing.on)
+  same_world : on_now.world ≡ going.run_so_far.on.world
+  same_world = same_state (sym there ∙ ap (state_at s) steps_same ∙ here s last going.run_so_far.on)
 
   none : state_at s (suc new.joint.steps) ≡ None
   none =
       ap (λ (k : ℕ). state_at s (suc k)) steps_same
-      ∙ no_further s last new.joint stuck going.standing.on going.accepted.lawful.thin going.accepted.lawful.edges_in_order h.run
+      ∙ no_further s last new.joint stuck going.run_so_far.on going.accepted.lawful.thin going.accepted.lawful.edges_in_order h.run
 
   no_step : joint_step (joint_board s.edges s.events) s.bytes on_now.world ≡ None
   no_step = sym (ap (step_on (joint_board s.edges s.events) s.bytes) there) ∙ none
 
   pub stuck_now : IsStuckNow u s old before stuck new after
   stuck_now = record {
-    standing = record { on = on_now; goes_on = subst (GoesOnTo u.ending s) (sym steps_same) going.standing.goes_on };
-    quiet = subst (λ (k : ℕ). IsQuiet u.ending u.wires s old.joint.steps k) (sym steps_same) h.onward.quiet;
+    run_so_far = record { on = on_now; goes_on = subst (GoesOnTo u.ending s) (sym steps_same) going.run_so_far.goes_on };
+    quiet = subst (λ (k : ℕ). IsSilent u.ending u.wires s old.joint.steps k) (sym steps_same) h.onward.quiet;
     stuck_so = record {
       before_end = ap (is_over u.ending s) same_world ∙ going.not_over;
       no_row = stuck_where_none s on_now.world no_step;
       none = none;
       at = place_stuck last.ahead.due last.joint new.joint _ stuck h.step
-          ∙ ap (λ (b : List ℕ). place_of b last.joint.mcu) going.standing.on.image
-          ∙ ap (place_of s.bytes) (going.standing.on.in_run.mcu ∙ ap (λ (w : World Beside). w.cpu) (sym same_world));
+          ∙ ap (λ (b : List ℕ). place_of b last.joint.mcu) going.run_so_far.on.image
+          ∙ ap (place_of s.bytes) (going.run_so_far.on.in_run.mcu ∙ ap (λ (w : World Beside). w.cpu) (sym same_world));
     };
     looked = λ first e. h.onward.looked first e ∙ sym (ap (λ (k : ℕ). looks s k first) steps_same);
   }

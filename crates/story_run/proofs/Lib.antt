@@ -4,12 +4,12 @@ pub mod Stuck
 pub mod Timekeeping
 pub mod Over
 pub mod Ended
-pub mod Quiet
+pub mod Silent
 pub mod Quietly
 pub mod Dozing
 pub mod Advanced
 pub mod Held
-pub mod Told
+pub mod Reported
 pub mod Slept
 pub mod Stretched
 pub mod Loop

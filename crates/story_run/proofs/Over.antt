@@ -1,4 +1,4 @@
--- Whether a run is over at the state that a machine stands at.
+-- Whether a run is over at the state that a machine is at.
 use Rattle.std.proofs.Common.{◌≡◌, ℕ, ◌+◌, Bool, true, false, ◌&&◌, ap, sym, ◌∙◌}
 use Rattle.std.specs.Prelude.{nat_le}
 use Rattle.joint_feed.specs.Stories.{Story, starts_tick}
@@ -15,9 +15,9 @@ reached_at s w stop cycle answer is at_stop at_cycle =
 
 pub over_at_tick : (s : Story) (w : World Beside) (stop cycle : ℕ) (tick answer : Bool) → tick ≡ starts_tick s w → tick ≡ true
     → answer ≡ nat_le (4096 + stop) cycle → s.stop ≡ stop → w.cycle ≡ cycle → answer ≡ is_over TickStart s w
-over_at_tick s w stop cycle tick answer tells on is at_stop at_cycle =
+over_at_tick s w stop cycle tick answer decides on is at_stop at_cycle =
     reached_at s w stop cycle answer is at_stop at_cycle
-    ∙ ap (λ b. b && nat_le (4096 + s.stop) w.cycle) (sym on ∙ tells)
+    ∙ ap (λ b. b && nat_le (4096 + s.stop) w.cycle) (sym on ∙ decides)
 
 pub open_off_tick : (s : Story) (w : World Beside) (tick : Bool) → tick ≡ starts_tick s w → tick ≡ false → false ≡ is_over TickStart s w
-open_off_tick s w tick tells off = ap (λ b. b && nat_le (4096 + s.stop) w.cycle) (sym off ∙ tells)
+open_off_tick s w tick decides off = ap (λ b. b && nat_le (4096 + s.stop) w.cycle) (sym off ∙ decides)

@@ -5,7 +5,7 @@ use Rattle.std.specs.Prelude.{if◌then◌else◌}
 use Rattle.std.proofs.lemmas.Bool.Decides.{nat_tests}
 use Rattle.std.proofs.lemmas.List.{append-nil}
 use Rattle.std.specs.declared.option.Option.{Option}
-use Rattle.board_lines.specs.declared.lines.Lines.{Lines}
+use Rattle.board_terms.specs.declared.lines.Lines.{Lines}
 use Rattle.board_probes.proofs.Sights.{same_sight}
 use Rattle.board_probes.specs.Looks.{looked_at, looks}
 use Rattle.board_probes.specs.Probes.{Sight, Watch, looked, sight_in, sight_of}
@@ -24,13 +24,13 @@ use Rattle.joint_run.specs.Run.{World, run_at}
 use Rattle.story_run.specs.declared.ending.Ending.{Ending}
 use Rattle.story_run.specs.declared.ending.Ending.TheVariants.{TickStart, Stamp}
 use Rattle.story_run.specs.declared.ending.Halt.{Halt}
-use Rattle.story_run.specs.Answers.{MeetsNoTick, TellsOver}
-use Rattle.story_run.specs.Gliding.{AreSameStarts, IsGoing, IsOnward, IsStepped, lines_at, lines_in, looked_behind, looked_now}
+use Rattle.story_run.specs.Answers.{MeetsNoTick, DecidesOver}
+use Rattle.story_run.specs.Gliding.{AreSameStarts, IsGoing, IsOnward, IsStepped, lines_at, lines_in, looked_since, looked_now}
 use Rattle.story_run.specs.Running.{GoesOnTo, log_at, logged}
 use Rattle.story_run.specs.Starts.{start_stamp, starts_among}
-use Rattle.story_run.proofs.Quiet.{none_quiet, then_quiet}
+use Rattle.story_run.proofs.Silent.{none_quiet, then_quiet}
 
--- the wires at a state that the machine stands at
+-- the wires at a state that the machine is at
 pub lines_here : (s : Story) (c : Course) (on : IsOnCourse s c) → lines_at s c.joint.steps ≡ Some (sight_of c.joint).lines
 lines_here s c on =
     ap lines_in (here s c on)
@@ -41,15 +41,15 @@ module _ (u : Halt) (s : Story) (old : Course) (new : Machine) (seen : Seen) (g 
     (is : IsJointStep old.ahead.due old.joint (due_step old.ahead.due old.joint) (Ok seen) new)
     (run : IsStepOfRun old.ahead.due old.joint (Ok seen) new) where
   next_is : new.steps ≡ suc old.joint.steps
-  next_is = one_more_step s old new seen g.standing.on g.accepted.lawful.thin g.accepted.lawful.edges_in_order is run
+  next_is = one_more_step s old new seen g.run_so_far.on g.accepted.lawful.thin g.accepted.lawful.edges_in_order is run
 
-  goes_on : RunGoesOn s.held s.edges s.events old.ahead.made g.standing.on.world seen new
-  goes_on = on s old new seen g.standing.on g.accepted.lawful.thin g.accepted.lawful.edges_in_order is run
+  goes_on : RunGoesOn s.held s.edges s.events old.ahead.made g.run_so_far.on.world seen new
+  goes_on = on s old new seen g.run_so_far.on g.accepted.lawful.thin g.accepted.lawful.edges_in_order is run
 
   there : state_at s (suc old.joint.steps) ≡ Some goes_on.next
   there =
-      let made = step s old new seen g.standing.on g.accepted.lawful.thin g.accepted.lawful.edges_in_order is run in
-      let image : new.image.bytes ≡ s.bytes = ap (λ m. m.image.bytes) made.after ∙ g.standing.on.image in
+      let made = step s old new seen g.run_so_far.on g.accepted.lawful.thin g.accepted.lawful.edges_in_order is run in
+      let image : new.image.bytes ≡ s.bytes = ap (λ m. m.image.bytes) made.after ∙ g.run_so_far.on.image in
       subst (λ (k : ℕ). state_at s k ≡ Some goes_on.next) next_is
       (subst (λ (b : List ℕ). run_at (joint_board s.edges s.events) b (joint_start_of s.held) new.steps ≡ Some goes_on.next)
       image goes_on.in_run.run)
@@ -76,18 +76,18 @@ stepped_now u s old new before g is run some few ahead = record {
   looked = looked_on u s old new.joint new.seen g is run before;
 }
 
--- behind a later step the probes have looked
-pub looks_behind : (k : ℕ) (c : Course) (before : List Watch) → k < c.joint.steps → looked_behind k c before ≡ looked_now c before
-looks_behind k c before later =
+-- after a later step the probes have looked
+pub looks_after : (k : ℕ) (c : Course) (before : List Watch) → k < c.joint.steps → looked_since k c before ≡ looked_now c before
+looks_after k c before later =
     let off : (c.joint.steps == k) ≡ false = grind (arith, nat_tests, later) in
     ap (λ b. if b then before else looked_now c before) off
 
-pub looks_none : (k : ℕ) (c : Course) (before : List Watch) → c.joint.steps ≡ k → looked_behind k c before ≡ before
+pub looks_none : (k : ℕ) (c : Course) (before : List Watch) → c.joint.steps ≡ k → looked_since k c before ≡ before
 looks_none k c before same =
     let on : (c.joint.steps == k) ≡ true = grind (arith, nat_tests, same) in
     ap (λ b. if b then before else looked_now c before) on
 
-pub looks_since : (k : ℕ) (c : Course) (before : List Watch) → (c.joint.steps ≡ k → ⊥) → looked_behind k c before ≡ looked_now c before
+pub looks_since : (k : ℕ) (c : Course) (before : List Watch) → (c.joint.steps ≡ k → ⊥) → looked_since k c before ≡ looked_now c before
 looks_since k c before other =
     let off : (c.joint.steps == k) ≡ false = grind (arith, nat_tests, other) in
     ap (λ b. if b then before else looked_now c before) off
@@ -104,43 +104,43 @@ module _ (u : Halt) (s : Story) (old new : Course) (before after : List Watch) (
   pub on_with : (ahead : Ahead) → IsFed s.edges s.events ahead → ahead.made ≡ old.ahead.made + new.seen.edges
       → ahead.done ≡ old.ahead.done + new.seen.host → IsOnCourse s (with_ahead ahead)
   on_with ahead fed made done =
-      on_again s old new.joint new.seen g.standing.on g.accepted.lawful.thin g.accepted.lawful.edges_in_order t.step t.run
+      on_again s old new.joint new.seen g.run_so_far.on g.accepted.lawful.thin g.accepted.lawful.edges_in_order t.step t.run
       new.fill ahead t.some t.few fed made done
 
   pub next_step : new.joint.steps ≡ suc old.joint.steps
-  next_step = one_more_step s old new.joint new.seen g.standing.on g.accepted.lawful.thin g.accepted.lawful.edges_in_order t.step t.run
+  next_step = one_more_step s old new.joint new.seen g.run_so_far.on g.accepted.lawful.thin g.accepted.lawful.edges_in_order t.step t.run
 
   pub next_cycle : (old.joint.cycle < new.joint.cycle) × (new.joint.cycle < old.joint.cycle + 3)
   next_cycle =
-      let a = cycle_more s old new.joint new.seen g.standing.on g.accepted.lawful.thin g.accepted.lawful.edges_in_order t.step t.run in
+      let a = cycle_more s old new.joint new.seen g.run_so_far.on g.accepted.lawful.thin g.accepted.lawful.edges_in_order t.step t.run in
       let b = t.some in
       let c = t.few in
       (omega (arith, a, b), omega (arith, a, c))
 
   pub says : IsSaid s old.joint.steps new.seen.items.items
-  says = is_said s old new.joint new.seen g.standing.on g.accepted.lawful.thin g.accepted.lawful.edges_in_order t.step t.run
+  says = is_said s old new.joint new.seen g.run_so_far.on g.accepted.lawful.thin g.accepted.lawful.edges_in_order t.step t.run
 
   -- the run goes on to the next state
   pub goes_on_to : GoesOnTo u.ending s new.joint.steps
-  goes_on_to = subst (GoesOnTo u.ending s) (sym next_step) (g.standing.goes_on, g.standing.on.world, here s old g.standing.on, g.not_over)
+  goes_on_to = subst (GoesOnTo u.ending s) (sym next_step) (g.run_so_far.goes_on, g.run_so_far.on.world, here s old g.run_so_far.on, g.not_over)
 
-  -- what it says stands behind the log
+  -- what it says is after the log
   pub log_more : (v : World Beside)
       → state_at s new.joint.steps ≡ Some v → log_at s new.joint.steps ≡ log_at s old.joint.steps ++ new.seen.items.items
   log_more v there =
       let next : state_at s (suc old.joint.steps) ≡ Some v = ap (state_at s) (sym next_step) ∙ there in
-      let first = here s old g.standing.on in
-      ap logged there ∙ says g.standing.on.world v first next
+      let first = here s old g.run_so_far.on in
+      ap logged there ∙ says g.run_so_far.on.world v first next
       ∙ ap (λ (o : Option (World Beside)). logged o ++ new.seen.items.items) (sym first)
 
   -- where it took no event and said nothing, and must not halt, the run goes on
   module _ (edges : new.seen.edges ≡ 0) (host : new.seen.host ≡ 0) (items : new.seen.items.items ≡ [])
-      (open_still : TellsOver u.ending new.joint u.stop false) (tick : MeetsNoTick u.ending new.joint)
+      (open_still : DecidesOver u.ending new.joint u.stop false) (tick : MeetsNoTick u.ending new.joint)
       (levels : u.wires ≡ true → (sight_of new.joint).lines ≡ (sight_of old.joint).lines) where
     on_now : IsOnCourse s new
     on_now =
         subst (λ (a : Ahead). IsOnCourse s (with_ahead a)) (sym t.ahead)
-        (on_with old.ahead g.standing.on.fed (omega (arith, edges)) (omega (arith, host)))
+        (on_with old.ahead g.run_so_far.on.fed (omega (arith, edges)) (omega (arith, host)))
 
     there_now : state_at s new.joint.steps ≡ Some on_now.world
     there_now = here s new on_now
@@ -150,7 +150,7 @@ module _ (u : Halt) (s : Story) (old new : Course) (before after : List Watch) (
       stop = g.stop;
       accepted = g.accepted;
       timely = g.timely;
-      standing = record { on = on_now; goes_on = goes_on_to };
+      run_so_far = record { on = on_now; goes_on = goes_on_to };
       not_over = sym (open_still s on_now.world g.stop (sym on_now.in_run.mcu) (sym on_now.in_run.cycle));
     }
 
@@ -169,7 +169,7 @@ module _ (u : Halt) (s : Story) (old new : Course) (before after : List Watch) (
           | false ↦ λ f.
               let more = next_step in
               let same : j ≡ new.joint.steps = grind (arith, nat_tests, f, m, more) in
-              ap (lines_at s) same ∙ lines_here s new on_now ∙ ap (λ (v : Lines). Some v) (levels on) ∙ sym (lines_here s old g.standing.on)
+              ap (lines_at s) same ∙ lines_here s new on_now ∙ ap (λ (v : Lines). Some v) (levels on) ∙ sym (lines_here s old g.run_so_far.on)
         ] refl
 
     pub one_onward : IsOnward u s old new before after
@@ -221,5 +221,5 @@ pub levels_kept : (u : Halt) (s : Story) (p q : Course) (first second : List Wat
 levels_kept u s p q first second lines g a level on =
     let later = a.quiet.later in
     same_lines (sight_of q.joint).lines (sight_of p.joint).lines
-    (sym (lines_here s q a.going.standing.on) ∙ a.quiet.levels on q.joint.steps later (omega arith) ∙ lines_here s p g.standing.on)
+    (sym (lines_here s q a.going.run_so_far.on) ∙ a.quiet.levels on q.joint.steps later (omega arith) ∙ lines_here s p g.run_so_far.on)
     ∙ level on

@@ -1,4 +1,4 @@
--- A run at power-on is ready to be told.
+-- A run at power-on is ready to be reported.
 use Rattle.std.proofs.Common.{◌≡◌, ℕ, List, sym, subst}
 use Rattle.joint_feed.specs.Ahead.{HasTaken}
 use Rattle.joint_feed.specs.Course.{IsOnCourse}
@@ -24,7 +24,7 @@ ready_at_start e fill bytes h fed c on same steps taken accepted timely =
     record {
       accepted = subst IsAccepted (sym same) accepted;
       timely = subst (λ (s : Story). IsTimely e s) to timely;
-      standing = record {
+      run_so_far = record {
         on = subst (λ (s : Story). IsOnCourse s c) to on;
         goes_on = subst (GoesOnTo e (filled_story fill c.joint.image.bytes fed.history)) (sym steps) tt;
       };

@@ -1,11 +1,11 @@
--- What a joint step says stands behind what was said before, with the step's cycles.
+-- What a joint step says is after what was said before, with the step's cycles.
 use Rattle.std.proofs.Common.{◌≡◌, ◌≤◌, ℕ, zero, suc, ◌+◌, true, false, List, [], ◌∷◌, ◌++◌, Some, None, refl, ap, sym, subst, ◌∙◌, arith}
 use Rattle.std.specs.Prelude.{if◌then◌else◌, ◌==◌, slice_get}
 use Rattle.std.specs.declared.option.Option.{Option}
 use Rattle.std.proofs.lemmas.List.{append-nil, append_assoc}
-use Rattle.board_lines.specs.declared.event.Edge.{Edge}
-use Rattle.board_lines.specs.declared.event.HostEvent.{HostEvent}
-use Rattle.board_lines.specs.declared.lines.Lines.{Lines}
+use Rattle.board_terms.specs.declared.event.Edge.{Edge}
+use Rattle.board_terms.specs.declared.event.HostEvent.{HostEvent}
+use Rattle.board_terms.specs.declared.lines.Lines.{Lines}
 use Rattle.ctl_wire.specs.Wire.{is_breakable}
 use Rattle.ctl_wire.specs.declared.Wire.{Wire}
 use Rattle.host_turn.specs.declared.stamped.Stamped.{Stamped}
@@ -18,10 +18,10 @@ use Rattle.joint_run.specs.Joint.{Beside, joint_board, joint_cycle, latch_of, li
 use Rattle.joint_run.specs.Run.{World, after_step, joint_step, seen, after_cycles}
 use Rattle.story_run.specs.Running.{AreIn}
 
--- what was said in cycles from one on and before another is put behind a log
+-- what was said in cycles from one on and before another is put after a log
 pub record Said (from to : ℕ) (before after : List Stamped) : Type 0 where
   pub more : List Stamped
-  pub behind : after ≡ before ++ more
+  pub afterwards : after ≡ before ++ more
   pub each : AreIn from to more
 
 all_in_more : (a b c : ℕ) (xs : List Stamped) → b ≤ c → AreIn a b xs → AreIn a c xs
@@ -39,7 +39,7 @@ all_in_both a b (x ∷ xs) ys h k = (h.0, all_in_both a b xs ys h.1 k)
 pub said_then : (a b c : ℕ) (x y z : List Stamped) → a ≤ b → b ≤ c → Said a b x y → Said b c y z → Said a c x z
 said_then a b c x y z l m h k = record {
   more = h.more ++ k.more;
-  behind = k.behind ∙ ap (λ v. v ++ k.more) h.behind ∙ append_assoc x h.more k.more;
+  afterwards = k.afterwards ∙ ap (λ v. v ++ k.more) h.afterwards ∙ append_assoc x h.more k.more;
   each = all_in_both a c h.more k.more (all_in_more a b c h.more m h.each) (all_in_less a b c k.more l k.each);
 }
 
@@ -69,7 +69,7 @@ cycle_log events p2 now s =
     let from_look : l.side.log ≡ s.pc.side.log ++ lights_said now s.shown (lights_of p2) = look_log now (wires (latch_of p2) lit) lit in
     record {
       more = lights_said now s.shown (lights_of p2) ++ stamped now c.items;
-      behind = ap (λ v. v ++ stamped now c.items) from_look
+      afterwards = ap (λ v. v ++ stamped now c.items) from_look
           ∙ append_assoc s.pc.side.log (lights_said now s.shown (lights_of p2)) (stamped now c.items);
       each = all_in_both now (suc now) (lights_said now s.shown (lights_of p2)) (stamped now c.items)
           (lights_in now s.shown (lights_of p2)) (stamped_in now c.items);
@@ -77,7 +77,7 @@ cycle_log events p2 now s =
 
 cycles_log : (events : List HostEvent) (p2 n now : ℕ) (s : Beside)
     → Said now (now + n) (log_of s) (log_of (after_cycles n now (joint_cycle events p2) s))
-cycles_log events p2 zero now s = record { more = []; behind = sym (append-nil (log_of s)); each = tt }
+cycles_log events p2 zero now s = record { more = []; afterwards = sym (append-nil (log_of s)); each = tt }
 cycles_log events p2 (suc n) now s =
     let first = cycle_log events p2 now s in
     let rest = cycles_log events p2 n (now + 1) (joint_cycle events p2 now s) in

@@ -80,7 +80,7 @@ module _ (s : Story) where
   pub before : (k : ℕ) (v : World Beside) → state_at s (suc k) ≡ Some v → (w : World Beside) × (state_at s k ≡ Some w)
   before k v h = before_some k v (state_at s k) refl h
 
-  -- the state behind one that is before another
+  -- the state after one that is before another
   pub reached_by : (m j : ℕ) (v : World Beside) → state_at s m ≡ Some v → j < m → (w : World Beside) × (state_at s (suc j) ≡ Some w)
   reached_by zero j v h l = absurd (omega (arith, l))
   reached_by (suc m) j v h l =
@@ -89,7 +89,7 @@ module _ (s : Story) where
         | false ↦ λ f. let e : suc m ≡ suc j = grind (arith, nat_tests, f, l) in (v, ap (state_at s) (sym e) ∙ h)
       ] refl
 
-  -- between two states the cycle doesn't fall, and what is said then is behind what was said before
+  -- between two states the cycle doesn't fall, and what is said then is after what was said before
   pub said_between : (k d : ℕ) (w v : World Beside) → state_at s k ≡ Some w → state_at s (d + k) ≡ Some v
       → (w.cycle ≤ v.cycle) × Said w.cycle v.cycle (log_of w.board) (log_of v.board)
   said_between k zero w v h g =
@@ -97,7 +97,7 @@ module _ (s : Story) where
       let e : w ≡ v = same_state (sym h ∙ ap (state_at s) (sym z) ∙ g) in
       let c : w.cycle ≡ v.cycle = ap (λ (u : World Beside). u.cycle) e in (
         omega (arith, c),
-        record { more = []; behind = sym (ap (λ (u : World Beside). log_of u.board) e) ∙ sym (append-nil (log_of w.board)); each = tt },
+        record { more = []; afterwards = sym (ap (λ (u : World Beside). log_of u.board) e) ∙ sym (append-nil (log_of w.board)); each = tt },
       )
   said_between k (suc d) w v h g =
       let n : suc d + k ≡ suc (d + k) = omega arith in
@@ -119,13 +119,13 @@ module _ (s : Story) where
       let on = before k w h in
       let so_far : Said 0 on.0.cycle [] (log_of on.0.board) = record {
         more = log_of on.0.board;
-        behind = refl;
+        afterwards = refl;
         each = said_by k on.0 on.1;
       } in
       let grown = (step_later k on.0 w on.1 h).0 in
       let both = said_then 0 on.0.cycle w.cycle [] (log_of on.0.board) (log_of w.board) (omega arith)
       (omega (arith, grown)) so_far (step_said k on.0 w on.1 h) in
-      subst (λ (v : List Stamped). AreIn 0 w.cycle v) (sym both.behind) both.each
+      subst (λ (v : List Stamped). AreIn 0 w.cycle v) (sym both.afterwards) both.each
 
   -- a state before the present one
   pub on_at : (e : Ending) (k j : ℕ) → GoesOnTo e s k → j < k → (w : World Beside) × (state_at s j ≡ Some w) × (is_over e s w ≡ false)

@@ -1,7 +1,7 @@
 -- What steps that are made at once come to in a run.
 use Rattle.std.proofs.Common.{◌≡◌, ◌<◌, suc, Bool, true, List, Ok, Err, None, Some, sym, ◌∙◌, arith}
 use Rattle.std.specs.declared.option.Option.{Option}
-use Rattle.board_lines.specs.declared.lines.Lines.{Lines}
+use Rattle.board_terms.specs.declared.lines.Lines.{Lines}
 use Rattle.board_probes.specs.Probes.{Watch, sight_of}
 use Rattle.board_probes.specs.Resting.{all_rest}
 use Rattle.joint_feed.proofs.Going.{no_further}
@@ -14,12 +14,12 @@ use Rattle.joint_run.specs.declared.due.Due.{Due}
 use Rattle.joint_run.specs.declared.machine.Machine.{Machine}
 use Rattle.mcs48_core.specs.declared.stepping.Stuck.{Stuck}
 use Rattle.story_run.specs.declared.ending.Halt.{Halt}
-use Rattle.story_run.specs.Gliding.{HasGlided, IsGoing, IsOnward, IsStepped, IsStretch, looked_behind, looked_now}
+use Rattle.story_run.specs.Gliding.{HasGlided, IsGoing, IsOnward, IsStepped, IsStretch, looked_since, looked_now}
 use Rattle.story_run.specs.Stretching.{HasMade, HasMadeSome}
 use Rattle.story_run.proofs.Dozing.{HasDozed, dozes_on, held_up, wakes, wakes_onward}
 use Rattle.story_run.proofs.Quietly.{levels_kept, next_cycle, stepped_now}
 use Rattle.story_run.proofs.Slept.{course_at, slept_on, HasSlept}
-use Rattle.story_run.proofs.Told.{glided_now, held_now, onward_now}
+use Rattle.story_run.proofs.Reported.{glided_now, held_now, onward_now}
 
 -- where the processor is stuck nothing has changed
 stuck_as : (due : Due) (old new : Machine) (o : Option (World Beside)) (stuck : Stuck) → IsJointStep due old o (Err stuck) new → new ≡ old
@@ -33,10 +33,10 @@ module _ (u : Halt) (s : Story) (old p new : Course) (before : List Watch) (d : 
     before_stuck = slept_on u s old p before d clk level new (Err stuck) rest at_rest made
 
     abbrev here : Course
-    here = course_at p made.gone.last before_stuck.told
+    here = course_at p made.gone.last before_stuck.reported
 
     -- the processor is stuck behind them
-    pub stretch_stuck : IsStretch u s old before (Err stuck) new (looked_behind old.joint.steps new before)
+    pub stretch_stuck : IsStretch u s old before (Err stuck) new (looked_since old.joint.steps new before)
     stretch_stuck =
         let o = before_stuck.dozed in
         let still = stuck_as p.ahead.due made.gone.last new.joint _ stuck made.gone.step in
@@ -46,14 +46,14 @@ module _ (u : Halt) (s : Story) (old p new : Course) (before : List Watch) (d : 
     pub none_there : state_at s (suc made.gone.last.steps) ≡ None
     none_there =
         let g = before_stuck.dozed.onward.going in
-        no_further s here new.joint stuck g.standing.on g.accepted.lawful.thin g.accepted.lawful.edges_in_order made.gone.run
+        no_further s here new.joint stuck g.run_so_far.on g.accepted.lawful.thin g.accepted.lawful.edges_in_order made.gone.run
 
   module _ (lines : Lines) (answer : Bool) (made : HasMadeSome u lines rest p answer new) where
     before_last : HasSlept u s old p before made.made.gone.last
     before_last = slept_on u s old p before d clk level new (Ok new.seen) rest at_rest made.made
 
     abbrev last : Course
-    last = course_at p made.made.gone.last before_last.told
+    last = course_at p made.made.gone.last before_last.reported
 
     abbrev dozed : HasDozed u s old last before
     dozed = before_last.dozed
@@ -73,17 +73,17 @@ module _ (u : Halt) (s : Story) (old p new : Course) (before : List Watch) (d : 
         let more = last_later in
         omega (arith, so_far, more)
 
-    pub stretch_told : HasGlided u s old new before (looked_behind old.joint.steps new before)
-    stretch_told = wakes u s old last new before dozed (glided_now u s last new dozed.between going stepped)
+    pub stretch_reported : HasGlided u s old new before (looked_since old.joint.steps new before)
+    stretch_reported = wakes u s old last new before dozed (glided_now u s last new dozed.between going stepped)
 
     module _ (g : IsGoing u s old) (levels : u.wires ≡ true → (sight_of old.joint).lines ≡ lines) (follows : answer ≡ true) where
-      one_on : IsOnward u s last new dozed.between (looked_behind last.joint.steps new dozed.between)
+      one_on : IsOnward u s last new dozed.between (looked_since last.joint.steps new dozed.between)
       one_on =
           let can = made.follows follows in
           onward_now u s last new dozed.between going stepped can.edges can.host can.items can.before_end can.no_tick
           (λ sampled. can.levels sampled ∙ sym (levels_kept u s old last before dozed.between lines g dozed.onward levels sampled))
 
-      pub stretch_onward : IsOnward u s old new before (looked_behind old.joint.steps new before)
+      pub stretch_onward : IsOnward u s old new before (looked_since old.joint.steps new before)
       stretch_onward = wakes_onward u s old last new before dozed one_on last_later
 
       pub stretch_dozed : all_rest clk before ≡ true → (sight_of new.joint).lines.clk ≡ clk → HasDozed u s old new before

@@ -3,7 +3,7 @@ use Rattle.std.proofs.Common.{◌≡◌, ◌≤◌, ◌<◌, ℕ, zero, suc, ◌
 use Rattle.std.proofs.lemmas.List.{append-nil, append_assoc}
 use Rattle.io_edge.proofs.Pieces.{AreLines, broken_before, said_then_broken}
 use Rattle.io_edge.specs.Said.{IsBrokenOff, Shown}
-use Rattle.story_run.specs.Telling.{IsBrokenBehind}
+use Rattle.story_run.specs.Reports.{IsBrokenAfter}
 
 -- the text after the first k steps, for each k up to `most`, and what the step after them adds
 module _ (text added : ℕ → List ℕ) (most : ℕ) (more : (k : ℕ) → k < most → text (suc k) ≡ text k ++ added k) where
@@ -28,7 +28,7 @@ module _ (text added : ℕ → List ℕ) (most : ℕ) (more : (k : ℕ) → k < 
 
   -- a put that fails in what a step adds breaks off the text of all steps
   pub broken_in_all : ((k : ℕ) → AreLines (text k)) → (k : ℕ) → k < most → (before after : Shown)
-      → IsBrokenBehind before after (text k) (added k) → IsBrokenOff before after (text most)
+      → IsBrokenAfter before after (text k) (added k) → IsBrokenOff before after (text most)
   broken_in_all are_lines k l before after h =
       let part : IsBrokenOff before after (text (suc k)) =
       subst (λ v. IsBrokenOff before after v) (sym (more k l))

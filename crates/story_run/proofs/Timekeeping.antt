@@ -95,8 +95,8 @@ near_end Stamp s k w time on there open_now = let l : w.cycle < 4096 + s.stop = 
 
 pub soon : (u : Halt) (s : Story) (c : Course) → IsGoing u s c → c.joint.cycle < 2 ^ 30
 soon u s c g =
-    let near = near_end u.ending s c.joint.steps g.standing.on.world g.timely g.standing.goes_on (here s c g.standing.on) g.not_over in
-    let now = g.standing.on.in_run.cycle in
+    let near = near_end u.ending s c.joint.steps g.run_so_far.on.world g.timely g.run_so_far.goes_on (here s c g.run_so_far.on) g.not_over in
+    let now = g.run_so_far.on.in_run.cycle in
     let range = g.accepted.end_in_range in
     omega (arith, near, now, range)
 
@@ -107,8 +107,8 @@ before_end Stamp s w is off = grind (arith, nat_tests, off)
 
 pub before_stamp : (u : Halt) (s : Story) (c : Course) → IsGoing u s c → u.ending ≡ Stamp → c.joint.cycle < 4096 + u.stop
 before_stamp u s c g is =
-    let before = before_end u.ending s g.standing.on.world is g.not_over in
-    let now = g.standing.on.in_run.cycle in
+    let before = before_end u.ending s g.run_so_far.on.world is g.not_over in
+    let now = g.run_so_far.on.in_run.cycle in
     let stop = g.stop in
     omega (arith, before, now, stop)
 

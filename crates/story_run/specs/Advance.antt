@@ -1,4 +1,4 @@
--- The run so far, and some steps more of which the last has something to be told.
+-- The run so far, and some steps more of which the last has something to be reported.
 use Rattle.std.specs.Prelude.{◌≡◌, ◌<◌, ◌^◌, ℕ, suc, Bool, List, ◌++◌, Some, Ok, Err}
 use Rattle.std.specs.declared.result.Result.{Result}
 use Rattle.board_probes.specs.Looks.{looks}
@@ -11,16 +11,16 @@ use Rattle.mcs48_core.specs.declared.stepping.Stuck.{Stuck}
 use Rattle.story_run.specs.declared.ending.End.{End}
 use Rattle.story_run.specs.declared.ending.Ending.{Ending}
 use Rattle.story_run.specs.declared.ending.Halt.{Halt}
-use Rattle.story_run.specs.Gliding.{IsQuiet, IsStanding, IsTimely}
+use Rattle.story_run.specs.Gliding.{IsSilent, HasRunSoFar, IsTimely}
 use Rattle.story_run.specs.Running.{AreIn, EndsAt, IsStuckAt, log_at}
 
--- the course is after a step that may have something to be told, and of those before it, back to step k, there is
+-- the course is after a step that may have something to be reported, and of those before it, back to step k, there is
 -- nothing; what this one said is after the log, in later cycles than that of the state after step k
-pub record IsBehind (e : Ending) (wires : Bool) (s : Story) (k : ℕ) (c : Course) : Type 0 where
+pub record IsAtReport (e : Ending) (wires : Bool) (s : Story) (k : ℕ) (c : Course) : Type 0 where
   pub timely : IsTimely e s
-  pub standing : IsStanding e s c
+  pub run_so_far : HasRunSoFar e s c
   pub last : ℕ
-  pub quiet : IsQuiet e wires s k last
+  pub quiet : IsSilent e wires s k last
   pub steps : c.joint.steps ≡ suc last
   pub said : log_at s c.joint.steps ≡ log_at s last ++ c.seen.items.items
   pub from : World Beside
@@ -32,16 +32,16 @@ pub record IsBehind (e : Ending) (wires : Bool) (s : Story) (k : ℕ) (c : Cours
 -- so it is after some steps more, and the probes have looked at the states that they led to
 pub record HasAdvanced (u : Halt) (s : Story) (old : Course) (before : List Watch) (new : Course) (after : List Watch)
     : Type 0 where
-  pub behind : IsBehind u.ending u.wires s old.joint.steps new
+  pub afterwards : IsAtReport u.ending u.wires s old.joint.steps new
   pub later : old.joint.cycle < new.joint.cycle
   pub looked : (first : List Watch) → before ≡ looks s old.joint.steps first → after ≡ looks s new.joint.steps first
 
--- of none of the steps there is anything to be told, and the run is stuck after them
+-- of none of the steps there is anything to be reported, and the run is stuck after them
 pub record IsStuckNow (u : Halt) (s : Story) (old : Course) (before : List Watch) (stuck : Stuck) (new : Course)
     (after : List Watch) : Type 0 where
-  pub standing : IsStanding u.ending s new
-  pub quiet : IsQuiet u.ending u.wires s old.joint.steps new.joint.steps
-  pub stuck_so : IsStuckAt u.ending s new.joint.steps standing.on.world stuck
+  pub run_so_far : HasRunSoFar u.ending s new
+  pub quiet : IsSilent u.ending u.wires s old.joint.steps new.joint.steps
+  pub stuck_so : IsStuckAt u.ending s new.joint.steps run_so_far.on.world stuck
   pub looked : (first : List Watch) → before ≡ looks s old.joint.steps first → after ≡ looks s new.joint.steps first
 
 abbrev pub IsAdvanced : Halt → Story → Course → List Watch → Result (Unit {0}) Stuck → Course → List Watch → Type 0
@@ -50,5 +50,5 @@ IsAdvanced u s old before (Err stuck) new after = IsStuckNow u s old before stuc
 
 -- the machine is at a state at which the run ends
 pub record IsEnding (e : Ending) (s : Story) (c : Course) (end : End) : Type 0 where
-  pub standing : IsStanding e s c
-  pub ends : EndsAt e s c.joint.steps standing.on.world end
+  pub run_so_far : HasRunSoFar e s c
+  pub ends : EndsAt e s c.joint.steps run_so_far.on.world end

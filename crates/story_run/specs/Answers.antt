@@ -1,6 +1,6 @@
 -- What is answered of a machine is so of the state that it is at.
 use Rattle.std.specs.Prelude.{◌≡◌, ℕ, Bool, false}
-use Rattle.fw_logic.specs.JointRun.{TellsTick}
+use Rattle.fw_logic.specs.JointRun.{DecidesTick}
 use Rattle.joint_feed.specs.Stories.{Story}
 use Rattle.joint_run.specs.Joint.{Beside}
 use Rattle.joint_run.specs.Run.{World}
@@ -10,11 +10,11 @@ use Rattle.story_run.specs.declared.ending.Ending.TheVariants.{TickStart, Stamp}
 use Rattle.story_run.specs.Running.{is_over}
 
 -- whether a run with this end stamp is over there
-abbrev pub TellsOver : Ending → Machine → ℕ → Bool → Type 0
-TellsOver e m stop answer =
+abbrev pub DecidesOver : Ending → Machine → ℕ → Bool → Type 0
+DecidesOver e m stop answer =
     (s : Story) (w : World Beside) → s.stop ≡ stop → w.cpu ≡ m.mcu → w.cycle ≡ m.cycle → answer ≡ is_over e s w
 
 -- if the run is to end at a tick start, no tick starts there
 abbrev pub MeetsNoTick : Ending → Machine → Type 0
-MeetsNoTick TickStart m = TellsTick m false
+MeetsNoTick TickStart m = DecidesTick m false
 MeetsNoTick Stamp m = Unit {0}

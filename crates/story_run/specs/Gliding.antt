@@ -1,9 +1,9 @@
--- Steps that are made one after another as long as nothing of them has to be told.
+-- Steps that are made one after another as long as nothing of them has to be reported.
 use Rattle.std.specs.Prelude.{◌≡◌, ◌≤◌, ◌<◌, ℕ, suc, Bool, true, false, ◌==◌, List, map, Some, None, Ok, Err}
 use Rattle.std.specs.Prelude.{if◌then◌else◌}
 use Rattle.std.specs.declared.option.Option.{Option}
 use Rattle.std.specs.declared.result.Result.{Result}
-use Rattle.board_lines.specs.declared.lines.Lines.{Lines}
+use Rattle.board_terms.specs.declared.lines.Lines.{Lines}
 use Rattle.board_probes.specs.Looks.{looked_at, looks}
 use Rattle.board_probes.specs.Probes.{Watch, looked, sight_in, sight_of}
 use Rattle.fw_logic.specs.JointRun.{KeepsTimeFrom}
@@ -27,13 +27,13 @@ use Rattle.story_run.specs.Starts.{starts_among}
 abbrev pub history_of : Story → KeyHistory
 history_of s = record { edges = s.edges; host = s.events; end = s.stop }
 
--- a program whose run is to end at a tick start keeps its time, so it comes to one; any program comes to its end stamp
+-- a program whose run is to end at a tick start keeps its time, so it comes to one; any program reaches its end stamp
 abbrev pub IsTimely : Ending → Story → Type 0
 IsTimely TickStart s = KeepsTimeFrom (joint_start_of s.held) s.bytes s.edges s.events
 IsTimely Stamp s = Unit {0}
 
 -- the machine is at the run's state after as many steps, and the run goes on at each state before it
-pub record IsStanding (e : Ending) (s : Story) (c : Course) : Type 0 where
+pub record HasRunSoFar (e : Ending) (s : Story) (c : Course) : Type 0 where
   pub on : IsOnCourse s c
   pub goes_on : GoesOnTo e s c.joint.steps
 
@@ -42,8 +42,8 @@ pub record IsGoing (u : Halt) (s : Story) (c : Course) : Type 0 where
   pub stop : s.stop ≡ u.stop
   pub accepted : IsAccepted (history_of s)
   pub timely : IsTimely u.ending s
-  pub standing : IsStanding u.ending s c
-  pub not_over : is_over u.ending s standing.on.world ≡ false
+  pub run_so_far : HasRunSoFar u.ending s c
+  pub not_over : is_over u.ending s run_so_far.on.world ≡ false
 
 -- the wires at a state, if there is one
 abbrev pub lines_in : Option (World Beside) → Option Lines
@@ -58,9 +58,9 @@ abbrev pub AreSameStarts : Ending → Story → ℕ → ℕ → Type 0
 AreSameStarts TickStart s k n = starts_among s (suc n) ≡ starts_among s (suc k)
 AreSameStarts Stamp s k n = Unit {0}
 
--- nothing is to be told of the steps after step k up to step n: they said nothing and led to no tick start; and if
+-- nothing is to be reported of the steps after step k up to step n: they said nothing and led to no tick start; and if
 -- the wires are sampled, these kept their levels
-pub record IsQuiet (e : Ending) (wires : Bool) (s : Story) (k n : ℕ) : Type 0 where
+pub record IsSilent (e : Ending) (wires : Bool) (s : Story) (k n : ℕ) : Type 0 where
   pub later : k ≤ n
   pub log : log_at s n ≡ log_at s k
   pub starts : AreSameStarts e s k n
@@ -70,8 +70,8 @@ pub record IsQuiet (e : Ending) (wires : Bool) (s : Story) (k n : ℕ) : Type 0 
 abbrev pub looked_now : Course → List Watch → List Watch
 looked_now c probes = map (looked c.joint.steps (sight_of c.joint)) probes
 
-abbrev pub looked_behind : ℕ → Course → List Watch → List Watch
-looked_behind k c probes = if c.joint.steps == k then probes else looked_now c probes
+abbrev pub looked_since : ℕ → Course → List Watch → List Watch
+looked_since k c probes = if c.joint.steps == k then probes else looked_now c probes
 
 -- a step was made, and the probes have looked at the state that it led to; what it took of the events isn't counted yet
 pub record IsStepped (s : Story) (old new : Course) (before after : List Watch) : Type 0 where
@@ -82,13 +82,13 @@ pub record IsStepped (s : Story) (old new : Course) (before after : List Watch) 
   pub ahead : new.ahead ≡ old.ahead
   pub looked : after ≡ looked_at (suc old.joint.steps) (state_at s (suc old.joint.steps)) before
 
--- steps were made, none of which took an event, and of which nothing is to be told; the probes are as after a look at
+-- steps were made, none of which took an event, and of which nothing is to be reported; the probes are as after a look at
 -- each
 pub record IsOnward (u : Halt) (s : Story) (old new : Course) (before after : List Watch) : Type 0 where
   pub going : IsGoing u s new
   pub ahead : new.ahead ≡ old.ahead
   pub cycle : old.joint.cycle ≤ new.joint.cycle
-  pub quiet : IsQuiet u.ending u.wires s old.joint.steps new.joint.steps
+  pub quiet : IsSilent u.ending u.wires s old.joint.steps new.joint.steps
   pub looked : (first : List Watch) → before ≡ looks s old.joint.steps first → after ≡ looks s new.joint.steps first
 
 -- steps of this kind were made, and then one of any kind

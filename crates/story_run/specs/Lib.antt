@@ -5,6 +5,6 @@ pub mod Gliding
 pub mod Stretching
 pub mod Ready
 pub mod Advance
-pub mod Telling
+pub mod Reports
 pub mod Looking
 pub mod Broken

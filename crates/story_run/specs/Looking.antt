@@ -14,7 +14,7 @@ pub record HaveLookedAtSome (e : Ending) (s : Story) (before after : List Watch)
   pub goes_on : GoesOnTo e s steps
   pub looked : after ≡ looks s steps before
 
--- the telling of a run broke off at the step after the first `last` ones, which the run makes; the probes have looked
+-- the report of a run broke off at the step after the first `last` ones, which the run makes; the probes have looked
 -- at the states up to the one that it led to, and at no other
 pub record BrokeOff (e : Ending) (s : Story) (broken : ℕ → Type 0) (before after : List Watch) : Type 0 where
   pub last : ℕ

@@ -44,7 +44,7 @@ EndsAt e s k w Over = is_over e s w ≡ true
 EndsAt e s k w (Stuck place) = IsStuckAt e s k w place
 
 -- the run is over after the first k steps, and goes on at each state before
-pub record IsOverBehind (e : Ending) (s : Story) (k : ℕ) : Type 0 where
+pub record IsOverAfter (e : Ending) (s : Story) (k : ℕ) : Type 0 where
   pub goes_on : GoesOnTo e s k
   pub world : World Beside
   pub reached : state_at s k ≡ Some world

@@ -1,17 +1,17 @@
 -- Steps that are made at once: quiet ones, and then one of any kind.
 use Rattle.std.specs.Prelude.{◌≡◌, ◌<◌, ℕ, ◌+◌, Bool, true, false, [], Ok, Err}
 use Rattle.std.specs.declared.result.Result.{Result}
-use Rattle.board_lines.specs.declared.lines.Lines.{Lines}
+use Rattle.board_terms.specs.declared.lines.Lines.{Lines}
 use Rattle.board_probes.specs.Probes.{sight_of}
 use Rattle.fw_kernel.specs.declared.labels.TheConstants.{TICK}
 use Rattle.joint_feed.specs.declared.course.Course.{Course}
-use Rattle.joint_glide.specs.Quiet.{HasGone}
+use Rattle.joint_glide.specs.Uneventful.{HasGone}
 use Rattle.joint_run.specs.declared.due.Seen.{Seen}
 use Rattle.mcs48_core.specs.declared.stepping.Stuck.{Stuck}
 use Rattle.story_run.specs.declared.ending.Ending.{Ending}
 use Rattle.story_run.specs.declared.ending.Ending.TheVariants.{TickStart, Stamp}
 use Rattle.story_run.specs.declared.ending.Halt.{Halt}
-use Rattle.story_run.specs.Answers.{MeetsNoTick, TellsOver}
+use Rattle.story_run.specs.Answers.{MeetsNoTick, DecidesOver}
 
 -- no step up to a cycle leads to a halt, if none of them leads to a place
 abbrev pub NoneHalts : Ending → (stop place to : ℕ) → Type 0
@@ -34,7 +34,7 @@ pub record CanFollow (u : Halt) (lines : Lines) (c : Course) : Type 0 where
   pub edges : c.seen.edges ≡ 0
   pub host : c.seen.host ≡ 0
   pub items : c.seen.items.items ≡ []
-  pub before_end : TellsOver u.ending c.joint u.stop false
+  pub before_end : DecidesOver u.ending c.joint u.stop false
   pub no_tick : MeetsNoTick u.ending c.joint
   pub levels : u.wires ≡ true → (sight_of c.joint).lines ≡ lines
 

@@ -26,12 +26,12 @@ pub fn advance<F: Feed, const SITE: u8>(
     halt: Halt,
     probes: &mut Vec<Box<dyn Probe>>,
 ) -> Result<(), Stuck>
-    requires going { IsGoing halt (filled_story fill course.old.joint.image.bytes (F.told feed.old).history) course.old }
-    requires taken { HasTaken (F.told feed.old) course.old.ahead }
-    ensures advanced { IsAdvanced halt (filled_story fill course.old.joint.image.bytes (F.told feed.old).history) course.old
+    requires going { IsGoing halt (filled_story fill course.old.joint.image.bytes (F.feeds feed.old).history) course.old }
+    requires taken { HasTaken (F.feeds feed.old) course.old.ahead }
+    ensures advanced { IsAdvanced halt (filled_story fill course.old.joint.image.bytes (F.feeds feed.old).history) course.old
         (map (λ b. watch b) probes.old.items) result course.new (map (λ b. watch b) probes.new.items) }
-    ensures taken { HasTaken (F.told feed.new) course.new.ahead }
-    ensures history { (F.told feed.new).history ≡ (F.told feed.old).history }
+    ensures taken { HasTaken (F.feeds feed.new) course.new.ahead }
+    ensures history { (F.feeds feed.new).history ≡ (F.feeds feed.old).history }
 {
     match glide::<SITE>(course, halt, probes) {
         Err(stuck) => Err(stuck),

@@ -19,24 +19,24 @@ use std::alloc::{AllocError, Global};
 
 /// The run of a layout's compiled image under the history of a feed of which nothing was taken and which is accepted for
 /// this layout, at power-on, with all the memory that it takes: the buffer of INT 09h. The image keeps its time, as the
-/// caller knows by a law; so the run may be told up to a tick start.
+/// caller knows by a law; so the run may be reported up to a tick start.
 pub fn begin_run<F: Feed>(
     alloc: Global,
     layout: &Layout,
     feed: &mut F,
 ) -> Result<Course, AllocError>
-    requires no_edge { (F.told feed.old).edges ≡ 0 }
-    requires no_host { (F.told feed.old).host ≡ 0 }
-    requires accepted { IsAcceptedFor layout.now (F.told feed.old).history }
+    requires no_edge { (F.feeds feed.old).edges ≡ 0 }
+    requires no_host { (F.feeds feed.old).host ≡ 0 }
+    requires accepted { IsAcceptedFor layout.now (F.feeds feed.old).history }
     requires timely { IsKeyLayout layout.now
-        → KeepsTime (image_of layout.now) (F.told feed.old).history.edges (F.told feed.old).history.host }
+        → KeepsTime (image_of layout.now) (F.feeds feed.old).history.edges (F.feeds feed.old).history.host }
     ensures layout { IsKeyLayout layout.now }
-    ensures history { (F.told feed.new).history ≡ (F.told feed.old).history }
-    ensures accepted { IsAccepted (F.told feed.new).history }
-    ensures run { IfOk result (λ course. story course.joint.image.bytes (F.told feed.new).history
-        ≡ story (image_of layout.now) (F.told feed.old).history) }
-    ensures ready { IfOk result (λ course. IsReady TickStart (story course.joint.image.bytes (F.told feed.new).history)
-        (F.told feed.new) course) }
+    ensures history { (F.feeds feed.new).history ≡ (F.feeds feed.old).history }
+    ensures accepted { IsAccepted (F.feeds feed.new).history }
+    ensures run { IfOk result (λ course. story course.joint.image.bytes (F.feeds feed.new).history
+        ≡ story (image_of layout.now) (F.feeds feed.old).history) }
+    ensures ready { IfOk result (λ course. IsReady TickStart (story course.joint.image.bytes (F.feeds feed.new).history)
+        (F.feeds feed.new) course) }
 {
     let _ = layout.rate();
     let _ = layout.entries();

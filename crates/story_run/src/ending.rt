@@ -1,7 +1,7 @@
 //! Where a run ends, and why it did.
 
 ghost use Rattle.std.specs.Prelude.{◌≡◌, ◌+◌, ◌≤◌, false, nat_le};
-ghost use Rattle.story_run.specs.Answers.{MeetsNoTick, TellsOver};
+ghost use Rattle.story_run.specs.Answers.{MeetsNoTick, DecidesOver};
 
 use fw_logic::at_tick;
 use joint_run::Joint;
@@ -44,11 +44,11 @@ fn has_reached(cycle: u64, stop: u64) -> bool
     cycle >= 4096 + stop
 }
 
-/// Whether a run that has come to this state is over there.
+/// Whether a run that has reached this state is over there.
 #[inline(always)]
 pub(crate) fn is_over(ending: Ending, joint: &Joint, stop: u64) -> bool
     requires { stop ≤ 240000000 }
-    ensures { TellsOver ending joint.now stop result }
+    ensures { DecidesOver ending joint.now stop result }
 {
     match ending {
         Ending::TickStart => at_tick(joint) && has_reached(joint.cycle(), stop),
@@ -60,7 +60,7 @@ pub(crate) fn is_over(ending: Ending, joint: &Joint, stop: u64) -> bool
 #[inline(always)]
 pub(crate) fn must_halt(ending: Ending, joint: &Joint, stop: u64) -> bool
     requires { stop ≤ 240000000 }
-    ensures open { result ≡ false → TellsOver ending joint.now stop false }
+    ensures open { result ≡ false → DecidesOver ending joint.now stop false }
     ensures no_tick { result ≡ false → MeetsNoTick ending joint.now }
 {
     match ending {

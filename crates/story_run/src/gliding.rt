@@ -1,17 +1,17 @@
-//! Steps of a run, one after another, as long as nothing of them has to be counted or told. Probes that rest look only if
+//! Steps of a run, one after another, as long as nothing of them has to be counted or reported. Probes that rest look only if
 //! they would miss something.
 
 ghost use Rattle.std.specs.Prelude.{◌≡◌, ◌<◌, ◌≤◌, List, [], true, map, Ok};
 ghost use Rattle.joint_feed.specs.Stories.{Story};
 ghost use Rattle.board_probes.specs.Probes.{Watch, sight_of};
 ghost use Rattle.board_probes.specs.Resting.{all_rest};
-ghost use Rattle.story_run.specs.Gliding.{IsGlide, IsGoing, IsStretch, looked_behind};
+ghost use Rattle.story_run.specs.Gliding.{IsGlide, IsGoing, IsStretch, looked_since};
 ghost use Rattle.story_run.specs.Stretching.{CanFollow, IsMade};
 
 use crate::ending::{Ending, Halt, must_halt};
 use crate::stretching::make_steps;
-use board_lines::Lines;
 use board_probes::{Probe, all_rest, look_all};
+use board_terms::Lines;
 use joint_feed::Course;
 use joint_run::{Joint, Seen};
 use mcs48_core::Stuck;
@@ -57,7 +57,7 @@ fn is_passed_over(rest: bool, clk: bool, joint: &Joint) -> bool
     rest && is_clock(joint, clk)
 }
 
-/// Whether the wires, where they are sampled, have the levels that they had.
+/// Whether the wires, if they are sampled, have the levels that they had.
 #[inline(always)]
 fn keeps_levels(wires: bool, lines: Lines, joint: &Joint) -> bool
     ensures { result ≡ true → wires ≡ true → (sight_of joint.now).lines ≡ lines }
@@ -116,7 +116,7 @@ fn goes_unseen<const SITE: u8>(
     requires levels { halt.wires ≡ true → (sight_of course.old.joint).lines ≡ lines }
     requires level { (sight_of course.old.joint).lines.clk ≡ clk }
     ensures stretch { (s : Story) → IsGoing halt s course.old → (before : List Watch) → (rest ≡ true → all_rest clk before ≡ true)
-        → IsStretch halt s course.old before result course.new (looked_behind course.old.joint.steps course.new before) }
+        → IsStretch halt s course.old before result course.new (looked_since course.old.joint.steps course.new before) }
     ensures later { result ≡ Ok true → course.old.joint.cycle < course.new.joint.cycle }
 {
     'steps: loop {
@@ -161,7 +161,7 @@ fn goes_on<const SITE: u8>(
 }
 
 /// Makes joint steps up to one that took an event, said something, led to a halt or changed wires that are sampled; of what
-/// each of them led to the probes know what a look would have told them. What the last one took and said is left in the
+/// each of them led to the probes know what a look would have shown them. What the last one took and said is left in the
 /// course. If the processor is stuck the steps before are made, and what is left is of no use. `SITE`, from 4, is a
 /// number that no other place of the program gives.
 #[inline(always)]

@@ -1,8 +1,8 @@
-//! The run of a program under a history, from power-on to its end: one loop for whoever tells of it.
+//! The run of a program under a history, from power-on to its end: one loop for whoever reports it.
 //!
 //! This layer begins the run of a layout's compiled image, knows where a run ends, makes its steps one after another as
-//! long as nothing of them has to be told, lets probes look at each state, and leaves what is told to whoever tells it. Its
-//! code knows no line of a log and no sink; its definitions say what it is that a text which is told breaks off. Of the
+//! long as nothing of them has to be reported, lets probes look at each state, and leaves what is reported to whoever reports it. Its
+//! code knows no line of a log and no sink; its definitions say what it is that a text which is reported breaks off. Of the
 //! firmware it knows where a tick starts, by `fw_logic`. That a layout's image keeps its time is a premise here. Source:
 //! our own.
 #![tactic(auto)]
@@ -11,10 +11,10 @@ mod advancing;
 mod beginning;
 mod ending;
 mod gliding;
+mod reporting;
 mod stretching;
-mod telling;
 
 pub use advancing::advance;
 pub use beginning::begin_run;
 pub use ending::{End, Ending, Halt};
-pub use telling::{Teller, tell_run};
+pub use reporting::{Reporter, make_run};

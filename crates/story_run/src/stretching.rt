@@ -1,7 +1,7 @@
-//! Steps of a run at once: quiet ones, of which nothing is to be told, and then one of any kind.
+//! Steps of a run at once: quiet ones, of which nothing is to be reported, and then one of any kind.
 
 ghost use Rattle.std.specs.Prelude.{◌≡◌, ◌+◌, ◌<◌, ◌≤◌, ◌^◌, OnOk};
-ghost use Rattle.joint_run.specs.Due.{told};
+ghost use Rattle.joint_run.specs.Due.{with_seen};
 ghost use Rattle.joint_feed.specs.Stories.{Story};
 ghost use Rattle.story_run.specs.Gliding.{IsGoing};
 ghost use Rattle.story_run.specs.Stretching.{HasMade, NoneHalts};
@@ -12,7 +12,7 @@ use joint_feed::Course;
 use joint_glide::go_on;
 use mcs48_core::Stuck;
 
-/// How many cycles quiet steps take together at most where a run ends at a tick start: more than there are between two.
+/// How many cycles quiet steps take together at most if a run ends at a tick start: more than there are between two.
 const MOST: u64 = 65_536;
 
 /// A place that no counter is at.
@@ -45,17 +45,17 @@ pub(crate) fn make_steps<const SITE: u8>(
 ) -> Result<(), Stuck>
     requires going { (s : Story) × IsGoing halt s course.old }
     requires range { halt.stop ≤ 240000000 }
-    ensures made { HasMade halt rest course.old (told result course.new.seen) course.new }
+    ensures made { HasMade halt rest course.old (with_seen result course.new.seen) course.new }
     ensures some { OnOk result (0 < course.new.seen.cycles) }
     ensures few { OnOk result (course.new.seen.cycles < 3) }
 {
     if rest {
-        let (tick, most) = reach(course, halt);
+        let (tick_pc, most) = reach(course, halt);
         return go_on(
             &mut course.joint,
             &course.ahead.due,
             &mut course.seen,
-            tick,
+            tick_pc,
             most,
         );
     }

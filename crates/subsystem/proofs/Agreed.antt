@@ -3,7 +3,7 @@
 use Rattle.std.proofs.Common.{◌≡◌, ◌≤◌, ◌<◌, ℕ, suc, ◌+◌, ◌-◌, List, [], ◌∷◌, ◌++◌, length, ap, sym, subst, ◌∙◌, arith}
 use Rattle.std.specs.Prelude.{if◌then◌else◌}
 use Rattle.std.specs.declared.option.Option.{Option}
-use Rattle.board_lines.specs.Cadence.{listed}
+use Rattle.board_terms.specs.Cadence.{listed}
 use Rattle.fw_kernel.specs.declared.labels.TheConstants.{TICK}
 use Rattle.fw_logic.proofs.Numbers.{same_start}
 use Rattle.fw_logic.specs.JointRun.{KeepsTimeFrom}
@@ -15,7 +15,7 @@ use Rattle.agreement.proofs.Upto.{whole_up_to}
 use Rattle.agreement.specs.Agreement.{AgreesFrom}
 use Rattle.link_model.specs.Expected.{Whole, expected}
 use Rattle.link_model.specs.Machine.{KeyboardMachine}
-use Rattle.subsystem.specs.Running.{IsOutcome, lines_of, Outcome}
+use Rattle.subsystem.specs.LayoutOutcomes.{IsOutcome, lines_of, Outcome}
 use Rattle.story_run.specs.Starts.{start_stamp, starts_among}
 use Rattle.subsystem.proofs.Lines.{one_longer}
 use Rattle.subsystem.proofs.Timekeeping.{numbered}

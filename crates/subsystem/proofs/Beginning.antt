@@ -1,4 +1,4 @@
--- Before the first step nothing is told.
+-- Before the first step nothing is reported.
 use Rattle.std.proofs.Common.{◌≡◌, ◌≤◌, ◌-◌, Bool, true, false, [], ◌∷◌, refl, sym, ◌∙◌, arith}
 use Rattle.std.specs.Prelude.{if◌then◌else◌}
 use Rattle.fw_logic.specs.JointRun.{KeepsTimeFrom}
@@ -7,7 +7,7 @@ use Rattle.joint_run.specs.Joint.{joint_start_of}
 use Rattle.story_run.specs.declared.ending.Ending.TheVariants.{TickStart}
 use Rattle.story_run.specs.Starts.{starts_among}
 use Rattle.subsystem.specs.declared.starts.Starts.{Starts}
-use Rattle.subsystem.specs.Telling.{HasNoted}
+use Rattle.subsystem.specs.LogReports.{HasNoted}
 
 not_early : (b : Bool) → (b ≡ true → 4096 ≤ 0) → (if b then (0 - 4096) ∷ [] else []) ≡ []
 not_early true early = let e = early refl in absurd (omega (arith, e))

@@ -6,26 +6,26 @@ use Rattle.std.proofs.lemmas.Bool.Decides.{nat_tests}
 use Rattle.std.proofs.lemmas.List.{get_or_append_left}
 use Rattle.std.proofs.Math.Seq.{get_or-append_seam}
 use Rattle.std.specs.declared.option.Option.{Option}
-use Rattle.board_lines.specs.Cadence.{listed}
+use Rattle.board_terms.specs.Cadence.{listed}
 use Rattle.fw_logic.specs.JointRun.{KeepsTimeFrom}
 use Rattle.joint_feed.specs.Stories.{Story, state_at, starts_tick}
 use Rattle.joint_run.specs.Joint.{Beside, log_of, joint_start_of}
 use Rattle.joint_run.specs.Run.{World}
 use Rattle.story_run.specs.declared.ending.Ending.TheVariants.{TickStart}
-use Rattle.story_run.specs.Running.{IsOverBehind, log_at, logged}
+use Rattle.story_run.specs.Running.{IsOverAfter, log_at, logged}
 use Rattle.story_run.specs.Starts.{start_stamp, starts_among}
-use Rattle.subsystem.specs.Running.{IsOutcome, Outcome, lines_of}
-use Rattle.subsystem.specs.Progress.{line_so_far, told_by}
+use Rattle.subsystem.specs.LayoutOutcomes.{IsOutcome, Outcome, lines_of}
+use Rattle.subsystem.specs.Progress.{line_so_far, lines_so_far}
 use Rattle.subsystem.proofs.Lines.{lines_whole, one_longer}
 use Rattle.subsystem.proofs.Begun.{before_end}
-use Rattle.subsystem.proofs.Told.{still_told}
+use Rattle.subsystem.proofs.Reported.{still_reported}
 
 -- the run is over at a tick start at or after the end stamp
 pub at_start : (b : Bool) (stop cycle : ℕ) → (b && nat_le (4096 + stop) cycle) ≡ true → (b ≡ true) × (4096 + stop ≤ cycle)
 at_start false stop cycle h = absurd cc
 at_start true stop cycle h = (refl, grind (arith, nat_tests, h))
 
--- what a run comes to that is over at this state
+-- the outcome of a run that is over at this state
 abbrev pub outcome_at : Story → ℕ → World Beside → Outcome
 outcome_at s k w = record {
   log = lines_of (starts_among s (suc k)) (log_at s k);
@@ -35,7 +35,7 @@ outcome_at s k w = record {
   cycles = w.cycle;
 }
 
-module _ (s : Story) (t : KeepsTimeFrom (joint_start_of s.held) s.bytes s.edges s.events) (k : ℕ) (h : IsOverBehind TickStart s k) where
+module _ (s : Story) (t : KeepsTimeFrom (joint_start_of s.held) s.bytes s.edges s.events) (k : ℕ) (h : IsOverAfter TickStart s k) where
   abbrev w : World Beside
   w = h.world
 
@@ -51,12 +51,12 @@ module _ (s : Story) (t : KeepsTimeFrom (joint_start_of s.held) s.bytes s.edges 
   long = ap length among ∙ one_longer (starts_among s k) (w.cycle - 4096)
 
   -- its lines are those of its starts
-  pub told_whole : (starts : List ℕ) → starts ≡ starts_among s (suc k) → told_by s k ≡ lines_of starts (log_at s k)
-  told_whole starts same =
+  pub reported_whole : (starts : List ℕ) → starts ≡ starts_among s (suc k) → lines_so_far s k ≡ lines_of starts (log_at s k)
+  reported_whole starts same =
       let all = starts_among s (suc k) in
       let length_now : 0 < length all = let l = long in omega (arith, l) in
       ap (λ (o : Option (World Beside)). map (line_so_far (starts_among s k)) (logged o)) h.reached
-      ∙ sym (still_told s k w h.reached)
+      ∙ sym (still_reported s k w h.reached)
       ∙ lines_whole all (log_of w.board) length_now
       ∙ ap (λ (o : Option (World Beside)). lines_of all (logged o)) (sym h.reached)
       ∙ ap (λ (v : List ℕ). lines_of v (log_at s k)) (sym same)

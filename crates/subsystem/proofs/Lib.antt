@@ -6,7 +6,7 @@ pub mod Room
 pub mod Begun
 pub mod Going
 pub mod Came
-pub mod Told
-pub mod Tellers
+pub mod Reported
+pub mod Reporters
 pub mod Ticks
 pub mod Timekeeping

@@ -3,15 +3,15 @@ use Rattle.std.proofs.Common.{◌≡◌, ◌≤◌, ◌<◌, ℕ, suc, ◌+◌, 
 use Rattle.std.proofs.Common.{get_or, drop-cons, refl, ap, sym, ◌∙◌, arith, add-one, inl, inr}
 use Rattle.std.proofs.lemmas.List.{length-append}
 use Rattle.std.specs.Fmt.{decimal}
-use Rattle.board_lines.specs.Cadence.{begun, listed}
+use Rattle.board_terms.specs.Cadence.{begun, listed}
 use Rattle.host_turn.specs.declared.stamped.Stamped.{Stamped}
-use Rattle.io_edge.proofs.Pieces.{AreLines, EndsLine, lines_behind}
+use Rattle.io_edge.proofs.Pieces.{AreLines, EndsLine, lines_after}
 use Rattle.link_model.specs.declared.line.LogLine.{LogLine}
 use Rattle.pc_tables.specs.Items.{text_of}
 use Rattle.subsystem.specs.Account.{in_tick}
 use Rattle.subsystem.specs.Progress.{line_so_far}
 use Rattle.story_run.specs.Running.{AreIn}
-use Rattle.subsystem.specs.Running.{line_of, lines_of}
+use Rattle.subsystem.specs.LayoutOutcomes.{line_of, lines_of}
 use Rattle.subsystem.specs.Texts.{line_text, log_text}
 use Rattle.subsystem.proofs.Ticks.{begun_later, all_begun}
 
@@ -21,7 +21,7 @@ line_ends line = (decimal line.tick ++ 32 ∷ text_of line.item, refl)
 
 pub are_lines : (lines : List LogLine) → AreLines (log_text lines)
 are_lines [] = inl refl
-are_lines (line ∷ lines) = lines_behind (line_text line) (log_text lines) (inr (line_ends line)) (are_lines lines)
+are_lines (line ∷ lines) = lines_after (line_text line) (log_text lines) (inr (line_ends line)) (are_lines lines)
 
 pub one_longer : (starts : List ℕ) (next : ℕ) → length (starts ++ next ∷ []) ≡ suc (length starts)
 one_longer starts next = length-append starts (next ∷ []) ∙ add-one (length starts)

@@ -1,10 +1,10 @@
--- How many starts are at or before a cycle, as starts come one behind the other.
+-- How many starts are at or before a cycle, as starts come one after the other.
 use Rattle.std.proofs.Common.{◌≡◌, ◌≤◌, ◌<◌, ℕ, zero, suc, ◌+◌, true, false, List, [], ◌∷◌, ◌++◌, length, refl, ap, ◌∙◌, arith, add-one}
 use Rattle.std.specs.Prelude.{nat_le, if◌then◌else◌}
 use Rattle.std.proofs.lemmas.Bool.Decides.{nat_tests}
 use Rattle.std.proofs.lemmas.List.{get_or_append_left}
 use Rattle.std.proofs.Math.Seq.{get_or-append_seam}
-use Rattle.board_lines.specs.Cadence.{begun, listed}
+use Rattle.board_terms.specs.Cadence.{begun, listed}
 
 -- starts that agree below a number have begun alike
 begun_alike : (f g : ℕ → ℕ) (cycle n : ℕ) → ((j : ℕ) → j < n → f j ≡ g j) → begun f cycle n ≡ begun g cycle n

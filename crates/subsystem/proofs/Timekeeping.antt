@@ -6,19 +6,19 @@ use Rattle.std.proofs.lemmas.Bool.Decides.{nat_tests}
 use Rattle.std.proofs.lemmas.List.{append-nil, get_or_append_left}
 use Rattle.std.proofs.Math.Seq.{get_or-append_seam}
 use Rattle.std.specs.declared.option.Option.{Option}
-use Rattle.board_lines.specs.Cadence.{IsNear, KeepsCadenceTo, listed}
+use Rattle.board_terms.specs.Cadence.{IsNear, KeepsCadenceTo, listed}
 use Rattle.fw_kernel.specs.declared.labels.TheConstants.{TICK}
 use Rattle.fw_logic.specs.JointRun.{KeepsTimeFrom}
 use Rattle.joint_feed.specs.Stories.{Story, state_at, starts_tick}
 use Rattle.joint_run.specs.Joint.{Beside, joint_board, joint_start_of}
 use Rattle.joint_run.specs.Run.{World}
 use Rattle.joint_run.specs.Starts.{start_in, starts_before, IsStart}
-use Rattle.subsystem.specs.Running.{IsOutcome, Outcome}
+use Rattle.subsystem.specs.LayoutOutcomes.{IsOutcome, Outcome}
 use Rattle.story_run.specs.Starts.{start_stamp, starts_among}
 use Rattle.subsystem.proofs.Lines.{one_longer}
 
 module _ (s : Story) (t : KeepsTimeFrom (joint_start_of s.held) s.bytes s.edges s.events) where
-  -- the starts that are told are the run's, by their numbers
+  -- the starts that are reported are the run's, by their numbers
   abbrev pub Numbered : ℕ → Type 0
   Numbered k = (length (starts_among s k) ≡ starts_before (joint_board s.edges s.events) TICK s.bytes (joint_start_of s.held) k)
       × ((j : ℕ) → j < length (starts_among s k)

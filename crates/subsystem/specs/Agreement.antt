@@ -1,6 +1,6 @@
 -- What a run says, against what the model expects.
 use Rattle.std.specs.Prelude.{◌≡◌, ◌<◌, ◌-◌, length}
-use Rattle.board_lines.specs.Cadence.{KeepsCadenceTo, listed}
+use Rattle.board_terms.specs.Cadence.{KeepsCadenceTo, listed}
 use Rattle.fw_compile.specs.Image.{image_of}
 use Rattle.joint_feed.specs.Stories.{story}
 use Rattle.key_file.specs.Accepted.{IsAccepted, IsLawfulFor}
@@ -8,7 +8,7 @@ use Rattle.key_file.specs.Histories.{KeyHistory}
 use Rattle.layout_reader.specs.Layouts.{KeyLayout, IsKeyLayout}
 use Rattle.link_model.specs.Expected.{expected_log}
 use Rattle.quiet_log.specs.Quiet.{IsQuiet, quiet_log}
-use Rattle.subsystem.specs.Running.{Outcome, IsOutcome}
+use Rattle.subsystem.specs.LayoutOutcomes.{Outcome, IsOutcome}
 
 -- a run's log is the one that the model expects if its ticks start when the run's do, and these starts keep the
 -- cadence; for a quiet history it is a function of layout and history alone. If the history is accepted, it has fewer than 800,000 items

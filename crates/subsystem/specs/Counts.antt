@@ -1,4 +1,4 @@
--- How many bytes came to port 60h, how many words into the buffer and how many beeps a log has.
+-- How many bytes reached port 60h, how many words into the buffer and how many beeps a log has.
 use Rattle.std.specs.Prelude.{◌+◌, Bool, true, false, List, count_by}
 use Rattle.pc_tables.specs.declared.item.Item.TheVariants.{Port, Word, Beep}
 use Rattle.link_model.specs.declared.line.LogLine.{LogLine}

@@ -1,8 +1,8 @@
--- What a run comes to whose log wasn't kept.
+-- The outcome of a run whose log wasn't kept.
 use Rattle.joint_feed.specs.Stories.{Story}
 use Rattle.story_run.specs.Running.{log_at}
 use Rattle.subsystem.specs.declared.ended.Ended.{Ended}
-use Rattle.subsystem.specs.Running.{Outcome, lines_of}
+use Rattle.subsystem.specs.LayoutOutcomes.{Outcome, lines_of}
 
 -- its log is what the run's steps said, each item with its tick
 abbrev pub ending : Story → Ended → Outcome

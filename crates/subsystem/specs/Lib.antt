@@ -2,10 +2,10 @@ pub mod Account
 pub mod Agreement
 pub mod Looking
 pub mod Progress
-pub mod Running
+pub mod LayoutOutcomes
 pub mod Texts
 pub mod Counts
 pub mod Putting
 pub mod Ending
-pub mod Telling
+pub mod LogReports
 pub mod Starts

@@ -1,6 +1,6 @@
 -- The run so far, as the loop keeps it.
 use Rattle.std.specs.Prelude.{◌≡◌, ◌≤◌, ◌/◌, ℕ, ◌+◌, ◌-◌, List, [], length, map, vec_capacity}
-use Rattle.board_lines.specs.Cadence.{begun, listed}
+use Rattle.board_terms.specs.Cadence.{begun, listed}
 use Rattle.host_turn.specs.declared.stamped.Stamped.{Stamped}
 use Rattle.joint_feed.specs.Stories.{Story}
 use Rattle.key_file.specs.Feeds.{Fed}
@@ -18,8 +18,8 @@ abbrev pub lines_to : Story → List ℕ → ℕ → List LogLine
 lines_to s starts k = map (line_so_far starts) (log_at s k)
 
 -- by the starts among the states before the last of them
-abbrev pub told_by : Story → ℕ → List LogLine
-told_by s k = lines_to s (starts_among s k) k
+abbrev pub lines_so_far : Story → ℕ → List LogLine
+lines_so_far s k = lines_to s (starts_among s k) k
 
 -- there is room for all starts of a run
 pub record HasRoom (fed : Fed) (starts : Starts) : Type 0 where

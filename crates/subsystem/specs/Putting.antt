@@ -9,10 +9,10 @@ use Rattle.story_run.specs.Broken.{IsTextBrokenOff}
 use Rattle.story_run.specs.Looking.{BrokeOff}
 use Rattle.story_run.specs.Running.{step_says}
 use Rattle.story_run.specs.Starts.{starts_among}
-use Rattle.story_run.specs.Telling.{IsBrokenBehind}
+use Rattle.story_run.specs.Reports.{IsBrokenAfter}
 use Rattle.subsystem.specs.Account.{in_tick}
-use Rattle.subsystem.specs.Progress.{told_by}
-use Rattle.subsystem.specs.Running.{IsOutcome, Outcome}
+use Rattle.subsystem.specs.Progress.{lines_so_far}
+use Rattle.subsystem.specs.LayoutOutcomes.{IsOutcome, Outcome}
 use Rattle.subsystem.specs.Texts.{log_text}
 
 -- the text of the run's whole log is broken off, as the run would have come to it
@@ -25,9 +25,9 @@ step_lines s k = map (in_tick (length (starts_among s (suc k)) - 1)) (step_says 
 
 -- it is broken off in these lines
 abbrev pub IsLogBrokenAt : Story → Shown → Shown → ℕ → Type 0
-IsLogBrokenAt s before after k = IsBrokenBehind before after (log_text (told_by s k)) (log_text (step_lines s k))
+IsLogBrokenAt s before after k = IsBrokenAfter before after (log_text (lines_so_far s k)) (log_text (step_lines s k))
 
--- and the probes have looked at the states up to the one that this step led to. Of a sink that doesn't tell what it
+-- and the probes have looked at the states up to the one that this step led to. Of a sink that doesn't show what it
 -- took the step may be any
 abbrev pub HaveLookedToBreak : Story → Shown → Shown → List Watch → List Watch → Type 0
 HaveLookedToBreak s before after first probes = BrokeOff TickStart s (IsLogBrokenAt s before after) first probes

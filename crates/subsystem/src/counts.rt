@@ -6,7 +6,7 @@ ghost use Rattle.subsystem.specs.Counts.{none_counted, with_lines};
 use link_model::LogLine;
 use pc_tables::Item;
 
-/// How many bytes came to port 60h, how many words into the buffer of INT 09h, and how many beeps there were.
+/// How many bytes reached port 60h, how many words into the buffer of INT 09h, and how many beeps there were.
 #[derive(Clone, Copy, Debug, PartialEq, Eq)]
 pub struct Counts {
     pub ports: u64,

@@ -1,4 +1,4 @@
-//! What a run comes to whose log went to a sink.
+//! The outcome of a run whose log went to a sink.
 
 ghost use Rattle.std.specs.Prelude.{◌≡◌};
 
@@ -44,7 +44,7 @@ impl Ended {
         self.cycles
     }
 
-    /// How many bytes came to port 60h.
+    /// How many bytes reached port 60h.
     pub fn ports(&self) -> u64
         ensures ports { result ≡ self.now.counts.ports }
     {

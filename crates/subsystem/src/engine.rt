@@ -1,7 +1,7 @@
 //! A run in bounded memory: its events come from a feed, and its log goes to a sink as it arises.
 
 ghost use Rattle.std.specs.Prelude.{◌≡◌, ◌-◌, length, map, IfOk, OnErr};
-ghost use Rattle.board_lines.specs.Cadence.{KeepsCadenceTo, listed};
+ghost use Rattle.board_terms.specs.Cadence.{KeepsCadenceTo, listed};
 ghost use Rattle.fw_compile.specs.Image.{image_of};
 ghost use Rattle.board_probes.specs.Looks.{looks};
 ghost use Rattle.io_edge.specs.Said.{IsSaid};
@@ -15,15 +15,15 @@ ghost use Rattle.subsystem.specs.Ending.{ending};
 ghost use Rattle.story_run.specs.Gliding.{history_of};
 ghost use Rattle.subsystem.specs.Looking.{HaveLookedAtSome};
 ghost use Rattle.subsystem.specs.Putting.{HaveLookedToBreak, IsLogBrokenOff};
-ghost use Rattle.subsystem.specs.Running.{IsOutcome};
+ghost use Rattle.subsystem.specs.LayoutOutcomes.{IsOutcome};
 ghost use Rattle.subsystem.specs.Texts.{log_text};
 
 use crate::counts::Counts;
 use crate::ended::Ended;
 use crate::law::runs_are_expected;
 use crate::outcome::copied;
+use crate::reporting::Putting;
 use crate::starts::Starts;
-use crate::telling::Putting;
 use agreement::run_and_model_agree;
 use board_probes::Probe;
 use io_edge::{Sink, SinkFault};
@@ -32,7 +32,7 @@ use key_file::Feed;
 use layout_reader::Layout;
 use std::alloc::{AllocError, Global};
 use std::marker::Model;
-use story_run::{Ending, begin_run, tell_run};
+use story_run::{Ending, begin_run, make_run};
 
 /// The cycles of a tick.
 const TICK_CYCLES: u64 = 2_048;
@@ -54,29 +54,29 @@ impl<F: Feed> Model for Engine<F> {
 
     ghost Value = { Story };
 
-    ghost view = { λ e. story e.course.joint.image.bytes (F.told e.feed).history };
+    ghost view = { λ e. story e.course.joint.image.bytes (F.feeds e.feed).history };
 
-    ghost invariant = { λ e. IsReady TickStart (story e.course.joint.image.bytes (F.told e.feed).history) (F.told e.feed) e.course
-        × HasRoom (F.told e.feed) e.starts };
+    ghost invariant = { λ e. IsReady TickStart (story e.course.joint.image.bytes (F.feeds e.feed).history) (F.feeds e.feed) e.course
+        × HasRoom (F.feeds e.feed) e.starts };
 }
 
-/// What a run that is over comes to.
-fn ended_of(course: &Course, told: Putting) -> Ended
-    ensures starts { result.starts ≡ told.starts.stamps }
+/// The outcome of a run that is over.
+fn ended_of(course: &Course, reported: Putting) -> Ended
+    ensures starts { result.starts ≡ reported.starts.stamps }
     ensures end { result.end ≡ course.now.joint.mcu }
     ensures steps { result.steps ≡ course.now.joint.steps }
     ensures cycles { result.cycles ≡ course.now.joint.cycle }
-    ensures counts { result.counts ≡ told.counts }
+    ensures counts { result.counts ≡ reported.counts }
 {
     let steps = course.joint.steps();
     let cycles = course.joint.cycle();
     let end = copied(course.joint.mcu());
     Ended {
-        starts: told.starts.stamps,
+        starts: reported.starts.stamps,
         end,
         steps,
         cycles,
-        counts: told.counts,
+        counts: reported.counts,
     }
 }
 
@@ -85,11 +85,11 @@ impl<F: Feed> Engine<F> {
     /// which is accepted for this layout. Takes all memory that the run takes: the buffer of INT 09h, and room for each
     /// tick start. If memory runs out the feed is given up.
     pub fn new(alloc: Global, layout: &Layout, feed: F) -> Result<Engine<F>, AllocError>
-        requires no_edge { (F.told feed).edges ≡ 0 }
-        requires no_host { (F.told feed).host ≡ 0 }
-        requires accepted { IsAcceptedFor layout.now (F.told feed).history }
+        requires no_edge { (F.feeds feed).edges ≡ 0 }
+        requires no_host { (F.feeds feed).host ≡ 0 }
+        requires accepted { IsAcceptedFor layout.now (F.feeds feed).history }
         ensures layout { IsKeyLayout layout.now }
-        ensures engine { IfOk result (λ engine. engine ≡ story (image_of layout.now) (F.told feed).history) }
+        ensures engine { IfOk result (λ engine. engine ≡ story (image_of layout.now) (F.feeds feed).history) }
         ensures accepted { IfOk result (λ engine. IsAccepted (history_of engine)) }
     {
         run_and_model_agree();
@@ -110,7 +110,7 @@ impl<F: Feed> Engine<F> {
     ///
     /// On Ok the sink has taken the whole text of the log, which is the one that the model expects for the layout, its
     /// count of faults is as it was, and the probes have looked at each state. A failure comes only if a put failed. A sink
-    /// that tells what it took has the text of the whole log up to that put, and the probes have looked at the states up to
+    /// that shows what it took has the text of the whole log up to that put, and the probes have looked at the states up to
     /// the one of the step that said the line.
     pub fn run_to<K: Sink>(
         self,
@@ -139,7 +139,7 @@ impl<F: Feed> Engine<F> {
             starts: self.starts,
             counts: Counts::none(),
         };
-        let _end = tell_run::<F, K, SinkFault, Putting, 9>(
+        let _end = make_run::<F, K, SinkFault, Putting, 9>(
             &mut course,
             &mut feed,
             0,

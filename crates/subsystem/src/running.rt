@@ -1,7 +1,7 @@
 //! The run.
 
 ghost use Rattle.std.specs.Prelude.{◌≡◌, ◌<◌, ◌-◌, true, length, map, IfOk};
-ghost use Rattle.board_lines.specs.Cadence.{KeepsCadenceTo, listed};
+ghost use Rattle.board_terms.specs.Cadence.{KeepsCadenceTo, listed};
 ghost use Rattle.fw_compile.specs.Image.{image_of};
 ghost use Rattle.board_probes.specs.Looks.{looks};
 ghost use Rattle.joint_feed.specs.Stories.{story};
@@ -10,12 +10,12 @@ ghost use Rattle.layout_reader.specs.Layouts.{IsKeyLayout};
 ghost use Rattle.link_model.specs.Expected.{expected_log};
 ghost use Rattle.quiet_log.specs.Quiet.{IsQuiet, quiet_log};
 ghost use Rattle.subsystem.specs.Looking.{HaveLookedAtSome};
-ghost use Rattle.subsystem.specs.Running.{IsRun};
+ghost use Rattle.subsystem.specs.LayoutOutcomes.{IsRun};
 
 use crate::law::runs_are_expected;
 use crate::outcome::{Run, copied};
+use crate::reporting::Keeping;
 use crate::starts::Starts;
-use crate::telling::Keeping;
 use agreement::run_and_model_agree;
 use board_probes::Probe;
 use joint_feed::Course;
@@ -23,9 +23,9 @@ use key_file::{History, ListFeed};
 use layout_reader::Layout;
 use link_model::LogLine;
 use std::alloc::{AllocError, Global};
-use story_run::{Ending, begin_run, tell_run};
+use story_run::{Ending, begin_run, make_run};
 
-/// What a run that is over comes to.
+/// The outcome of a run that is over.
 fn outcome_of(course: &Course, starts: Starts, log: Vec<LogLine>) -> Run
     ensures log { result.log ≡ log }
     ensures starts { result.starts ≡ starts.stamps }
@@ -84,7 +84,7 @@ pub fn run(
     let mut keeping = Keeping {
         starts: Starts { stamps },
     };
-    let _end = tell_run::<ListFeed, Vec<LogLine>, AllocError, Keeping, 4>(
+    let _end = make_run::<ListFeed, Vec<LogLine>, AllocError, Keeping, 4>(
         &mut course,
         &mut feed,
         0,

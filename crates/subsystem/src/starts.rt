@@ -29,7 +29,7 @@ impl Starts {
     }
 
     /// Notes the tick that starts at a state of a run, if one does, in which no tick starts before stamp 0. Memory may be
-    /// wanting if the list is full.
+    /// lacking if the list is full.
     pub(crate) fn note(&mut self, joint: &Joint) -> Result<(), AllocError>
         requires late { (s : Story) × (w : World Beside) × (w.cpu ≡ joint.now.mcu) × (w.cycle ≡ joint.now.cycle)
             × (starts_tick s w ≡ true → 4096 ≤ w.cycle) }
@@ -44,7 +44,7 @@ impl Starts {
         Ok(())
     }
 
-    /// The same if the list has room for one more: nothing is wanting.
+    /// The same if the list has room for one more: nothing is lacking.
     pub(crate) fn note_within(&mut self, joint: &Joint)
         requires late { (s : Story) × (w : World Beside) × (w.cpu ≡ joint.now.mcu) × (w.cycle ≡ joint.now.cycle)
             × (starts_tick s w ≡ true → 4096 ≤ w.cycle) }

@@ -1,7 +1,7 @@
 //! The tick starts of the run.
 
 ghost use Rattle.std.specs.Prelude.{◌≡◌, ◌-◌, length, map, IfOk};
-ghost use Rattle.board_lines.specs.Cadence.{KeepsCadenceTo, listed};
+ghost use Rattle.board_terms.specs.Cadence.{KeepsCadenceTo, listed};
 ghost use Rattle.fw_compile.specs.Image.{image_of};
 ghost use Rattle.joint_feed.specs.Stories.{story};
 ghost use Rattle.key_file.specs.Accepted.{IsAcceptedFor};

@@ -22,7 +22,7 @@ pub split-is_cons : (p : ℕ → Bool) (xs : List ℕ) → IsCons (slice_split p
 split-is_cons p [] = record { first = []; rest = []; is = refl }
 split-is_cons p (x ∷ xs) = cond-is_cons (p x) x (slice_split p xs)
 
--- a line and the lines behind it
+-- a line and the lines after it
 pub lines-first : (text front rest : List ℕ)
     → slice_split (λ c. c == 10) text ≡ front ∷ slice_split (λ c. c == 10) rest → lines text ≡ strip_carriage_return front ∷ lines rest
 lines-first text front rest split =

@@ -2,4 +2,4 @@ pub mod Splits
 pub mod FirstLine
 pub mod FirstField
 pub mod Digits
-pub mod Behind
+pub mod Afterwards

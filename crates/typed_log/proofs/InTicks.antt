@@ -5,7 +5,7 @@ use Rattle.std.specs.Prelude.{slice_get}
 use Rattle.std.specs.List.{filter}
 use Rattle.std.proofs.lemmas.Bool.Decides.{nat_tests}
 use Rattle.std.proofs.lemmas.List.Elements.{filter-append}
-use Rattle.board_lines.specs.declared.event.Edge.{Edge}
+use Rattle.board_terms.specs.declared.event.Edge.{Edge}
 use Rattle.layout_reader.specs.declared.entry.Entry.{Entry}
 use Rattle.link_model.specs.TickEdges.{is_seen}
 use Rattle.quiet_log.specs.Quiet.{even}

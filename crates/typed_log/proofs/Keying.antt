@@ -4,7 +4,7 @@ use Rattle.std.proofs.Common.{◌∷◌, ◌++◌, length, replicate, get_or, se
 use Rattle.std.specs.Prelude.{if◌then◌else◌, nat_lt}
 use Rattle.std.specs.declared.option.Option.{Option}
 use Rattle.std.proofs.lemmas.List.{get_or-replicate, get_or-set_other, set-get_or}
-use Rattle.board_lines.specs.Matrix.{all_up, turned}
+use Rattle.board_terms.specs.Matrix.{all_up, turned}
 use Rattle.kbd_model.specs.declared.edge.TickEdge.{TickEdge}
 use Rattle.kbd_model.specs.declared.state.Mode.TheVariants.{Ready}
 use Rattle.kbd_model.specs.declared.state.Repeat.{Repeat}
@@ -15,7 +15,7 @@ use Rattle.kbd_model.specs.Keyboard.{Keyboard}
 use Rattle.kbd_model.specs.Layers.{no_layers, layered, all_layers_after}
 use Rattle.kbd_model.specs.Tick.{scanned, edges_if, ended_at}
 
--- the keyboard behind its test, at the rate that it had at power-on
+-- the keyboard after its test, at the rate that it had at power-on
 abbrev pub typing : ℕ → ℕ → List ℕ → Bool → Option Repeat → List Bool → Keyboard
 typing rate last bytes started repeats held = record {
   test = 0;

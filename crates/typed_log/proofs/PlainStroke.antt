@@ -8,7 +8,7 @@ use Rattle.pc_tables.specs.declared.item.Item.TheVariants.{Port, Word}
 use Rattle.int09.specs.Bios.{State, start, quiet}
 use Rattle.int09.specs.Rules.{fed}
 use Rattle.ctl_core.specs.ScanCodes.{translated}
-use Rattle.board_lines.specs.Matrix.{all_up, turned}
+use Rattle.board_terms.specs.Matrix.{all_up, turned}
 use Rattle.layout_reader.specs.declared.entry.Entry.{Entry}
 use Rattle.layout_reader.specs.Layouts.{KeyLayout}
 use Rattle.kbd_model.specs.declared.state.Repeat.{Repeat}

@@ -4,11 +4,11 @@ use Rattle.std.proofs.Common.{◌==◌, List, [], ◌∷◌, length, inr, refl, 
 use Rattle.std.specs.Prelude.{All}
 use Rattle.std.proofs.lemmas.Bool.{eqb-true, eqb-false}
 use Rattle.std.proofs.lemmas.List.Elements.{All-nil, All-cons, All-head, All-tail}
-use Rattle.board_lines.specs.declared.event.Edge.{Edge}
-use Rattle.board_lines.specs.declared.event.HostEvent.{HostEvent}
-use Rattle.board_lines.specs.Edges.{of_place, AreInOrder}
-use Rattle.board_lines.specs.Flips.{FlipsDataOrParity}
-use Rattle.board_lines.specs.Laws.{ArePlaces}
+use Rattle.board_terms.specs.declared.event.Edge.{Edge}
+use Rattle.board_terms.specs.declared.event.HostEvent.{HostEvent}
+use Rattle.board_terms.specs.Edges.{of_place, AreInOrder}
+use Rattle.board_terms.specs.Flips.{FlipsDataOrParity}
+use Rattle.board_terms.specs.Laws.{ArePlaces}
 use Rattle.layout_reader.specs.declared.entry.Entry.{Entry}
 use Rattle.layout_reader.specs.Layouts.{KeyLayout}
 use Rattle.key_file.specs.Accepted.{IsAccepted, Alternates, Dwells, IsThin, IsFifthLater, AreHostEventsInOrder, WritesByte, IsPlaceOf}
@@ -18,7 +18,7 @@ use Rattle.typed_log.specs.Typing.{planned}
 use Rattle.typed_log.specs.Typed.{IsPlayable, StrokesArePlayable}
 use Rattle.typed_log.proofs.Struck.{IsTaken, AllFit, AreStrokes, all_fit, strokes_are, lengths}
 
--- each edge is a tick at least behind the one before
+-- each edge is a tick at least after the one before
 abbrev Apart : ℕ → List Edge → Type 0
 Apart s [] = Unit {0}
 Apart s (e ∷ es) = (s ≤ e.stamp) × Apart (e.stamp + 2048) es
@@ -54,7 +54,7 @@ thin_of : (s : ℕ) (es : List Edge) → Apart s es → IsThin es
 thin_of s [] a = tt
 thin_of s (e ∷ es) a = (fifth_of e es a.1, thin_of (e.stamp + 2048) es a.1)
 
--- the edges of one key: press, release, press and so on, each 2,240 cycles at least behind the one before
+-- the edges of one key: press, release, press and so on, each 2,240 cycles at least after the one before
 abbrev Paced : Bool → ℕ → List Edge → Type 0
 Paced down s [] = Unit {0}
 Paced down s (e ∷ es) = (e.down ≡ not down) × ((s ≤ e.stamp) × Paced e.down (e.stamp + 2240) es)
@@ -68,7 +68,7 @@ dwells_of down s [] p = tt
 dwells_of down s (e ∷ []) p = tt
 dwells_of down s (e ∷ f ∷ es) p = (p.1.1.1.0, dwells_of e.down (e.stamp + 2240) (f ∷ es) p.1.1)
 
--- what follows a stroke, whatever stands before it
+-- what follows a stroke, whatever is before it
 abbrev Follows : ℕ → List Edge → Type 0
 Follows stop es = (s : ℕ) → s ≤ stop → Paced false s es
 

@@ -6,8 +6,8 @@ use Rattle.std.specs.List.{filter}
 use Rattle.std.specs.declared.option.Option.{Option}
 use Rattle.std.proofs.lemmas.Bool.Decides.{nat_tests}
 use Rattle.int09.specs.Bios.{State, start}
-use Rattle.board_lines.specs.declared.event.Edge.{Edge}
-use Rattle.board_lines.specs.Matrix.{all_up}
+use Rattle.board_terms.specs.declared.event.Edge.{Edge}
+use Rattle.board_terms.specs.Matrix.{all_up}
 use Rattle.layout_reader.specs.Layouts.{KeyLayout}
 use Rattle.kbd_model.specs.declared.state.Repeat.{Repeat}
 use Rattle.kbd_model.specs.Codes.{keys_of}

@@ -1,4 +1,4 @@
--- The first eighty ticks: the keyboard's test, its end that is told, and rest.
+-- The first eighty ticks: the keyboard's test, its end that is reported, and rest.
 use Rattle.std.proofs.Common.{◌≡◌, ℕ, suc, zero, ◌+◌, ◌-◌, ◌*◌, ◌<◌, ◌≤◌, Bool, true, false, not, ◌==◌}
 use Rattle.std.proofs.Common.{List, [], ◌∷◌, ◌++◌, None, refl, ap, ◌∙◌, subst, arith}
 use Rattle.std.specs.Prelude.{if◌then◌else◌}
@@ -8,7 +8,7 @@ use Rattle.pc_tables.specs.declared.item.Item.TheVariants.{Port}
 use Rattle.ctl_core.specs.ScanCodes.{scan_codes, translated}
 use Rattle.int09.specs.Bios.{start}
 use Rattle.int09.specs.Rules.{fed, marks, on_sysreq, alt_broken, on_shift_key}
-use Rattle.board_lines.specs.Matrix.{all_up}
+use Rattle.board_terms.specs.Matrix.{all_up}
 use Rattle.layout_reader.specs.Layouts.{KeyLayout}
 use Rattle.kbd_model.specs.declared.state.Mode.TheVariants.{Ready}
 use Rattle.kbd_model.specs.Codes.{Keys, keys_of}
@@ -78,16 +78,16 @@ test_silent : (layout : KeyLayout) (left : ℕ) → (left == 0) ≡ false
     → says (keyboard layout) false (testing layout.rate left false) ≡ []
 test_silent layout left z = ap (λ b. items_of_meeting (calm_meeting b None) first_pc ++ []) z
 
--- its end is told
-told : (layout : KeyLayout) → stepped (keyboard layout) [] false (testing layout.rate 0 true)
+-- its end is reported
+reported : (layout : KeyLayout) → stepped (keyboard layout) [] false (testing layout.rate 0 true)
     ≡ staged (layers_of (record (in_test layout.rate 0 false) { last = 0xaa }))
     (record { mark = false; out = 0xaa; bios = start; done = 0 })
 unfolding scan_codes translated fed marks on_sysreq alt_broken on_shift_key
-told layout = refl
+reported layout = refl
 
-told_says : (layout : KeyLayout) → says (keyboard layout) false (testing layout.rate 0 true) ≡ Port 0xaa ∷ []
+reported_says : (layout : KeyLayout) → says (keyboard layout) false (testing layout.rate 0 true) ≡ Port 0xaa ∷ []
 unfolding scan_codes translated fed marks on_sysreq alt_broken on_shift_key
-told_says layout = refl
+reported_says layout = refl
 
 module _ (layout : KeyLayout) (h : KeyHistory) (ss : List Stroke) (edges : h.edges ≡ edges_from 0 ss)
     (host : h.host ≡ takes_from 0 ss) (fit : AllFit layout.entries ss) where
@@ -125,16 +125,16 @@ module _ (layout : KeyLayout) (h : KeyHistory) (ss : List Stroke) (edges : h.edg
   abbrev waits_at : ℕ → Type 0
   waits_at n = At layout h ss edges host fit n (line 0xaa [] false false 0xaa start 0) None all_up []
 
-  after_telling : waits_at 65
-  after_telling =
+  after_reporting : waits_at 65
+  after_reporting =
       ticks_on (keyboard layout) h ss host 64 (testing layout.rate 0 true)
       (staged (layers_of (record (in_test layout.rate 0 false) { last = 0xaa }))
       (record { mark = false; out = 0xaa; bios = start; done = 0 }))
       [] [] (Port 0xaa ∷ []) (none_before_first layout h ss edges host fit 64 (omega arith)) after_test (omega arith)
-      (told layout) (told_says layout) (refl, tt)
+      (reported layout) (reported_says layout) (refl, tt)
 
   waits_on : (count n : ℕ) → n ≡ count + 65 → n ≤ 80 → waits_at n
-  waits_on zero n z l = let e : 65 ≡ n = omega (arith, z) in subst waits_at e after_telling
+  waits_on zero n z l = let e : 65 ≡ n = omega (arith, z) in subst waits_at e after_reporting
   waits_on (suc count) zero z l = absurd (omega (arith, z))
   waits_on (suc count) (suc n) z l =
       idle layout h ss edges host fit n 0xaa 0xaa 0 start None all_up []

@@ -120,7 +120,7 @@ pub record IsTaken (es : List Entry) (place : ℕ) : Type 0 where
 taken_of : (p : Entry → Bool) (es : List Entry) (e : Entry) → Found p es e → IsTaken es e.place
 taken_of p es e f = record { in_matrix = f.is.place; own = rw f.own refl }
 
--- where a stroke's keys stand
+-- where a stroke's keys are
 pub record AreApart (es : List Entry) (first second : ℕ) : Type 0 where
   pub of_first : IsTaken es first
   pub of_second : IsTaken es second

@@ -7,7 +7,7 @@ use Rattle.std.proofs.lemmas.Bool.Decides.{nat_tests}
 use Rattle.pc_tables.specs.declared.item.Item.{Item}
 use Rattle.pc_tables.specs.declared.item.Item.TheVariants.{Taken}
 use Rattle.int09.specs.Bios.{first_word, without_first}
-use Rattle.board_lines.specs.declared.event.HostEvent.{HostEvent}
+use Rattle.board_terms.specs.declared.event.HostEvent.{HostEvent}
 use Rattle.quiet_log.proofs.Calm.{Pc, after_event, items_now, pc_after, items_in, bios_by, items_by}
 use Rattle.typed_log.specs.Typing.{Stroke, stroke_start, take_of, takes_from}
 
@@ -67,7 +67,7 @@ module _ (events : List HostEvent) where
       ∙ ap (λ v. items_in events n (suc now) v) (waits_now now (slice_get events q.done) q w)
       ∙ undue_silent n (suc now) stop q (omega (arith, z)) u
 
-  -- a take that is due, and nothing behind it
+  -- a take that is due, and nothing after it
   takes_now : (now t : ℕ) (o : Option HostEvent) (q : Pc) → o ≡ Some (take_of t) → t + 18432 ≡ now
       → after_event now o q ≡ took q
   takes_now now t o q is at =

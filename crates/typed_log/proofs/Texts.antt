@@ -160,7 +160,7 @@ module _ (layout : KeyLayout) (ok : IsKeyLayout layout) (h : KeyHistory) (ss : L
   abbrev characters_of : List ℕ → List (Option ℕ)
   characters_of text = map (λ byte. Some (character byte)) text
 
-  -- the rest of a text, where its strokes stand behind so many others
+  -- the rest of a text, where its strokes are after so many others
   strokes_on : (m : ℕ) (text : List ℕ) (more : List Stroke) (characters : List (Option ℕ))
       → AreStrokes layout.entries text more
       → ((i : ℕ) → slice_get more i ≡ slice_get ss (i + m)) → m + length more ≡ length ss → Typed m characters

@@ -4,8 +4,8 @@ use Rattle.std.proofs.Common.{Bool, true, false, not, ◌&&◌, ◌==◌, cond, 
 use Rattle.std.specs.Prelude.{nat_le, nat_lt}
 use Rattle.std.specs.List.{filter}
 use Rattle.std.proofs.lemmas.Bool.Decides.{nat_tests}
-use Rattle.board_lines.specs.declared.event.Edge.{Edge}
-use Rattle.board_lines.specs.Edges.{of_place}
+use Rattle.board_terms.specs.declared.event.Edge.{Edge}
+use Rattle.board_terms.specs.Edges.{of_place}
 use Rattle.link_model.specs.TickEdges.{read_at, none_before, is_least, is_seen, by_place, change_of, tick_edges}
 use Rattle.link_model.proofs.Edges.{same_by_place}
 use Rattle.quiet_log.specs.Quiet.{even}
@@ -36,9 +36,9 @@ least_is p q n off on =
         let h : (n == q) ≡ true = grind (arith, nat_tests, e) in
         ap (λ b. b && none_before p n) (on n (omega (arith, e))) ∙ none_until p q n off (omega (arith, e)) ∙ sym h
 
-    behind : (n : ℕ) → q < n → is_least p n ≡ (n == q)
-    behind zero l = absurd (omega (arith, l))
-    behind (suc n) l =
+    afterwards : (n : ℕ) → q < n → is_least p n ≡ (n == q)
+    afterwards zero l = absurd (omega (arith, l))
+    afterwards (suc n) l =
         let h : (suc n == q) ≡ false = grind (arith, nat_tests, l) in
         ap (λ b. p (suc n) && (not b && none_before p n)) (on n (omega (arith, l))) ∙ and-none (p (suc n)) ∙ sym h
 
@@ -46,7 +46,7 @@ least_is p q n off on =
     from n l =
         elim (n == q) as (λ b. (n == q) ≡ b → is_least p n ≡ (n == q)) [
           | true ↦ λ g. let k : n ≡ q = grind (arith, nat_tests, g) in at n k
-          | false ↦ λ g. let k : q < n = grind (arith, nat_tests, g, l) in behind n k
+          | false ↦ λ g. let k : q < n = grind (arith, nat_tests, g, l) in afterwards n k
         ] refl
 
 -- which tick sees an edge in the middle of tick q

@@ -6,7 +6,7 @@ use Rattle.std.specs.declared.option.Option.{Option}
 use Rattle.bits.specs.Bits.{with_bit}
 use Rattle.pc_tables.specs.declared.item.Item.{Item}
 use Rattle.pc_tables.specs.declared.item.Item.TheVariants.{Port, Taken}
-use Rattle.board_lines.specs.Matrix.{turned}
+use Rattle.board_terms.specs.Matrix.{turned}
 use Rattle.layout_reader.specs.Layouts.{KeyLayout, is_fn_place}
 use Rattle.ctl_core.specs.ScanCodes.{translated}
 use Rattle.ctl_core.specs.Translation.{translation, coded}

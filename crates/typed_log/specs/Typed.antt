@@ -24,7 +24,7 @@ StrokesArePlayable =
     (layout : KeyLayout) (text : List ℕ) (strokes : List Stroke) → IsKeyLayout layout → length text ≤ 10000
     → strokes_of layout text ≡ Some strokes → IsPlayable layout (planned strokes)
 
--- an item that tells of something lost: of a word that found no room, or of an overrun of the keyboard's queue
+-- an item that reports something lost: of a word that found no room, or of an overrun of the keyboard's queue
 abbrev pub is_loss : Item → Bool
 is_loss (Port byte) = false
 is_loss (Read byte) = false

@@ -7,9 +7,9 @@ use Rattle.std.specs.declared.option.Option.{Option}
 use Rattle.pc_tables.specs.declared.words.WordRow.{WordRow}
 use Rattle.pc_tables.specs.Keys.{name_at, scan_at}
 use Rattle.pc_tables.specs.Words.{words_at}
-use Rattle.board_lines.specs.declared.event.Edge.{Edge}
-use Rattle.board_lines.specs.declared.event.HostAct.TheVariants.{Take}
-use Rattle.board_lines.specs.declared.event.HostEvent.{HostEvent}
+use Rattle.board_terms.specs.declared.event.Edge.{Edge}
+use Rattle.board_terms.specs.declared.event.HostAct.TheVariants.{Take}
+use Rattle.board_terms.specs.declared.event.HostEvent.{HostEvent}
 use Rattle.layout_reader.specs.declared.entry.Entry.{Entry}
 use Rattle.layout_reader.specs.Layouts.{KeyLayout}
 use Rattle.key_file.specs.Histories.{KeyHistory}
@@ -101,7 +101,7 @@ abbrev pub first_without : KeyLayout → List ℕ → Option (ℕ × ℕ)
 first_without layout text = without_from layout 1 text
 
 -- the stamp at which the stroke with this number begins, from 0. The first one begins in the second half of tick 79,
--- when the keyboard's test is over and its end is told; and then one each ten ticks of 2,048 cycles
+-- when the keyboard's test is over and its end is reported; and then one each ten ticks of 2,048 cycles
 abbrev pub stroke_start : ℕ → ℕ
 stroke_start number = 162816 + 20480 * number
 

@@ -3,12 +3,12 @@ use Rattle.std.proofs.Common.{ℕ, zero, suc, ◌*◌, Bool, true, false, List, 
 use Rattle.std.specs.Prelude.{codes, if◌then◌else◌}
 use Rattle.std.specs.Fmt.{decimal}
 use Rattle.std.specs.declared.option.Option.{Option}
-use Rattle.board_lines.specs.declared.lines.Lines.{Lines}
+use Rattle.board_terms.specs.declared.lines.Lines.{Lines}
 use Rattle.hex_text.specs.Digits.{hex_byte}
 use Rattle.board_probes.specs.declared.heard.Sample.{Sample}
 use Rattle.board_probes.specs.declared.heard.Transfer.{Transfer}
 use Rattle.board_probes.specs.Transfers.{Ear, completed, wires_at}
-use Rattle.io_edge.proofs.Pieces.{AreLines, lines_behind}
+use Rattle.io_edge.proofs.Pieces.{AreLines, lines_after}
 use Rattle.joint_feed.specs.Stories.{Story, state_at}
 use Rattle.joint_run.specs.Joint.{Beside}
 use Rattle.joint_run.specs.Run.{World}
@@ -16,24 +16,24 @@ use Rattle.wire_trace.specs.Text.{change_text, comment, differ, header, level_te
 use Rattle.wire_trace.specs.Trace.{changes_to, text_in}
 use Rattle.wires_heard.specs.Hearing.{heard_to, sample_in}
 
--- a line, and a line behind others
+-- a line, and a line after others
 one : (text : List ℕ) → AreLines (line text)
 one text = inr (text, refl)
 
-behind : (first text : List ℕ) → AreLines first → AreLines (first ++ line text)
-behind first text h = lines_behind first (line text) h (one text)
+afterwards : (first text : List ℕ) → AreLines first → AreLines (first ++ line text)
+afterwards first text h = lines_after first (line text) h (one text)
 
 nine : (a b c d e f g h i : List ℕ)
     → AreLines (line a ++ line b ++ line c ++ line d ++ line e ++ line f ++ line g ++ line h ++ line i)
 nine a b c d e f g h i =
-    behind (line a ++ line b ++ line c ++ line d ++ line e ++ line f ++ line g ++ line h) i
-    (behind (line a ++ line b ++ line c ++ line d ++ line e ++ line f ++ line g) h
-    (behind (line a ++ line b ++ line c ++ line d ++ line e ++ line f) g
-    (behind (line a ++ line b ++ line c ++ line d ++ line e) f
-    (behind (line a ++ line b ++ line c ++ line d) e
-    (behind (line a ++ line b ++ line c) d
-    (behind (line a ++ line b) c
-    (behind (line a) b (one a))))))))
+    afterwards (line a ++ line b ++ line c ++ line d ++ line e ++ line f ++ line g ++ line h) i
+    (afterwards (line a ++ line b ++ line c ++ line d ++ line e ++ line f ++ line g) h
+    (afterwards (line a ++ line b ++ line c ++ line d ++ line e ++ line f) g
+    (afterwards (line a ++ line b ++ line c ++ line d ++ line e) f
+    (afterwards (line a ++ line b ++ line c ++ line d) e
+    (afterwards (line a ++ line b ++ line c) d
+    (afterwards (line a ++ line b) c
+    (afterwards (line a) b (one a))))))))
 
 pub header_is_lines : AreLines header
 header_is_lines =
@@ -58,9 +58,9 @@ change_is_lines cycle old new t =
     let time = line (codes "#" ++ decimal (25 * cycle)) in
     let clock = level_text (codes "c") old.clk new.clk in
     let level = level_text (codes "d") old.dat new.dat in
-    lines_behind (time ++ clock ++ level) (comment t)
-    (lines_behind (time ++ clock) level
-    (lines_behind time clock (one (codes "#" ++ decimal (25 * cycle))) (level_is_lines (codes "c") old.clk new.clk))
+    lines_after (time ++ clock ++ level) (comment t)
+    (lines_after (time ++ clock) level
+    (lines_after time clock (one (codes "#" ++ decimal (25 * cycle))) (level_is_lines (codes "c") old.clk new.clk))
     (level_is_lines (codes "d") old.dat new.dat))
     (comment_is_lines t)
 
@@ -76,5 +76,5 @@ added_is_lines (Some w) ear = sample_is_lines (sample_in w) ear
 pub changes_are_lines : (s : Story) (k : ℕ) → AreLines (changes_to s k)
 changes_are_lines s zero = inl refl
 changes_are_lines s (suc k) =
-    lines_behind (changes_to s k) (text_in (state_at s (suc k)) (heard_to s k)) (changes_are_lines s k)
+    lines_after (changes_to s k) (text_in (state_at s (suc k)) (heard_to s k)) (changes_are_lines s k)
     (added_is_lines (state_at s (suc k)) (heard_to s k))

@@ -1,12 +1,12 @@
--- A sample of the machine is one of the state that its last step led to, and is heard as behind the step before.
+-- A sample of the machine is one of the state that its last step led to, and is heard as after the step before.
 use Rattle.std.proofs.Common.{◌≡◌, ◌≤◌, ◌<◌, ℕ, zero, suc, true, Some, None, Ok, Err, OnErr, refl, ap, sym, subst, ◌∙◌, arith}
 use Rattle.std.specs.declared.option.Option.{Option}
 use Rattle.std.specs.declared.result.Result.{Result}
 use Rattle.std.proofs.lemmas.Bool.Decides.{nat_tests}
-use Rattle.board_lines.specs.declared.lines.Lines.{Lines}
+use Rattle.board_terms.specs.declared.lines.Lines.{Lines}
 use Rattle.board_probes.proofs.Sights.{same_sight}
 use Rattle.board_probes.specs.Probes.{Sight}
-use Rattle.board_probes.specs.Transfers.{Ear, heard, is_behind, sample, wires_at}
+use Rattle.board_probes.specs.Transfers.{Ear, heard, is_later_than, sample, wires_at}
 use Rattle.board_probes.specs.declared.heard.Sample.{Sample}
 use Rattle.io_edge.specs.Said.{IsBrokenOff, IsSaid, Shown}
 use Rattle.joint_feed.proofs.Going.{here}
@@ -17,12 +17,12 @@ use Rattle.joint_run.specs.Joint.{Beside}
 use Rattle.joint_run.specs.Run.{World}
 use Rattle.io_edge.proofs.Pieces.{said_then_said}
 use Rattle.story_run.specs.declared.ending.Ending.{Ending}
-use Rattle.story_run.specs.Advance.{IsBehind}
+use Rattle.story_run.specs.Advance.{IsAtReport}
 use Rattle.story_run.specs.Gliding.{lines_in}
 use Rattle.wire_trace.proofs.OfLines.{changes_are_lines}
 use Rattle.wire_trace.proofs.StillAddsNothing.{HearAlike, alike_heard, alike_text, still_to}
 use Rattle.wire_trace.specs.Ending.{AreChangesBrokenAt}
-use Rattle.wire_trace.specs.Telling.{HasHeard}
+use Rattle.wire_trace.specs.HeardSoFar.{HasHeard}
 use Rattle.wire_trace.specs.Text.{sample_text}
 use Rattle.wire_trace.specs.Trace.{changes_to, text_in}
 use Rattle.wires_heard.specs.Hearing.{heard_in, heard_to, sample_in}
@@ -43,26 +43,26 @@ heard_by s (suc k) w there =
     let l : w.cycle ≤ w.cycle = omega arith in
     subst (λ (o : Option (World Beside)). IsHeardBy (heard_in o (heard_to s k)).last w.cycle) (sym there) l
 
--- so the next one is behind it
-rises : (o : Option Sample) (before cycle : ℕ) → IsHeardBy o before → before < cycle → is_behind cycle o ≡ true
+-- so the next one is after it
+rises : (o : Option Sample) (before cycle : ℕ) → IsHeardBy o before → before < cycle → is_later_than cycle o ≡ true
 rises None before cycle h l = refl
 rises (Some s) before cycle h l = let m : s.cycle < cycle = omega (arith, h, l) in grind (arith, nat_tests, m)
 
-module _ (e : Ending) (s : Story) (k : ℕ) (c : Course) (b : IsBehind e true s k c) (old : Ear) (h : HasHeard s k old) where
+module _ (e : Ending) (s : Story) (k : ℕ) (c : Course) (b : IsAtReport e true s k c) (old : Ear) (h : HasHeard s k old) where
   abbrev w : World Beside
-  w = b.standing.on.world
+  w = b.run_so_far.on.world
 
   there : state_at s (suc b.last) ≡ Some w
-  there = subst (λ (n : ℕ). state_at s n ≡ Some w) b.steps (here s c b.standing.on)
+  there = subst (λ (n : ℕ). state_at s n ≡ Some w) b.steps (here s c b.run_so_far.on)
 
   -- the wires kept their levels up to the step before
   still : HearAlike (heard_to s b.last) (heard_to s k) × (changes_to s b.last ≡ changes_to s k)
   still = still_to s k (h.levels ∙ ap (λ (a : Ear). Some (wires_at a.last)) h.all) b.last b.quiet.later (b.quiet.levels refl)
 
-  pub rises_now : (cycle : ℕ) → cycle ≡ c.joint.cycle → is_behind cycle old.last ≡ true
+  pub rises_now : (cycle : ℕ) → cycle ≡ c.joint.cycle → is_later_than cycle old.last ≡ true
   rises_now cycle now =
       let later = b.later in
-      subst (λ (a : Ear). is_behind cycle a.last ≡ true) (sym h.all)
+      subst (λ (a : Ear). is_later_than cycle a.last ≡ true) (sym h.all)
       (rises (heard_to s k).last b.from.cycle cycle (heard_by s k b.from b.there) (omega (arith, later, now)))
 
   module _ (cycle : ℕ) (lines : Lines) (now : cycle ≡ c.joint.cycle) (level : lines ≡ outside_wires c.joint.mcu.p2 c.joint.outside) where
@@ -70,7 +70,7 @@ module _ (e : Ending) (s : Story) (k : ℕ) (c : Course) (b : IsBehind e true s 
     same =
         ap (λ (n : ℕ). sample n lines) now ∙ ap (λ (l : Lines). sample c.joint.cycle l) level
         ∙ ap (λ (v : Sight). sample v.cycle v.lines)
-        (same_sight c.joint w b.standing.on.in_run.mcu b.standing.on.in_run.outside b.standing.on.in_run.cycle)
+        (same_sight c.joint w b.run_so_far.on.in_run.mcu b.run_so_far.on.in_run.outside b.run_so_far.on.in_run.cycle)
 
     -- what is kept
     pub heard_now : (new : Ear) → new ≡ heard (sample cycle lines) old → HasHeard s c.joint.steps new
@@ -78,7 +78,7 @@ module _ (e : Ending) (s : Story) (k : ℕ) (c : Course) (b : IsBehind e true s 
       all = is ∙ ap (λ (x : Sample). heard x old) same ∙ ap (heard (sample_in w)) h.all
           ∙ sym (alike_heard (sample_in w) (heard_to s b.last) (heard_to s k) still.0)
           ∙ sym (ap (λ (o : Option (World Beside)). heard_in o (heard_to s b.last)) there) ∙ sym (ap (heard_to s) b.steps);
-      levels = ap lines_in (here s c b.standing.on) ∙ ap (λ (x : Sample). Some x.lines) (sym same)
+      levels = ap lines_in (here s c b.run_so_far.on) ∙ ap (λ (x : Sample). Some x.lines) (sym same)
           ∙ sym (ap (λ (a : Ear). Some (wires_at a.last)) is);
     }
 

@@ -4,7 +4,7 @@ use Rattle.std.proofs.Common.{List, [], ◌++◌, Some, None, refl, ap, sym, sub
 use Rattle.std.specs.Prelude.{if◌then◌else◌}
 use Rattle.std.proofs.lemmas.List.{append-nil}
 use Rattle.std.specs.declared.option.Option.{Option}
-use Rattle.board_lines.specs.declared.lines.Lines.{Lines}
+use Rattle.board_terms.specs.declared.lines.Lines.{Lines}
 use Rattle.board_probes.specs.Transfers.{Ear, completed, fall_at, heard, is_fall, transfer_by, wires_at, with_fall}
 use Rattle.board_probes.specs.declared.heard.Fall.{Fall}
 use Rattle.board_probes.specs.declared.heard.Sample.{Sample}

@@ -1,4 +1,4 @@
--- What a sink has behind the header and what was told of a run.
+-- What a sink has after the header and what was reported of a run.
 use Rattle.std.proofs.Common.{◌≡◌, ◌≤◌, ◌<◌, ℕ, suc, true, List, ◌++◌, Some, refl, ap, sym, subst, ◌∙◌, arith}
 use Rattle.board_probes.specs.Transfers.{Ear, silence, wires_at}
 use Rattle.fw_logic.specs.JointRun.{KeepsTimeFrom}
@@ -6,20 +6,20 @@ use Rattle.io_edge.specs.Said.{IsBrokenOff, IsSaid, Shown}
 use Rattle.io_edge.proofs.Pieces.{broken_before, said_then_broken, said_then_said}
 use Rattle.joint_feed.specs.Stories.{Story, state_at}
 use Rattle.joint_feed.specs.declared.course.Course.{Course}
-use Rattle.story_run.proofs.Ended.{comes_to_end, goes_on_within, over_behind}
+use Rattle.story_run.proofs.Ended.{comes_to_end, goes_on_within, over_after}
 use Rattle.story_run.proofs.Texts.{broken_in_all, later}
 use Rattle.story_run.specs.declared.ending.End.{End}
 use Rattle.story_run.specs.declared.ending.Ending.{Ending}
 use Rattle.story_run.specs.declared.ending.Ending.TheVariants.{TickStart}
 use Rattle.story_run.specs.Advance.{IsEnding}
 use Rattle.story_run.specs.Looking.{BrokeOff}
-use Rattle.story_run.specs.Telling.{IsToldTo}
+use Rattle.story_run.specs.Reports.{IsReportedTo}
 use Rattle.board_probes.specs.Probes.{Watch}
 use Rattle.joint_run.specs.Joint.{joint_start_of}
 use Rattle.wire_trace.proofs.OfLines.{changes_are_lines, header_is_lines}
 use Rattle.wire_trace.proofs.StillAddsNothing.{still_to}
 use Rattle.wire_trace.specs.Ending.{AreChangesBrokenAt, IsTraceBrokenOff, IsTraceSaid}
-use Rattle.wire_trace.specs.Telling.{HasHeard}
+use Rattle.wire_trace.specs.HeardSoFar.{HasHeard}
 use Rattle.wire_trace.specs.Text.{header}
 use Rattle.wire_trace.specs.Trace.{changes_to, text_in, trace_to}
 use Rattle.wires_heard.specs.Hearing.{heard_to}
@@ -28,13 +28,13 @@ use Rattle.wires_heard.specs.Hearing.{heard_to}
 pub heard_none : (s : Story) (ear : Ear) → ear ≡ silence → HasHeard s 0 ear
 heard_none s ear none = record { all = none; levels = sym (ap (λ (a : Ear). Some (wires_at a.last)) none) }
 
--- all that is told of a run's first steps is what their samples add
-pub told_all : (e : Ending) (s : Story) (ear : Ear) (first last : Shown) (n : ℕ)
-    → IsToldTo e true s (λ k. HasHeard s k ear × IsSaid first last (changes_to s k)) n → IsSaid first last (changes_to s n)
-told_all e s ear first last n h =
+-- all that is reported of a run's first steps is what their samples add
+pub reported_all : (e : Ending) (s : Story) (ear : Ear) (first last : Shown) (n : ℕ)
+    → IsReportedTo e true s (λ k. HasHeard s k ear × IsSaid first last (changes_to s k)) n → IsSaid first last (changes_to s n)
+reported_all e s ear first last n h =
     let k = h.steps in
-    let level = h.told_so.0.levels ∙ ap (λ (a : Ear). Some (wires_at a.last)) h.told_so.0.all in
-    subst (λ v. IsSaid first last v) (sym (still_to s k level n h.quiet.later (h.quiet.levels refl)).1) h.told_so.1
+    let level = h.reported_so.0.levels ∙ ap (λ (a : Ear). Some (wires_at a.last)) h.reported_so.0.all in
+    subst (λ v. IsSaid first last v) (sym (still_to s k level n h.quiet.later (h.quiet.levels refl)).1) h.reported_so.1
 
 -- what later samples add is after what the earlier ones did
 pub later_changes : (s : Story) (k n : ℕ) → k ≤ n → (rest : List ℕ) × (changes_to s n ≡ changes_to s k ++ rest)
@@ -47,22 +47,22 @@ changes_broken s before after k n l h =
     broken_in_all (changes_to s) (λ j. text_in (state_at s (suc j)) (heard_to s j)) n (λ j m. refl) (changes_are_lines s) k l before after h
 
 -- and in the header with them
-pub broken_behind : (s : Story) (before mid after : Shown) (n : ℕ)
+pub broken_after : (s : Story) (before mid after : Shown) (n : ℕ)
     → IsSaid before mid header → IsBrokenOff mid after (changes_to s n) → IsBrokenOff before after (trace_to s n)
-broken_behind s before mid after n all part = said_then_broken before mid after header (changes_to s n) header_is_lines all part
+broken_after s before mid after n all part = said_then_broken before mid after header (changes_to s n) header_is_lines all part
 
 module _ (s : Story) (t : KeepsTimeFrom (joint_start_of s.held) s.bytes s.edges s.events) (before mid after : Shown) where
   -- the sink took both
   pub trace_said : (c : Course) (end : End) (ear : Ear) → IsEnding TickStart s c end → IsSaid before mid header
-      → IsToldTo TickStart true s (λ k. HasHeard s k ear × IsSaid mid after (changes_to s k)) c.joint.steps → IsTraceSaid s before after
-  trace_said c end ear ends first told = record {
+      → IsReportedTo TickStart true s (λ k. HasHeard s k ear × IsSaid mid after (changes_to s k)) c.joint.steps → IsTraceSaid s before after
+  trace_said c end ear ends first reported = record {
     steps = c.joint.steps;
-    is_over = over_behind s t c end ends;
+    is_over = over_after s t c end ends;
     said = said_then_said before mid after header (changes_to s c.joint.steps) header_is_lines first
-        (told_all TickStart s ear mid after c.joint.steps told);
+        (reported_all TickStart s ear mid after c.joint.steps reported);
   }
 
-  -- it failed behind the header
+  -- it failed after the header
   pub broken_in_changes : (probes left : List Watch)
       → IsSaid before mid header → BrokeOff TickStart s (AreChangesBrokenAt s mid after) probes left
       → IsTraceBrokenOff s before after
@@ -72,7 +72,7 @@ module _ (s : Story) (t : KeepsTimeFrom (joint_start_of s.held) s.bytes s.edges 
       record {
         steps = end.0;
         is_over = end.1;
-        broken = broken_behind s before mid after end.0 first
+        broken = broken_after s before mid after end.0 first
             (changes_broken s mid after broke.last end.0 (omega (arith, within)) broke.broken_so);
       }
 

@@ -3,24 +3,24 @@ use Rattle.std.specs.Prelude.{ℕ, suc}
 use Rattle.io_edge.specs.Said.{IsBrokenOff, IsSaid, Shown}
 use Rattle.joint_feed.specs.Stories.{Story, state_at}
 use Rattle.story_run.specs.declared.ending.Ending.TheVariants.{TickStart}
-use Rattle.story_run.specs.Running.{IsOverBehind}
-use Rattle.story_run.specs.Telling.{IsBrokenBehind}
+use Rattle.story_run.specs.Running.{IsOverAfter}
+use Rattle.story_run.specs.Reports.{IsBrokenAfter}
 use Rattle.wire_trace.specs.Trace.{changes_to, text_in, trace_to}
 use Rattle.wires_heard.specs.Hearing.{heard_to}
 
 -- the trace of a run is said, up to the first tick start at or after the end stamp
 pub record IsTraceSaid (s : Story) (before after : Shown) : Type 0 where
   pub steps : ℕ
-  pub is_over : IsOverBehind TickStart s steps
+  pub is_over : IsOverAfter TickStart s steps
   pub said : IsSaid before after (trace_to s steps)
 
 -- its saying is broken off
 pub record IsTraceBrokenOff (s : Story) (before after : Shown) : Type 0 where
   pub steps : ℕ
-  pub is_over : IsOverBehind TickStart s steps
+  pub is_over : IsOverAfter TickStart s steps
   pub broken : IsBrokenOff before after (trace_to s steps)
 
 -- the saying of what the samples add is broken off in what that of the step after the first k adds
 abbrev pub AreChangesBrokenAt : Story → Shown → Shown → ℕ → Type 0
 AreChangesBrokenAt s before after k =
-    IsBrokenBehind before after (changes_to s k) (text_in (state_at s (suc k)) (heard_to s k))
+    IsBrokenAfter before after (changes_to s k) (text_in (state_at s (suc k)) (heard_to s k))

@@ -1,4 +1,4 @@
 pub mod Text
 pub mod Trace
 pub mod Ending
-pub mod Telling
+pub mod HeardSoFar

@@ -5,8 +5,8 @@ ghost use Rattle.arrayvec.specs.ArrayVec.{array_vec_len};
 ghost use Rattle.wire_trace.specs.Text.{change_text, comment, differ, level_text, turns};
 
 use arrayvec::ArrayVec;
-use board_lines::Lines;
 use board_probes::Transfer;
+use board_terms::Lines;
 use short_text::{append, begun};
 
 /// The lines of one sample. None has more.

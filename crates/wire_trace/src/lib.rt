@@ -3,17 +3,17 @@
 //!
 //! This layer has `story_run` make the run of a layout's compiled image under a history, and samples the wires after the
 //! steps that change them. It knows how a change of the wires is written, which it lends to whoever makes another run. What
-//! a transfer is, is told by `board_probes`'s decoder. It knows no instruction, no rule of the keyboard, the controller or the
+//! a transfer is, is reported by `board_probes`'s decoder. It knows no instruction, no rule of the keyboard, the controller or the
 //! host, and no log. Source: the format is that of IEEE 1364, value change dump; what is written in it is our own.
 #![tactic(auto)]
 
 mod change;
 mod fault;
+mod reporting;
 mod sampling;
-mod telling;
 mod tracing;
 
 pub use fault::TraceFault;
+pub use reporting::Changes;
 pub use sampling::put_sample;
-pub use telling::Changes;
 pub use tracing::{put_header, trace};

@@ -1,13 +1,13 @@
 //! A sample of the wires, put into a sink.
 
 ghost use Rattle.std.specs.Prelude.{◌≡◌, true, OnErr, OnOk};
-ghost use Rattle.board_probes.specs.Transfers.{heard, is_behind, sample};
+ghost use Rattle.board_probes.specs.Transfers.{heard, is_later_than, sample};
 ghost use Rattle.io_edge.specs.Said.{IsBrokenOff, IsSaid};
 ghost use Rattle.wire_trace.specs.Text.{sample_text};
 
 use crate::change::{change, differ};
-use board_lines::Lines;
 use board_probes::LineDecoder;
+use board_terms::Lines;
 use io_edge::{Sink, SinkFault, say};
 
 /// The decoder hears the wires as they are after so many cycles, which are more than at its last sample; and if they
@@ -19,7 +19,7 @@ pub fn put_sample<K: Sink>(
     cycle: u64,
     lines: Lines,
 ) -> Result<(), SinkFault>
-    requires rises { is_behind cycle decoder.old.last ≡ true }
+    requires rises { is_later_than cycle decoder.old.last ≡ true }
     ensures heard { decoder.new ≡ heard (sample cycle lines) decoder.old }
     ensures said { OnOk result (IsSaid (K.shown out.old)
         (K.shown out.new) (sample_text (sample cycle lines) decoder.old)) }

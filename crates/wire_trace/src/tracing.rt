@@ -15,14 +15,14 @@ ghost use Rattle.wire_trace.specs.Text.{header};
 ghost use Rattle.wires_heard.specs.Hearing.{HearsAll};
 
 use crate::fault::TraceFault;
-use crate::telling::Changes;
+use crate::reporting::Changes;
 use agreement::run_and_model_agree;
 use io_edge::{Sink, SinkFault, say};
 use joint_feed::Course;
 use key_file::Feed;
 use layout_reader::Layout;
 use std::alloc::Global;
-use story_run::{Ending, begin_run, tell_run};
+use story_run::{Ending, begin_run, make_run};
 use wires_heard::wires_are_heard;
 
 /// What is before the first sample.
@@ -45,17 +45,17 @@ fn put_trace<F: Feed, K: Sink>(
     feed: &mut F,
     out: &mut K,
 ) -> Result<(), SinkFault>
-    requires ready { let run = story course.old.joint.image.bytes (F.told feed.old).history in
-        IsReady TickStart run (F.told feed.old) course.old }
-    ensures said { let run = story course.old.joint.image.bytes (F.told feed.old).history in
+    requires ready { let run = story course.old.joint.image.bytes (F.feeds feed.old).history in
+        IsReady TickStart run (F.feeds feed.old) course.old }
+    ensures said { let run = story course.old.joint.image.bytes (F.feeds feed.old).history in
         OnOk result (IsTraceSaid run (K.shown out.old) (K.shown out.new)) }
-    ensures broken { let run = story course.old.joint.image.bytes (F.told feed.old).history in
+    ensures broken { let run = story course.old.joint.image.bytes (F.feeds feed.old).history in
         OnErr result (IsTraceBrokenOff run (K.shown out.old) (K.shown out.new)) }
 {
     let mut changes = Changes::new();
     let mut probes = Vec::new(alloc);
     put_header(out)?;
-    let _end = tell_run::<F, K, SinkFault, Changes, 11>(
+    let _end = make_run::<F, K, SinkFault, Changes, 11>(
         course,
         feed,
         0,
@@ -84,14 +84,14 @@ pub fn trace<F: Feed, K: Sink>(
     feed: F,
     out: &mut K,
 ) -> Result<(), TraceFault>
-    requires no_edge { (F.told feed).edges ≡ 0 }
-    requires no_host { (F.told feed).host ≡ 0 }
-    requires accepted { IsAcceptedFor layout.now (F.told feed).history }
+    requires no_edge { (F.feeds feed).edges ≡ 0 }
+    requires no_host { (F.feeds feed).host ≡ 0 }
+    requires accepted { IsAcceptedFor layout.now (F.feeds feed).history }
     ensures layout { IsKeyLayout layout.now }
-    ensures said { let run = story (image_of layout.now) (F.told feed).history in
+    ensures said { let run = story (image_of layout.now) (F.feeds feed).history in
         OnOk result (IsTraceSaid run (K.shown out.old) (K.shown out.new)) }
-    ensures heard { HearsAll (story (image_of layout.now) (F.told feed).history) }
-    ensures broken { let run = story (image_of layout.now) (F.told feed).history in
+    ensures heard { HearsAll (story (image_of layout.now) (F.feeds feed).history) }
+    ensures broken { let run = story (image_of layout.now) (F.feeds feed).history in
         result ≡ Err Write → IsTraceBrokenOff run (K.shown out.old) (K.shown out.new) }
     ensures nothing { result ≡ Err Memory → K.shown out.new ≡ K.shown out.old }
 {

@@ -9,12 +9,12 @@ use Rattle.ctl_core.specs.declared.controller.Did.{Did}
 use Rattle.ctl_core.specs.declared.controller.Did.TheVariants.{Nothing, ToKeyboard, Output, Pulse}
 use Rattle.ctl_link.specs.declared.link.Link.{Link}
 use Rattle.ctl_link.specs.declared.link.Link.TheVariants.{Free, Hold, Ask, Request, Busy}
-use Rattle.ctl_link.specs.declared.port.Port.{Port}
+use Rattle.ctl_link.specs.declared.port.LinkEnd.{LinkEnd}
 use Rattle.ctl_link.specs.Link.{held_since, asking, took_where, takes_input, link_after, is_busy, settled}
-use Rattle.board_lines.specs.declared.event.HostEvent.{HostEvent}
+use Rattle.board_terms.specs.declared.event.HostEvent.{HostEvent}
 use Rattle.host_turn.specs.Run.{Side, goes_on}
 use Rattle.host_turn.proofs.Turns.{turn_of}
-use Rattle.board_lines.specs.declared.lines.Lines.{Lines}
+use Rattle.board_terms.specs.declared.lines.Lines.{Lines}
 use Rattle.ctl_wire.specs.declared.wire.Wire.{Wire}
 use Rattle.ctl_wire.specs.Wire.{edge_at, drive, is_breakable}
 use Rattle.pc_wires.specs.Wires.{Pc, board_cycle, looked, wires}
@@ -38,7 +38,7 @@ module _ {F : Type 0} (opens : F → Bool) where
   asking_free since (Output byte) l h = h
   asking_free since (Pulse lines) l h = h
 
-  where_free : (now : ℕ) (since : Option ℕ) (input : Option Taken) (p : Port F) → is_busy p.link ≡ false
+  where_free : (now : ℕ) (since : Option ℕ) (input : Option Taken) (p : LinkEnd F) → is_busy p.link ≡ false
       → is_busy (took_where now since input p).port.link ≡ false
   where_free now None input p h = h
   where_free now (Some since) None p h = h
@@ -58,14 +58,14 @@ module _ {F : Type 0} (opens : F → Bool) where
       → is_busy (goes_on opens events now s).port.link ≡ false
   unfolding goes_on
   stays_free events now s h =
-      let p : Port F = Rattle.host_turn.specs.Cycle.port_by (turn_of events now s) s.port in
-      let t : Port F = (takes_input now p).port in
+      let p : LinkEnd F = Rattle.host_turn.specs.Cycle.port_by (turn_of events now s) s.port in
+      let t : LinkEnd F = (takes_input now p).port in
       ap (λ q. is_busy (settled now q).port.link) (unbroken opens now p h)
       ∙ after_free now (t.core.output_full || is_disabled t.core) t.awaits t.link
       (where_free now (held_since now p.awaits p.link) (if p.core.output_full then None else taken p.core) p h)
 
 -- the look, while the keyboard leaves the clock alone
-look_still : (now : ℕ) (dat clock : Bool) (p : Port Wire) (l : Link Wire) → is_busy l ≡ false
+look_still : (now : ℕ) (dat clock : Bool) (p : LinkEnd Wire) (l : Link Wire) → is_busy l ≡ false
     → (if clock && not (true && (drive l).clk) then edge_at now dat l p else p) ≡ p
 look_still now dat true p Free h = refl
 look_still now dat true p (Hold since) h = refl
@@ -77,7 +77,7 @@ look_still now dat false p l h = refl
 pub looks_still : (now : ℕ) (latch : Lines) (b : Pc) → latch.clk ≡ true → is_busy b.side.port.link ≡ false
     → (looked now (wires latch b) b).side ≡ b.side
 looks_still now latch b up h =
-    let p : Port Wire = b.side.port in
+    let p : LinkEnd Wire = b.side.port in
     let dat : Bool = latch.dat && (drive p.link).dat in
     ap (λ c. record b.side { port = if b.clock && not (c && (drive p.link).clk) then edge_at now dat p.link p else p }) up
     ∙ ap (λ q. record b.side { port = q }) (look_still now dat b.clock p p.link h)
@@ -112,7 +112,7 @@ looks_low now latch b h =
     let line : Lines = wires latch b in
     ap (λ c. record b.side { port = if c && not line.clk then edge_at now line.dat b.side.port.link b.side.port else b.side.port }) h
 
--- cycles behind an edge, in which the keyboard keeps the clock low
+-- cycles after an edge, in which the keyboard keeps the clock low
 pub low_span : (events : List HostEvent) (latch : ℕ → Lines) (n now : ℕ) (b : Pc)
     → ((o : ℕ) → now ≤ o → o < now + n → (latch o).clk ≡ false) → b.clock ≡ false
     → is_busy b.side.port.link ≡ false

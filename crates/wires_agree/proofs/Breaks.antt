@@ -4,7 +4,7 @@ use Rattle.ctl_link.specs.declared.link.Link.{Link}
 use Rattle.ctl_link.specs.declared.link.Link.TheVariants.{Busy}
 use Rattle.ctl_link.specs.Pulls.{pulled}
 use Rattle.ctl_link.proofs.Breaks.{Stays, breaks_or_not}
-use Rattle.board_lines.specs.declared.event.HostEvent.{HostEvent}
+use Rattle.board_terms.specs.declared.event.HostEvent.{HostEvent}
 use Rattle.host_turn.specs.Run.{Side, goes_on}
 use Rattle.host_turn.specs.Cycle.{port_by}
 use Rattle.host_turn.proofs.Turns.{turn_of}

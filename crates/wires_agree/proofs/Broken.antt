@@ -7,12 +7,12 @@ use Rattle.std.specs.declared.option.Option.{Option}
 use Rattle.ctl_core.specs.Controller.{ControllerState, asks_again}
 use Rattle.ctl_link.specs.declared.link.Link.{Link}
 use Rattle.ctl_link.specs.declared.link.Link.TheVariants.{Free, Hold, Ask, Request, Busy}
-use Rattle.ctl_link.specs.declared.port.Port.{Port}
-use Rattle.ctl_link.specs.Link.{link_behind, received, is_busy}
-use Rattle.board_lines.specs.declared.event.HostEvent.{HostEvent}
+use Rattle.ctl_link.specs.declared.port.LinkEnd.{LinkEnd}
+use Rattle.ctl_link.specs.Link.{next_link, received, is_busy}
+use Rattle.board_terms.specs.declared.event.HostEvent.{HostEvent}
 use Rattle.host_turn.specs.Run.{Side, goes_on}
-use Rattle.board_lines.specs.declared.lines.Lines.{Lines}
-use Rattle.board_lines.specs.Frame.{byte_of}
+use Rattle.board_terms.specs.declared.lines.Lines.{Lines}
+use Rattle.board_terms.specs.Frame.{byte_of}
 use Rattle.ctl_wire.specs.declared.wire.Wire.{Wire}
 use Rattle.ctl_wire.specs.declared.wire.Wire.TheVariants.{Recv}
 use Rattle.ctl_wire.specs.Wire.{edge_at, turned, is_breakable}
@@ -29,8 +29,8 @@ use Rattle.wires_agree.proofs.Spans.{IsAt, and-true}
 use Rattle.wires_agree.proofs.Between.{between, stays_free}
 use Rattle.wires_agree.proofs.Same.{received_same}
 use Rattle.wires_agree.proofs.Frames.{fall_cycle, event_by}
-use Rattle.wires_agree.proofs.Ways.{sent_way, behind_first}
-use Rattle.wires_agree.proofs.CellByCell.{IsThrough, IsBehind, cycles_more}
+use Rattle.wires_agree.proofs.Ways.{sent_way, afterwards_first}
+use Rattle.wires_agree.proofs.CellByCell.{IsThrough, IsAfterCells, cycles_more}
 use Rattle.wires_agree.proofs.QuietCells.{all_cells, quiet_cells}
 
 busy_seen : (l : Link Wire) → is_busy l ≡ false → is_busy (link_by without_bits l) ≡ false
@@ -55,7 +55,7 @@ closes_idle events now m h =
     ∙ ap (λ l. goes_on is_open events now (record m { port = record m.port { link = l } })) (closed_idle m.port.link h)
     ∙ sym (event_by events now Quiet m)
 
-none_arrives : (now byte : ℕ) (p : Port UnderWay) (l : Link UnderWay) → is_busy l ≡ false → arrived_in now byte l p ≡ p
+none_arrives : (now byte : ℕ) (p : LinkEnd UnderWay) (l : Link UnderWay) → is_busy l ≡ false → arrived_in now byte l p ≡ p
 none_arrives now byte p Free h = refl
 none_arrives now byte p (Hold since) h = refl
 none_arrives now byte p (Ask asked since) h = refl
@@ -166,10 +166,10 @@ asked_at now = Ask 0xfe now
 abbrev held_at : ℕ → Link Wire
 held_at now = Hold now
 
--- behind a byte that has come the controller pulls
-behind_idle : (now : ℕ) (came : Option ℕ) (s : ControllerState) → is_busy (link_behind {F = Wire} now came s) ≡ false
-behind_idle now (Some byte) s = refl
-behind_idle now None s = by_count (asks_again s)
+-- after a byte that has come the controller pulls
+afterwards_idle : (now : ℕ) (came : Option ℕ) (s : ControllerState) → is_busy (next_link {F = Wire} now came s) ≡ false
+afterwards_idle now (Some byte) s = refl
+afterwards_idle now None s = by_count (asks_again s)
   where
     by_count : (c : Bool) → is_busy (if c then asked_at now else held_at now) ≡ false
     by_count true = refl
@@ -184,8 +184,8 @@ module _ (events : List HostEvent) (latch : ℕ → Lines) (now byte : ℕ) (bit
   abbrev w : ℕ → Wire
   w k = Recv flip (bits_to bits (suc k))
 
-  abbrev q : Port Wire
-  q = behind_first (bits 0) b.side.port
+  abbrev q : LinkEnd Wire
+  q = afterwards_first (bits 0) b.side.port
 
   arrived : (v : Pc) → v.side.port.link ≡ Busy (w 9)
       → port_by without_bits (received (320 + now) (arriving flip byte) v.side.port)
@@ -198,7 +198,7 @@ module _ (events : List HostEvent) (latch : ℕ → Lines) (now byte : ℕ) (bit
   pub whole : IsThrough events latch now bits is b q Free w true at (sent_way bits b.side.port) 9
       → (seen_in_bytes (board_cycles events latch 321 now b).side
       ≡ byte_cycle events (320 + now) (Arrives byte) (sends events now (seen_in_bytes b.side)))
-      × IsBehind (board_cycles events latch 321 now b)
+      × IsAfterCells (board_cycles events latch 321 now b)
       × ((sends events now (seen_in_bytes b.side)).port.link ≡ Busy (without_bits (w 9)))
   whole through =
       let b' : Pc = board_cycles events latch 320 now b in
@@ -218,7 +218,7 @@ module _ (events : List HostEvent) (latch : ℕ → Lines) (now byte : ℕ) (bit
           low = ap (λ (v : Pc). v.clock) more ∙ c.2;
           free = ap (λ (v : Pc). is_busy v.side.port.link) more ∙ ap (λ v. is_busy v.port.link) c.1
               ∙ stays_free is_breakable events (320 + now)
-              (record b'.side { port = received (320 + now) came b'.side.port }) (behind_idle (320 + now) came b'.side.port.core);
+              (record b'.side { port = received (320 + now) came b'.side.port }) (afterwards_idle (320 + now) came b'.side.port.core);
         },
         ap (λ m. m.port.link) (sym sent) ∙ ap (λ l. link_by without_bits l) through.there.link_is,
       )

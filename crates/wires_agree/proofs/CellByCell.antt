@@ -5,12 +5,12 @@ use Rattle.std.specs.Prelude.{nat_lt}
 use Rattle.std.proofs.lemmas.Bool.Decides.{nat_tests}
 use Rattle.ctl_link.specs.declared.link.Link.{Link}
 use Rattle.ctl_link.specs.declared.link.Link.TheVariants.{Busy}
-use Rattle.ctl_link.specs.declared.port.Port.{Port}
+use Rattle.ctl_link.specs.declared.port.LinkEnd.{LinkEnd}
 use Rattle.ctl_link.specs.Link.{is_busy}
 use Rattle.ctl_link.specs.Pulls.{pulled}
-use Rattle.board_lines.specs.declared.event.HostEvent.{HostEvent}
+use Rattle.board_terms.specs.declared.event.HostEvent.{HostEvent}
 use Rattle.host_turn.specs.Run.{Side}
-use Rattle.board_lines.specs.declared.lines.Lines.{Lines}
+use Rattle.board_terms.specs.declared.lines.Lines.{Lines}
 use Rattle.ctl_wire.specs.declared.wire.Wire.{Wire}
 use Rattle.ctl_wire.specs.Wire.{edge_at, drive, is_breakable}
 use Rattle.pc_wires.specs.Wires.{Pc, board_cycle}
@@ -43,7 +43,7 @@ cycles_more events latch (suc m) n (suc k) now b e =
     ∙ ap (λ j. board_cycles events latch n j (board_cycles events latch (suc m) now b)) z
 
 module _ (events : List HostEvent) (latch : ℕ → Lines) (now : ℕ) (bits : ℕ → Bool) (is : IsFrame latch now bits)
-    (b : Pc) (q : Port Wire) (l : Link Wire) (w : ℕ → Wire)
+    (b : Pc) (q : LinkEnd Wire) (l : Link Wire) (w : ℕ → Wire)
     (from : Bool) (at : IsAt b l true) (way : IsWay b.side.port q l w from bits) where
   abbrev pc_at : ℕ → Pc
   pc_at t = board_cycles events latch t now b
@@ -74,8 +74,8 @@ module _ (events : List HostEvent) (latch : ℕ → Lines) (now : ℕ) (bits : �
     pub there : IsAt (pc_at (32 * suc k)) (Busy (w k)) true
     pub up_to_here : (i : ℕ) → i < suc k → IsOn i
 
-  abbrev Stands : ℕ → Type 0
-  Stands k = IsThrough k ⊎ ((j : ℕ) × IsBroken j)
+  abbrev HoldsAt : ℕ → Type 0
+  HoldsAt k = IsThrough k ⊎ ((j : ℕ) × IsBroken j)
 
   lengthen : (s t : ℕ) (m : Side UnderWay) → t ≡ 17 + s → quietly events 14 t (quietly events 17 s m) ≡ quietly events 31 s m
   lengthen s t m e = ap (λ j. quietly events 14 j (quietly events 17 s m)) e ∙ sym (quiet_more events 17 14 31 s m refl)
@@ -103,7 +103,7 @@ module _ (events : List HostEvent) (latch : ℕ → Lines) (now : ℕ) (bits : �
           let shut : is_breakable (w k) ≡ false = ap (λ j. is_breakable (w j)) same ∙ way.last in
           absurd (cc (opens, shut))
 
-  -- broken off behind the look of cell k: the look of the next cell sees it
+  -- broken off after the look of cell k: the look of the next cell sees it
   next_cell : (k : ℕ) → k < 10 → ((i : ℕ) → i < suc k → IsOn i) → is_breakable (w k) ≡ true
       → seen_in_bytes (pc_at (32 * suc k)).side ≡ model k 31 → (since : ℕ) → 32 * k + now + 18 ≤ since
       → pulled (pc_at (32 * suc k)).side.port.link ≡ Some since
@@ -151,7 +151,7 @@ module _ (events : List HostEvent) (latch : ℕ → Lines) (now : ℕ) (bits : �
         subst (λ v. On v (w k) (latch (t + (n + x))).clk (suc (n + x))) same rest.1,
       )
 
-  -- in cell k the byte is under way so many cycles behind its 18th, or the controller pulls the clock since then
+  -- in cell k the byte is under way so many cycles after its 18th, or the controller pulls the clock since then
   pub later_in_cell : (k t : ℕ) → k < 10 → t ≤ 14 → IsOn k
       → On (pc_at (32 * k + (18 + t))) (w k) (latch (t + (17 + (32 * k + now)))).clk (suc (17 + (32 * k + now)))
   later_in_cell k t below short on =
@@ -187,7 +187,7 @@ module _ (events : List HostEvent) (latch : ℕ → Lines) (now : ℕ) (bits : �
       ]
 
   -- from the state 18 cycles into a cell to its end
-  on_to_end : (k : ℕ) → k < 10 → ((i : ℕ) → i < k → IsOn i) → IsOn k → Stands k
+  on_to_end : (k : ℕ) → k < 10 → ((i : ℕ) → i < k → IsOn i) → IsOn k → HoldsAt k
   on_to_end k below before on =
       let x : ℕ = 32 * k + now in
       let c : IsCell latch x (bits k) = is.cells k below in
@@ -217,12 +217,12 @@ module _ (events : List HostEvent) (latch : ℕ → Lines) (now : ℕ) (bits : �
       ]
 
   -- from a cell's first cycle to its end
-  passes : (k : ℕ) → k < 10 → ((i : ℕ) → i < k → IsOn i) → (l' : Link Wire) (q' : Port Wire) → IsAt (pc_at (32 * k)) l' true
+  passes : (k : ℕ) → k < 10 → ((i : ℕ) → i < k → IsOn i) → (l' : Link Wire) (q' : LinkEnd Wire) → IsAt (pc_at (32 * k)) l' true
       → edge_at (32 * k + now) (bits k && (drive l').dat) l' (pc_at (32 * k)).side.port ≡ q' → q'.link ≡ Busy (w k)
       → port_by without_bits q' ≡ happened_at (32 * k + now) (at_edge from k) (port_by without_bits (pc_at (32 * k)).side.port)
       → ((n : ℕ) → quietly events n (suc (32 * k + now))
       (byte_cycle events (32 * k + now) (at_edge from k) (seen_in_bytes (pc_at (32 * k)).side)) ≡ model k n)
-      → Stands k
+      → HoldsAt k
   passes k below before l' q' here edge busy same joins =
       let x : ℕ = 32 * k + now in
       let b' : Pc = pc_at (32 * k) in
@@ -257,13 +257,13 @@ module _ (events : List HostEvent) (latch : ℕ → Lines) (now : ℕ) (bits : �
       ]
 
   -- up to the end of cell k, or to where it is broken off
-  pub stands : (k : ℕ) → k < 10 → Stands k
-  stands zero below =
+  pub holds_so : (k : ℕ) → k < 10 → HoldsAt k
+  holds_so zero below =
       let z : 32 * 0 + now ≡ now = omega arith in
       passes 0 below (λ i l. absurd (omega (arith, l))) l q at (way.first (32 * 0 + now)) way.begins (way.starts (32 * 0 + now))
       (λ n. ap (λ j. quietly events n (suc j) (byte_cycle events j (Begins from) (seen_in_bytes b.side))) z)
-  stands (suc k) below =
-      elim (stands k (omega (arith, below))) [
+  holds_so (suc k) below =
+      elim (holds_so k (omega (arith, below))) [
         | inl through ↦
             let x : ℕ = 32 * suc k + now in
             let b' : Pc = pc_at (32 * suc k) in
@@ -275,6 +275,6 @@ module _ (events : List HostEvent) (latch : ℕ → Lines) (now : ℕ) (bits : �
       ]
 
 -- a frame has ended
-pub record IsBehind (b : Pc) : Type 0 where
+pub record IsAfterCells (b : Pc) : Type 0 where
   pub low : b.clock ≡ false
   pub free : is_busy b.side.port.link ≡ false

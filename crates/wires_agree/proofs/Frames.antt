@@ -3,10 +3,10 @@ use Rattle.std.proofs.Common.{◌≡◌, ℕ, suc, ◌+◌, ◌≤◌, List, Boo
 use Rattle.std.specs.Prelude.{if◌then◌else◌}
 use Rattle.ctl_link.specs.declared.link.Link.{Link}
 use Rattle.ctl_link.specs.declared.link.Link.TheVariants.{Busy}
-use Rattle.ctl_link.specs.declared.port.Port.{Port}
-use Rattle.board_lines.specs.declared.event.HostEvent.{HostEvent}
+use Rattle.ctl_link.specs.declared.port.LinkEnd.{LinkEnd}
+use Rattle.board_terms.specs.declared.event.HostEvent.{HostEvent}
 use Rattle.host_turn.specs.Run.{Side, goes_on}
-use Rattle.board_lines.specs.declared.lines.Lines.{Lines}
+use Rattle.board_terms.specs.declared.lines.Lines.{Lines}
 use Rattle.ctl_wire.specs.declared.wire.Wire.{Wire}
 use Rattle.ctl_wire.specs.Wire.{edge_at, drive, is_breakable}
 use Rattle.pc_wires.specs.Wires.{Pc, board_cycle, looked, wires}
@@ -35,7 +35,7 @@ unfolding byte_cycle
 event_by events now e m = refl
 
 -- a cycle at which the clock falls, by what the edge does to the port and what happens in byte time
-pub fall_cycle : (events : List HostEvent) (now : ℕ) (latch : Lines) (b : Pc) (l : Link Wire) (p : Port Wire) (e : Event)
+pub fall_cycle : (events : List HostEvent) (now : ℕ) (latch : Lines) (b : Pc) (l : Link Wire) (p : LinkEnd Wire) (e : Event)
     → IsAt b l true → latch.clk ≡ false → edge_at now (latch.dat && (drive l).dat) l b.side.port ≡ p
     → port_by without_bits p ≡ happened_at now e (port_by without_bits b.side.port)
     → (seen_in_bytes (board_cycle events now latch b).side ≡ byte_cycle events now e (seen_in_bytes b.side))
@@ -58,7 +58,7 @@ fall_cycle events now latch b l p e at low edge same =
 
 -- a cell: the edge, and 31 cycles in which the byte is under way, or is broken off
 pub cell : (events : List HostEvent) (latch : ℕ → Lines) (now : ℕ) (dat : Bool) (b : Pc) (l : Link Wire) (w : Wire)
-    (q : Port Wire) (e : Event) → IsCell latch now dat → IsAt b l true
+    (q : LinkEnd Wire) (e : Event) → IsCell latch now dat → IsAt b l true
     → edge_at now (dat && (drive l).dat) l b.side.port ≡ q → q.link ≡ Busy w
     → port_by without_bits q ≡ happened_at now e (port_by without_bits b.side.port)
     → (n : ℕ) → n ≤ 31

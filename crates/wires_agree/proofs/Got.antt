@@ -1,11 +1,11 @@
 -- A frame for the keyboard: it can't be broken off.
 use Rattle.std.proofs.Common.{◌≡◌, ℕ, suc, zero, ◌+◌, ◌*◌, ◌≤◌, ◌<◌, List, Bool, true, false, ◌&&◌, refl, ap, sym, ◌∙◌, inl, inr, arith}
 use Rattle.ctl_link.specs.declared.link.Link.TheVariants.{Request, Busy}
-use Rattle.ctl_link.specs.declared.port.Port.{Port}
+use Rattle.ctl_link.specs.declared.port.LinkEnd.{LinkEnd}
 use Rattle.ctl_link.specs.Link.{handed_over, is_busy}
-use Rattle.board_lines.specs.declared.event.HostEvent.{HostEvent}
+use Rattle.board_terms.specs.declared.event.HostEvent.{HostEvent}
 use Rattle.host_turn.specs.Run.{Side}
-use Rattle.board_lines.specs.declared.lines.Lines.{Lines}
+use Rattle.board_terms.specs.declared.lines.Lines.{Lines}
 use Rattle.ctl_wire.specs.declared.wire.Wire.{Wire}
 use Rattle.ctl_wire.specs.declared.wire.Wire.TheVariants.{Send}
 use Rattle.ctl_wire.specs.Wire.{drive, is_breakable}
@@ -23,7 +23,7 @@ use Rattle.wires_agree.proofs.Spans.{IsAt, On}
 use Rattle.wires_agree.proofs.Between.{stays_free}
 use Rattle.wires_agree.proofs.Frames.{fall_cycle, cell}
 use Rattle.wires_agree.proofs.Ways.{IsWay, got_way}
-use Rattle.wires_agree.proofs.CellByCell.{IsThrough, IsBehind, stands, cycles_more}
+use Rattle.wires_agree.proofs.CellByCell.{IsThrough, IsAfterCells, holds_so, cycles_more}
 
 module _ (events : List HostEvent) (latch : ℕ → Lines) (now byte : ℕ) (bits : ℕ → Bool) (b : Pc)
     (is : IsFrame latch now bits) (at : IsAt b (Request byte) true) where
@@ -33,7 +33,7 @@ module _ (events : List HostEvent) (latch : ℕ → Lines) (now byte : ℕ) (bit
   abbrev w : ℕ → Wire
   w k = Send byte (k + 1)
 
-  abbrev q : Port Wire
+  abbrev q : LinkEnd Wire
   q = record b.side.port { link = Busy (Send byte 1) }
 
   abbrev way : IsWay b.side.port q (Request byte) w false bits
@@ -42,7 +42,7 @@ module _ (events : List HostEvent) (latch : ℕ → Lines) (now byte : ℕ) (bit
   -- each cell passes
   pub through : (k : ℕ) → k < 10 → IsThrough events latch now bits is b q (Request byte) w false at way k
   through k below =
-      elim (stands events latch now bits is b q (Request byte) w false at way k below) [
+      elim (holds_so events latch now bits is b q (Request byte) w false at way k below) [
         | inl passes ↦ passes
         | inr broken ↦ let o = broken.1.opened in absurd (cc (o.1))
       ]
@@ -86,7 +86,7 @@ module _ (events : List HostEvent) (latch : ℕ → Lines) (now byte : ℕ) (bit
       ∙ ap (λ j. quietly events (suc n) j (quietly events (32 * k + 31) (suc now) y)) z)
 
   -- and so it is handed over
-  pub got_frame : (seen_in_bytes (pc_at 321).side ≡ carried events (Got byte) now (seen_in_bytes b.side)) × IsBehind (pc_at 321)
+  pub got_frame : (seen_in_bytes (pc_at 321).side ≡ carried events (Got byte) now (seen_in_bytes b.side)) × IsAfterCells (pc_at 321)
   got_frame =
       let t = through 9 (omega arith) in
       let b' : Pc = pc_at 320 in

@@ -3,10 +3,10 @@ use Rattle.std.proofs.Common.{◌≡◌, ℕ, suc, Bool, true, false, ◌&&◌, 
 use Rattle.std.specs.Prelude.{if◌then◌else◌, ◌==◌}
 use Rattle.ctl_link.specs.declared.link.Link.{Link}
 use Rattle.ctl_link.specs.declared.link.Link.TheVariants.{Free, Hold, Ask, Request, Busy}
-use Rattle.ctl_link.specs.declared.port.Port.{Port}
+use Rattle.ctl_link.specs.declared.port.LinkEnd.{LinkEnd}
 use Rattle.ctl_link.specs.Link.{is_busy}
 use Rattle.ctl_link.specs.Pulls.{pulled}
-use Rattle.board_lines.specs.declared.event.HostEvent.{HostEvent}
+use Rattle.board_terms.specs.declared.event.HostEvent.{HostEvent}
 use Rattle.host_turn.specs.Run.{Side, goes_on}
 use Rattle.ctl_wire.specs.declared.wire.Wire.{Wire}
 use Rattle.byte_time.specs.declared.UnderWay.{UnderWay}
@@ -16,7 +16,7 @@ use Rattle.wires_agree.specs.Without.{without_bits, link_by}
 use Rattle.wires_agree.proofs.Frames.{event_by}
 
 -- a byte that isn't under way isn't closed
-idle_closed : (from : Bool) (k now : ℕ) (p : Port UnderWay) → is_busy p.link ≡ false
+idle_closed : (from : Bool) (k now : ℕ) (p : LinkEnd UnderWay) → is_busy p.link ≡ false
     → happened_at now (at_edge from (suc k)) p ≡ happened_at now Quiet p
 idle_closed from k now p h = by_case (from && (k == 8))
   where

@@ -2,13 +2,13 @@
 use Rattle.std.proofs.Common.{◌≡◌, ℕ, suc, ◌+◌, ◌*◌, ◌≤◌, ◌<◌, List, Bool, true, false, ap, ◌∙◌, inl, inr, subst, refl, arith}
 use Rattle.std.specs.Prelude.{nat_lt}
 use Rattle.std.proofs.lemmas.Bool.Decides.{nat_tests}
-use Rattle.board_lines.specs.declared.event.HostEvent.{HostEvent}
-use Rattle.board_lines.specs.declared.lines.Lines.{Lines}
+use Rattle.board_terms.specs.declared.event.HostEvent.{HostEvent}
+use Rattle.board_terms.specs.declared.lines.Lines.{Lines}
 use Rattle.byte_time.specs.ByteTime.{quietly}
 use Rattle.byte_time.specs.declared.UnderWay.{UnderWay}
 use Rattle.host_turn.specs.Run.{Side}
 use Rattle.ctl_link.specs.declared.link.Link.TheVariants.{Free}
-use Rattle.ctl_link.specs.declared.port.Port.{Port}
+use Rattle.ctl_link.specs.declared.port.LinkEnd.{LinkEnd}
 use Rattle.ctl_wire.specs.declared.wire.Wire.{Wire}
 use Rattle.ctl_wire.specs.declared.wire.Wire.TheVariants.{Recv}
 use Rattle.ctl_wire.proofs.Pulls.{pulled_is_low}
@@ -22,16 +22,16 @@ use Rattle.wires_agree.proofs.Between.{low_span}
 use Rattle.wires_agree.proofs.Broken.{whole}
 use Rattle.wires_agree.proofs.Got.{through, got_frame}
 use Rattle.wires_agree.proofs.Turned.{flips_seen}
-use Rattle.wires_agree.proofs.Ways.{sent_way, behind_first}
-use Rattle.wires_agree.proofs.CellByCell.{IsBroken, IsBehind, stands, cycles_more}
+use Rattle.wires_agree.proofs.Ways.{sent_way, afterwards_first}
+use Rattle.wires_agree.proofs.CellByCell.{IsBroken, IsAfterCells, holds_so, cycles_more}
 
 module _ (events : List HostEvent) (latch : ℕ → Lines) (now : ℕ) (bits : ℕ → Bool) (b : Pc)
     (is : IsFrame latch now bits) (at : IsAt b Free true) where
   abbrev w : ℕ → Wire
   w k = Recv b.side.port.flip (bits_to bits (suc k))
 
-  abbrev q : Port Wire
-  q = behind_first (bits 0) b.side.port
+  abbrev q : LinkEnd Wire
+  q = afterwards_first (bits 0) b.side.port
 
   abbrev Off : ℕ → Type 0
   Off i = IsBroken events latch now bits is b q Free w true at (sent_way bits b.side.port) i
@@ -52,19 +52,19 @@ module _ (events : List HostEvent) (latch : ℕ → Lines) (now : ℕ) (bits : �
 
   pub in_sent : (k n : ℕ) → k < 10 → n ≤ 31 → ((i : ℕ) → i < k → lets_look events latch now b i ≡ true) → Agrees k n
   in_sent k n below short lets =
-      elim (stands events latch now bits is b q Free w true at (sent_way bits b.side.port) k below) [
+      elim (holds_so events latch now bits is b q Free w true at (sent_way bits b.side.port) k below) [
         | inl passes ↦ (passes.up_to_here k (omega arith)).in_cell n short
         | inr off ↦ cut_cell k n short lets off.0 off.1 (nat_lt off.0 k) (nat_lt k off.0) refl refl
       ]
 
--- behind the last edge, while the clock stays low
-behind_low : (events : List HostEvent) (latch : ℕ → Lines) (now n : ℕ) (b : Pc) (m : Side UnderWay)
-    → IsBehind (board_cycles events latch 321 now b)
+-- after the last edge, while the clock stays low
+afterwards_low : (events : List HostEvent) (latch : ℕ → Lines) (now n : ℕ) (b : Pc) (m : Side UnderWay)
+    → IsAfterCells (board_cycles events latch 321 now b)
     → seen_in_bytes (board_cycles events latch 321 now b).side ≡ m → IsDown latch (321 + now) (321 + now + n)
     → seen_in_bytes (board_cycles events latch (321 + n) now b).side ≡ quietly events n (321 + now) m
-behind_low events latch now n b m behind is down =
+afterwards_low events latch now n b m afterwards is down =
     ap (λ (v : Pc). seen_in_bytes v.side) (cycles_more events latch 321 n (321 + n) now b refl)
-    ∙ (low_span events latch n (321 + now) (board_cycles events latch 321 now b) down behind.low behind.free).0
+    ∙ (low_span events latch n (321 + now) (board_cycles events latch 321 now b) down afterwards.low afterwards.free).0
     ∙ ap (λ v. quietly events n (321 + now) v) is
 
 pub sent_in_bytes : SentInBytes
@@ -80,11 +80,11 @@ pub sent_ends : SentEndsInBytes
 sent_ends events latch now byte n bits b is right here high flip lets down =
     let at : IsAt b Free true = record { link_is = here; clock_is = high } in
     let comes = flips_seen bits byte b.side.port.flip right flip in
-    elim (stands events latch now bits is b (behind_first (bits 0) b.side.port) Free
+    elim (holds_so events latch now bits is b (afterwards_first (bits 0) b.side.port) Free
     (λ k. Recv b.side.port.flip (bits_to bits (suc k))) true at (sent_way bits b.side.port) 9 (omega arith)) [
       | inl passes ↦
           let e = whole events latch now byte bits is b at comes passes in
-          behind_low events latch now n b
+          afterwards_low events latch now n b
           (Rattle.byte_time.specs.ByteTime.carried events
           (Rattle.byte_time.specs.declared.meeting.Meeting.TheVariants.Sent byte) now (seen_in_bytes b.side)) e.1 e.0 down
       | inr off ↦
@@ -96,6 +96,6 @@ sent_ends events latch now byte n bits b is right here high flip lets down =
 pub got_ends : GotEndsInBytes
 got_ends events latch now byte n bits b is here high down =
     let e = got_frame events latch now byte bits b is (record { link_is = here; clock_is = high }) in
-    behind_low events latch now n b
+    afterwards_low events latch now n b
     (Rattle.byte_time.specs.ByteTime.carried events
     (Rattle.byte_time.specs.declared.meeting.Meeting.TheVariants.Got byte) now (seen_in_bytes b.side)) e.1 e.0 down

@@ -1,7 +1,7 @@
 -- A pull of the clock lasts 64 cycles at least, in the cycles that the joint run makes.
 use Rattle.std.proofs.Common.{◌≡◌, ℕ, suc, not, ◌&&◌, Some, None, List, refl, arith}
-use Rattle.board_lines.specs.declared.event.HostEvent.{HostEvent}
-use Rattle.board_lines.specs.declared.lines.Lines.{Lines}
+use Rattle.board_terms.specs.declared.event.HostEvent.{HostEvent}
+use Rattle.board_terms.specs.declared.lines.Lines.{Lines}
 use Rattle.ctl_link.specs.Pulls.{pulled}
 use Rattle.ctl_wire.specs.declared.wire.Wire.{Wire}
 use Rattle.ctl_wire.specs.Wire.{is_breakable}

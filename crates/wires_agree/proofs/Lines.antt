@@ -1,7 +1,7 @@
 -- Lines that agree give one PC's side.
 use Rattle.std.proofs.Common.{◌≡◌, ℕ, suc, zero, ◌+◌, ◌≤◌, ◌<◌, List, refl, ap, ◌∙◌, arith}
-use Rattle.board_lines.specs.declared.event.HostEvent.{HostEvent}
-use Rattle.board_lines.specs.declared.lines.Lines.{Lines}
+use Rattle.board_terms.specs.declared.event.HostEvent.{HostEvent}
+use Rattle.board_terms.specs.declared.lines.Lines.{Lines}
 use Rattle.pc_wires.specs.Wires.{Pc, board_cycle}
 use Rattle.wires_agree.specs.Cycles.{board_cycles}
 

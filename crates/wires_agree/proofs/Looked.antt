@@ -3,10 +3,10 @@ use Rattle.std.proofs.Common.{◌≡◌, ℕ, suc, ◌+◌, ◌*◌, ◌≤◌, 
 use Rattle.std.specs.declared.option.Option.{Option}
 use Rattle.ctl_link.specs.declared.link.Link.TheVariants.{Free, Request}
 use Rattle.ctl_link.specs.Link.{is_busy}
-use Rattle.board_lines.specs.declared.event.HostEvent.{HostEvent}
+use Rattle.board_terms.specs.declared.event.HostEvent.{HostEvent}
 use Rattle.host_turn.specs.Run.{Side}
-use Rattle.board_lines.specs.declared.lines.Lines.{Lines}
-use Rattle.board_lines.specs.Frame.{byte_of}
+use Rattle.board_terms.specs.declared.lines.Lines.{Lines}
+use Rattle.board_terms.specs.Frame.{byte_of}
 use Rattle.ctl_wire.specs.declared.wire.Wire.TheVariants.{Recv}
 use Rattle.pc_wires.specs.Wires.{Pc}
 use Rattle.byte_time.specs.declared.UnderWay.{UnderWay}
@@ -26,8 +26,8 @@ use Rattle.ctl_wire.proofs.Pulls.{pulled_is_low}
 use Rattle.wires_agree.proofs.Broken.{whole}
 use Rattle.wires_agree.proofs.Got.{got_frame}
 use Rattle.wires_agree.proofs.Turned.{flips_seen}
-use Rattle.wires_agree.proofs.Ways.{sent_way, behind_first}
-use Rattle.wires_agree.proofs.CellByCell.{cycles_more, stands, IsBehind}
+use Rattle.wires_agree.proofs.Ways.{sent_way, afterwards_first}
+use Rattle.wires_agree.proofs.CellByCell.{cycles_more, holds_so, IsAfterCells}
 use Rattle.wires_agree.proofs.Meetings.{free_at, request_at, free_or_pulls, not_busy, cut_of, none_passes, none_ends}
 
 module _ (events : List HostEvent) (latch : ℕ → Lines) (start rest : ℕ) (at256 : Pc) where
@@ -75,12 +75,12 @@ module _ (events : List HostEvent) (latch : ℕ → Lines) (start rest : ℕ) (a
           (carried events (meeting_in tested offer (seen_in_bytes at256.side) v) (288 + start) v)) to288.0;
     }
 
-    -- behind a frame the clock is low for 15 more cycles, and then high
-    behind : (more : ℕ) → rest ≡ 15 + more → IsBehind at609
+    -- after a frame the clock is low for 15 more cycles, and then high
+    afterwards : (more : ℕ) → rest ≡ 15 + more → IsAfterCells at609
         → ((o : ℕ) → 609 + start ≤ o → o < 609 + start + 15 → (latch o).clk ≡ false) → IsUp latch (624 + start) (609 + rest + start)
         → (seen_in_bytes at_end.side ≡ quietly events rest (609 + start) (seen_in_bytes at609.side))
         × (is_busy at_end.side.port.link ≡ false)
-    behind more er is low high =
+    afterwards more er is low high =
         let p : 15 + more ≡ rest = sym er in
         let q : 15 + (609 + start) ≡ 624 + start = omega arith in
         let first = low_span events latch 15 (609 + start) at609 low is.low is.free in
@@ -112,12 +112,12 @@ module _ (events : List HostEvent) (latch : ℕ → Lines) (start rest : ℕ) (a
         let at : IsAt at288 Free true = free_at events latch (256 + start) at256 up288 earlier later in
         let comes = flips_seen bits byte at288.side.port.flip right flip in
         let way = sent_way bits at288.side.port in
-        elim (stands events latch (288 + start) bits frame at288 (behind_first (bits 0) at288.side.port) Free
+        elim (holds_so events latch (288 + start) bits frame at288 (afterwards_first (bits 0) at288.side.port) Free
         (λ k. Recv at288.side.port.flip (bits_to bits (suc k))) true at way 9 (omega arith)) [
           | inl through ↦
               let passes = whole events latch (288 + start) byte bits frame at288 at comes through in
               joins true (Some byte) (Sent byte) (Sent byte) (begins byte earlier later)
-              (ap (λ l. sent_or_cut byte l) passes.2) passes.0 (behind more er passes.1 low high) k e
+              (ap (λ l. sent_or_cut byte l) passes.2) passes.0 (afterwards more er passes.1 low high) k e
           | inr off ↦
               let j : ℕ = off.0 in
               let b = off.1 in
@@ -139,7 +139,7 @@ module _ (events : List HostEvent) (latch : ℕ → Lines) (start rest : ℕ) (a
         let met : meeting_of (link_by without_bits at256.side.port.link) offer (link_by without_bits at288.side.port.link) ≡ Got byte =
         ap (λ l. meeting_of (link_by without_bits l) offer (link_by without_bits at288.side.port.link)) earlier in
         let passes = got_frame events latch (288 + start) byte bits at288 frame at in
-        joins true offer (Got byte) (Got byte) met refl passes.0 (behind more er passes.1 low high) k e
+        joins true offer (Got byte) (Got byte) met refl passes.0 (afterwards more er passes.1 low high) k e
 
     -- nothing passes: the keyboard leaves the clock alone
     pub still_tick : (tested : Bool) (offer : Option ℕ) (meeting : Meeting)

@@ -6,12 +6,12 @@ use Rattle.ctl_core.specs.Controller.{is_disabled}
 use Rattle.ctl_core.specs.Commands.{taken}
 use Rattle.ctl_link.specs.declared.link.Link.{Link}
 use Rattle.ctl_link.specs.declared.link.Link.TheVariants.{Free, Hold, Ask, Request, Busy}
-use Rattle.ctl_link.specs.declared.port.Port.{Port}
+use Rattle.ctl_link.specs.declared.port.LinkEnd.{LinkEnd}
 use Rattle.ctl_link.specs.Link.{held_since, took_where, takes_input, link_after, is_busy, settled}
-use Rattle.board_lines.specs.declared.event.HostEvent.{HostEvent}
+use Rattle.board_terms.specs.declared.event.HostEvent.{HostEvent}
 use Rattle.host_turn.specs.Run.{Side, goes_on}
 use Rattle.host_turn.proofs.Turns.{turn_of}
-use Rattle.board_lines.specs.declared.lines.Lines.{Lines}
+use Rattle.board_terms.specs.declared.lines.Lines.{Lines}
 use Rattle.ctl_wire.specs.declared.wire.Wire.{Wire}
 use Rattle.ctl_wire.specs.Wire.{drive, is_breakable}
 use Rattle.pc_wires.specs.Wires.{Pc, board_cycle}
@@ -35,8 +35,8 @@ stays_request : (events : List HostEvent) (now : ℕ) (s : Side Wire) (byte : �
     → (goes_on is_breakable events now s).port.link ≡ Request byte
 unfolding goes_on
 stays_request events now s byte e =
-    let p : Port Wire = Rattle.host_turn.specs.Cycle.port_by (turn_of events now s) s.port in
-    let t : Port Wire = (takes_input now p).port in
+    let p : LinkEnd Wire = Rattle.host_turn.specs.Cycle.port_by (turn_of events now s) s.port in
+    let t : LinkEnd Wire = (takes_input now p).port in
     ap (λ q. (settled now q).port.link) (unbroken is_breakable now p (ap is_busy e))
     ∙ ap (λ l. link_after now (t.core.output_full || is_disabled t.core) t.awaits l)
     (ap (λ l. (took_where now (held_since now p.awaits l) (if p.core.output_full then None else taken p.core) p).port.link) e ∙ e)

@@ -3,11 +3,11 @@ use Rattle.std.proofs.Common.{◌≡◌, ℕ, suc, zero, ◌+◌, ◌-◌, ◌*�
 use Rattle.std.proofs.Common.{sym, ◌∙◌, subst, inl, inr, arith}
 use Rattle.std.specs.Prelude.{nat_lt}
 use Rattle.std.proofs.lemmas.Bool.Decides.{nat_tests}
-use Rattle.board_lines.specs.declared.event.HostEvent.{HostEvent}
-use Rattle.board_lines.specs.declared.lines.Lines.{Lines}
+use Rattle.board_terms.specs.declared.event.HostEvent.{HostEvent}
+use Rattle.board_terms.specs.declared.lines.Lines.{Lines}
 use Rattle.ctl_link.specs.declared.link.Link.{Link}
 use Rattle.ctl_link.specs.declared.link.Link.TheVariants.{Free, Hold, Ask, Request, Busy}
-use Rattle.ctl_link.specs.declared.port.Port.{Port}
+use Rattle.ctl_link.specs.declared.port.LinkEnd.{LinkEnd}
 use Rattle.ctl_link.specs.Link.{is_busy}
 use Rattle.ctl_wire.specs.declared.wire.Wire.{Wire}
 use Rattle.ctl_wire.specs.declared.wire.Wire.TheVariants.{Recv}
@@ -27,8 +27,8 @@ use Rattle.wires_agree.proofs.Broken.{broken}
 use Rattle.wires_agree.proofs.Lines.{same_lines}
 use Rattle.wires_agree.proofs.Looked.{joins, begins, up288}
 use Rattle.wires_agree.proofs.Meetings.{free_at, not_busy}
-use Rattle.wires_agree.proofs.Ways.{sent_way, behind_first}
-use Rattle.wires_agree.proofs.CellByCell.{IsBroken, IsOn, stands, later_in_cell, since_end, not_last, cycles_more}
+use Rattle.wires_agree.proofs.Ways.{sent_way, afterwards_first}
+use Rattle.wires_agree.proofs.CellByCell.{IsBroken, IsOn, holds_so, later_in_cell, since_end, not_last, cycles_more}
 use Rattle.wires_agree.proofs.Pulls.{pulled_span}
 use Rattle.wires_agree.specs.InFrame.{up_to}
 use Rattle.ctl_link.specs.Pulls.{pulled}
@@ -43,7 +43,7 @@ cut_where byte (Busy u) h = absurd cc
 
 module _ (events : List HostEvent) (latch line : ℕ → Lines) (start j n : ℕ) (bits : ℕ → Bool) (b : Pc)
     (frame : IsFrame line (288 + start) bits) (at : IsAt (at_meeting events latch start b) Free true) (below : j < 10)
-    (behind : 17 ≤ n) (short : n ≤ 31)
+    (afterwards : 17 ≤ n) (short : n ≤ 31)
     (same : (o : ℕ) → 288 + start ≤ o → o < 32 * j + (289 + n) + start → latch o ≡ line o)
     (leaves : (i : ℕ) → i < j → leaves_clock events latch start b i ≡ true)
     (low : leaves_cycle events latch start b (32 * j + suc n) ≡ false) where
@@ -56,8 +56,8 @@ module _ (events : List HostEvent) (latch line : ℕ → Lines) (start j n : ℕ
   abbrev w : ℕ → Wire
   w k = Recv c.side.port.flip (bits_to bits (suc k))
 
-  abbrev q : Port Wire
-  q = behind_first (bits 0) c.side.port
+  abbrev q : LinkEnd Wire
+  q = afterwards_first (bits 0) c.side.port
 
   -- the PC's side over the lines of a whole frame
   abbrev pub at_whole : ℕ → Pc
@@ -87,7 +87,7 @@ module _ (events : List HostEvent) (latch line : ℕ → Lines) (start j n : ℕ
   since_look : ((i : ℕ) → i < j → On i) → On j → IsOff
   since_look before on =
       let t : ℕ = n - 17 in
-      let e : 32 * j + (18 + t) ≡ 32 * j + suc n = omega (arith, behind) in
+      let e : 32 * j + (18 + t) ≡ 32 * j + suc n = omega (arith, afterwards) in
       elim (later_in_cell events line now bits frame c q Free w true at (sent_way bits c.side.port) j t below (omega (arith, short)) on) [
         | inl stays ↦
             let on : leaves_cycle events latch start b (32 * j + suc n) ≡ true =
@@ -112,10 +112,10 @@ module _ (events : List HostEvent) (latch line : ℕ → Lines) (start j n : ℕ
   by_look : Off j → IsOff
   by_look off =
       let t : ℕ = n - 17 in
-      let e : 32 * j + 18 + t ≡ 32 * j + suc n = omega (arith, behind) in
+      let e : 32 * j + 18 + t ≡ 32 * j + suc n = omega (arith, afterwards) in
       let late : 32 * j + now ≤ off.since + 14 = off.late in
       let rest = pulled_span events line t (32 * j + 18 + now) (at_whole (32 * j + 18)) off.since off.pulls
-      (omega (arith, late, short, behind)) in
+      (omega (arith, late, short, afterwards)) in
       record {
         agrees = off.in_cell n short;
         since = off.since;
@@ -138,7 +138,7 @@ module _ (events : List HostEvent) (latch line : ℕ → Lines) (start j n : ℕ
 
   pub is_off : IsOff
   is_off =
-      elim (stands events line now bits frame c q Free w true at (sent_way bits c.side.port) j below) [
+      elim (holds_so events line now bits frame c q Free w true at (sent_way bits c.side.port) j below) [
         | inl through ↦
             since_look (λ k u. through.up_to_here k (omega (arith, u))) (through.up_to_here j (omega arith))
         | inr off ↦ here off.0 off.1 (nat_lt off.0 j) (nat_lt j off.0) refl refl
@@ -155,7 +155,7 @@ module _ (events : List HostEvent) (latch line : ℕ → Lines) (start j n : ℕ
       by (inl late) = late
       by (inr earlier) =
           let pulls : leaves_clock events latch start b j ≡ false =
-          ap (λ (v : Pc). (drive v.side.port.link).clk) (one (32 * j + 18) (omega (arith, behind)))
+          ap (λ (v : Pc). (drive v.side.port.link).clk) (one (32 * j + 18) (omega (arith, afterwards)))
           ∙ pulled_is_low (at_whole (32 * j + 18)).side.port.link is_off.since earlier.0 in
           absurd (cc (high, pulls))
 
@@ -192,11 +192,11 @@ module _ (events : List HostEvent) (latch line : ℕ → Lines) (start j n : ℕ
       by (inr (there, inr pulls)) = at_start j refl pulls
 
 pub all_broken : BrokenTick
-all_broken events latch line start rest byte j n k bits b up earlier later frame below behind short same leaves low high e =
+all_broken events latch line start rest byte j n k bits b up earlier later frame below afterwards short same leaves low high e =
     let c : Pc = at_meeting events latch start b in
     let at : IsAt c Free true =
     free_at events latch (256 + start) b (up288 events latch start rest b up (ap is_busy earlier)) earlier later in
-    let off = is_off events latch line start j n bits b frame at below behind short same leaves low in
+    let off = is_off events latch line start j n bits b frame at below afterwards short same leaves low in
     let now : ℕ = 288 + start in
     let t : ℕ = 32 * j + suc n in
     let is : board_cycles events latch t now c ≡ board_cycles events line t now c =

@@ -3,16 +3,16 @@ use Rattle.std.proofs.Common.{ℕ, suc, zero, ◌+◌, Bool, true, false, not, �
 use Rattle.std.specs.Prelude.{if◌then◌else◌, ◌==◌, is_some, slice_get}
 use Rattle.std.specs.declared.option.Option.{Option}
 use Rattle.std.proofs.lemmas.List.Elements.{All-head, All-tail}
-use Rattle.board_lines.specs.Flips.{FlipsDataOrParity, AreFlips}
-use Rattle.board_lines.specs.Frame.{byte_of}
-use Rattle.board_lines.specs.declared.event.HostAct.{HostAct}
-use Rattle.board_lines.specs.declared.event.HostAct.TheVariants.{Write60, Write64, Read60, Mask, Unmask, Take, Status, Flip}
-use Rattle.board_lines.specs.declared.event.HostEvent.{HostEvent}
-use Rattle.board_lines.specs.declared.lines.Lines.{Lines}
+use Rattle.board_terms.specs.Flips.{FlipsDataOrParity, AreFlips}
+use Rattle.board_terms.specs.Frame.{byte_of}
+use Rattle.board_terms.specs.declared.event.HostAct.{HostAct}
+use Rattle.board_terms.specs.declared.event.HostAct.TheVariants.{Write60, Write64, Read60, Mask, Unmask, Take, Status, Flip}
+use Rattle.board_terms.specs.declared.event.HostEvent.{HostEvent}
+use Rattle.board_terms.specs.declared.lines.Lines.{Lines}
 use Rattle.ctl_core.specs.Commands.{Taken, taken}
 use Rattle.ctl_link.specs.declared.link.Link.{Link}
 use Rattle.ctl_link.specs.declared.link.Link.TheVariants.{Free, Hold, Ask, Request, Busy}
-use Rattle.ctl_link.specs.declared.port.Port.{Port}
+use Rattle.ctl_link.specs.declared.port.LinkEnd.{LinkEnd}
 use Rattle.ctl_link.specs.Link.{received, handed_over, held_since, took_where, may_break, broken_off, settled}
 use Rattle.ctl_wire.specs.declared.wire.Wire.{Wire}
 use Rattle.ctl_wire.specs.declared.wire.Wire.TheVariants.{Recv, Send}
@@ -25,12 +25,12 @@ use Rattle.pc_wires.specs.Wires.{Pc, board_cycle, looked, wires}
 use Rattle.wires_agree.specs.Flips.{IsFlip, FlipsStay}
 
 -- either way
-choice : (c : Bool) (x y : Port Wire) → IsFlip x.flip → IsFlip y.flip → IsFlip (if c then x else y).flip
+choice : (c : Bool) (x y : LinkEnd Wire) → IsFlip x.flip → IsFlip y.flip → IsFlip (if c then x else y).flip
 choice true x y h g = h
 choice false x y h g = g
 
 -- a falling edge takes it, or leaves it
-edge_flip : (now : ℕ) (dat : Bool) (l : Link Wire) (p : Port Wire) → IsFlip p.flip → IsFlip (edge_at now dat l p).flip
+edge_flip : (now : ℕ) (dat : Bool) (l : Link Wire) (p : LinkEnd Wire) → IsFlip p.flip → IsFlip (edge_at now dat l p).flip
 edge_flip now dat Free p h = tt
 edge_flip now dat (Hold since) p h = h
 edge_flip now dat (Ask byte since) p h = h
@@ -79,18 +79,18 @@ turn_flip now filled next h is f =
     read_flip (interrupts now filled (event_turn now next h).host) (event_turn now next h).host (event_flip now next h is f)
 
 -- break and settling leave it
-took_flip : (now : ℕ) (since : Option ℕ) (input : Option Taken) (p : Port Wire) → IsFlip p.flip
+took_flip : (now : ℕ) (since : Option ℕ) (input : Option Taken) (p : LinkEnd Wire) → IsFlip p.flip
     → IsFlip (took_where now since input p).port.flip
 took_flip now None input p f = f
 took_flip now (Some since) None p f = f
 took_flip now (Some since) (Some t) p f = f
 
-broken_flip : (c : Bool) (now : ℕ) (p : Port Wire) → IsFlip p.flip → IsFlip (if c then record p { link = Hold now } else p).flip
+broken_flip : (c : Bool) (now : ℕ) (p : LinkEnd Wire) → IsFlip p.flip → IsFlip (if c then record p { link = Hold now } else p).flip
 broken_flip c now p f = choice c (record p { link = Hold now }) p f f
 
-settled_flip : (now : ℕ) (p : Port Wire) → IsFlip p.flip → IsFlip (settled now (broken_off is_breakable now p)).port.flip
+settled_flip : (now : ℕ) (p : LinkEnd Wire) → IsFlip p.flip → IsFlip (settled now (broken_off is_breakable now p)).port.flip
 settled_flip now p f =
-    let q : Port Wire = broken_off is_breakable now p in
+    let q : LinkEnd Wire = broken_off is_breakable now p in
     took_flip now (held_since now q.awaits q.link) (if q.core.output_full then None else taken q.core) q
     (broken_flip (may_break is_breakable p.link && not p.awaits && is_some p.core.input) now p f)
 

@@ -1,13 +1,13 @@
 -- While the controller pulls the clock, no latch of the keyboard changes anything.
 use Rattle.std.proofs.Common.{◌≡◌, ℕ, suc, zero, ◌+◌, ◌≤◌, ◌<◌, List, Bool, not, ◌&&◌, Some, refl, ap, ◌∙◌, subst, sym, arith}
 use Rattle.ctl_link.specs.declared.link.Link.TheVariants.{Free}
-use Rattle.ctl_link.specs.declared.port.Port.{Port}
+use Rattle.ctl_link.specs.declared.port.LinkEnd.{LinkEnd}
 use Rattle.ctl_link.specs.Link.{settled, is_busy}
 use Rattle.ctl_link.proofs.Breaks.{unbroken, pulled_idle}
 use Rattle.ctl_link.specs.Pulls.{pulled, Begins}
 use Rattle.ctl_link.proofs.Pulls.{keeps_pull, begins_pull}
-use Rattle.board_lines.specs.declared.event.HostEvent.{HostEvent}
-use Rattle.board_lines.specs.declared.lines.Lines.{Lines}
+use Rattle.board_terms.specs.declared.event.HostEvent.{HostEvent}
+use Rattle.board_terms.specs.declared.lines.Lines.{Lines}
 use Rattle.ctl_wire.specs.declared.wire.Wire.{Wire}
 use Rattle.ctl_wire.proofs.Pulls.{look_keeps}
 use Rattle.host_turn.specs.Run.{Side, goes_on}
@@ -27,7 +27,7 @@ module _ (F : Type 0) (opens : F → Bool) where
       → now < h + 64 → pulled (goes_on opens events now s).port.link ≡ Some h
   unfolding goes_on
   stays_pulled events now s h e early =
-      let p : Port F = port_by (turn_of events now s) s.port in
+      let p : LinkEnd F = port_by (turn_of events now s) s.port in
       ap (λ q. pulled (settled now q).port.link) (unbroken opens now p (pulled_idle opens s.port.link h e)) ∙ keeps_pull F now p h e early
 
   -- from a free link it stays free, or the controller begins to pull
@@ -35,7 +35,7 @@ module _ (F : Type 0) (opens : F → Bool) where
       → Begins now (goes_on opens events now s).port.link
   unfolding goes_on
   free_begins events now s e =
-      let p : Port F = port_by (turn_of events now s) s.port in
+      let p : LinkEnd F = port_by (turn_of events now s) s.port in
       subst (λ q. Begins now (settled now q).port.link) (sym (unbroken opens now p (ap is_busy e))) (begins_pull F now p e)
 
 -- the look, while the controller pulls

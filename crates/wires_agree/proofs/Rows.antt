@@ -3,20 +3,20 @@ use Rattle.std.proofs.Common.{◌≡◌, ℕ, ◌+◌, ◌-◌, ◌/◌, ◌%◌
 use Rattle.std.specs.Prelude.{Bool, if◌then◌else◌, nat_le, nat_lt, slice_index_or, Some}
 use Rattle.std.specs.declared.option.Option.{Option}
 use Rattle.pc_tables.specs.declared.item.Item.TheVariants.{Read, Status}
-use Rattle.board_lines.specs.declared.event.HostAct.TheVariants.{Write64, Read60, Mask, Flip, Status as AskStatus}
-use Rattle.board_lines.specs.declared.event.HostEvent.{HostEvent}
+use Rattle.board_terms.specs.declared.event.HostAct.TheVariants.{Write64, Read60, Mask, Flip, Status as AskStatus}
+use Rattle.board_terms.specs.declared.event.HostEvent.{HostEvent}
 use Rattle.ctl_core.specs.declared.port.Port.TheVariants.{P64}
 use Rattle.ctl_link.specs.declared.link.Link.TheVariants.{Hold, Request}
 use Rattle.host_turn.specs.Run.{Side, side_at_start, goes_on}
-use Rattle.board_lines.specs.declared.lines.Lines.{Lines}
-use Rattle.board_lines.specs.Frame.{frame_bits, byte_of}
+use Rattle.board_terms.specs.declared.lines.Lines.{Lines}
+use Rattle.board_terms.specs.Frame.{frame_bits, byte_of}
 use Rattle.pc_wires.specs.Wires.{board_cycle, pc_at_start}
 use Rattle.byte_time.specs.ByteTime.{byte_cycle, quietly, carried, meeting_in}
 use Rattle.byte_time.specs.declared.UnderWay.{UnderWay}
 use Rattle.ctl_core.specs.ScanCodes.{scan_codes, translated}
 use Rattle.wires_agree.specs.Cycles.{board_cycles}
 
-abbrev at : ℕ → Rattle.board_lines.specs.declared.event.HostAct.HostAct → HostEvent
+abbrev at : ℕ → Rattle.board_terms.specs.declared.event.HostAct.HostAct → HostEvent
 at stamp act = record { stamp = stamp; act = act }
 
 abbrev high : ℕ → Lines
@@ -42,7 +42,7 @@ sends from o =
 reads : List HostEvent
 reads = at 0 Mask ∷ at 607 Read60 ∷ at 608 Read60 ∷ []
 
--- what was received stands in the output buffer from offset 608 on, in both machines
+-- what was received is in the output buffer from offset 608 on, in both machines
 on_wires : (board_cycles reads (sends 4384) 700 4096 pc_at_start).side.log
     ≡ record { cycle = 4703; item = Read 0 } ∷ record { cycle = 4704; item = Read 0x1e } ∷ []
 unfolding reads board_cycle goes_on byte_of scan_codes translated

@@ -8,10 +8,10 @@ use Rattle.ctl_core.specs.declared.controller.Did.{Did}
 use Rattle.ctl_core.specs.declared.controller.Did.TheVariants.{Nothing, ToKeyboard, Output, Pulse}
 use Rattle.ctl_link.specs.declared.link.Link.{Link}
 use Rattle.ctl_link.specs.declared.link.Link.TheVariants.{Free, Hold, Ask, Request, Busy}
-use Rattle.ctl_link.specs.declared.port.Port.{Port}
-use Rattle.ctl_link.specs.Link.{Settled, core_after, filled_by, link_behind, received, held_since, asking, took}
+use Rattle.ctl_link.specs.declared.port.LinkEnd.{LinkEnd}
+use Rattle.ctl_link.specs.Link.{Settled, core_after, filled_by, next_link, received, held_since, asking, took}
 use Rattle.ctl_link.specs.Link.{took_where, takes_input, link_after, moves_link, settled, may_break, broken_off}
-use Rattle.board_lines.specs.declared.event.HostEvent.{HostEvent}
+use Rattle.board_terms.specs.declared.event.HostEvent.{HostEvent}
 use Rattle.host_turn.specs.Host.{Turn, is_done}
 use Rattle.host_turn.specs.Run.{Side, goes_on, with_cycled}
 use Rattle.host_turn.proofs.Turns.{turn_of}
@@ -55,37 +55,37 @@ module _ {F G : Type 0} (f : F → G) where
   abbrev settled_by : Settled F → Settled G
   settled_by t = record { port = port_by f t.port; did = t.did }
 
-  where_same : (now : ℕ) (since : Option ℕ) (input : Option Taken) (p : Port F)
+  where_same : (now : ℕ) (since : Option ℕ) (input : Option Taken) (p : LinkEnd F)
       → took_where now since input (port_by f p) ≡ settled_by (took_where now since input p)
   where_same now None input p = refl
   where_same now (Some since) None p = refl
   where_same now (Some since) (Some t) p =
       ap (λ l. record { port = record (took now since t (port_by f p)).port { link = l }; did = t.did }) (asking_same since t.did p.link)
 
-  takes_same : (now : ℕ) (p : Port F) → takes_input now (port_by f p) ≡ settled_by (takes_input now p)
+  takes_same : (now : ℕ) (p : LinkEnd F) → takes_input now (port_by f p) ≡ settled_by (takes_input now p)
   takes_same now p =
       let input : Option Taken = if p.core.output_full then None else taken p.core in
       ap (λ h. took_where now h input (port_by f p)) (held_same now p.awaits p.link)
       ∙ where_same now (held_since now p.awaits p.link) input p
 
-  moves_same : (now : ℕ) (p : Port F) → moves_link now (port_by f p) ≡ port_by f (moves_link now p)
+  moves_same : (now : ℕ) (p : LinkEnd F) → moves_link now (port_by f p) ≡ port_by f (moves_link now p)
   moves_same now p = ap (λ l. record (port_by f p) { link = l }) (after_same now (p.core.output_full || is_disabled p.core) p.awaits p.link)
 
-  pub settled_same : (now : ℕ) (p : Port F) → settled now (port_by f p) ≡ settled_by (settled now p)
+  pub settled_same : (now : ℕ) (p : LinkEnd F) → settled now (port_by f p) ≡ settled_by (settled now p)
   settled_same now p =
       ap (λ t. record { port = moves_link now t.port; did = t.did }) (takes_same now p)
       ∙ ap (λ q. record { port = q; did = (takes_input now p).did }) (moves_same now (takes_input now p).port)
 
   -- so it is with a byte of the keyboard that has come
-  behind_same : (now : ℕ) (came : Option ℕ) (s : ControllerState) → link_by f (link_behind now came s) ≡ link_behind now came s
-  behind_same now (Some byte) s = refl
-  behind_same now None s = by_count (asks_again s)
+  afterwards_same : (now : ℕ) (came : Option ℕ) (s : ControllerState) → link_by f (next_link now came s) ≡ next_link now came s
+  afterwards_same now (Some byte) s = refl
+  afterwards_same now None s = by_count (asks_again s)
     where
       by_count : (c : Bool) → link_by f (if c then Ask 0xfe now else Hold now) ≡ (if c then Ask 0xfe now else Hold now)
       by_count true = refl
       by_count false = refl
 
-  pub received_same : (now : ℕ) (came : Option ℕ) (p : Port F) → port_by f (received now came p) ≡ received now came (port_by f p)
+  pub received_same : (now : ℕ) (came : Option ℕ) (p : LinkEnd F) → port_by f (received now came p) ≡ received now came (port_by f p)
   received_same now came p =
       ap (λ l. record {
         core = core_after came p.core;
@@ -95,7 +95,7 @@ module _ {F G : Type 0} (f : F → G) where
         awaits = false;
         flip = p.flip;
       })
-      (behind_same now came p.core)
+      (afterwards_same now came p.core)
 
   module _ (here : F → Bool) (there : G → Bool) (alike : (x : F) → there (f x) ≡ here x) where
     breaks_same : (l : Link F) → may_break there (link_by f l) ≡ may_break here l
@@ -105,12 +105,12 @@ module _ {F G : Type 0} (f : F → G) where
     breaks_same (Request byte) = refl
     breaks_same (Busy x) = alike x
 
-    broken_by : (c : Bool) (now : ℕ) (p : Port F)
+    broken_by : (c : Bool) (now : ℕ) (p : LinkEnd F)
         → (if c then record (port_by f p) { link = Hold now } else port_by f p) ≡ port_by f (if c then record p { link = Hold now } else p)
     broken_by true now p = refl
     broken_by false now p = refl
 
-    broken_same : (now : ℕ) (p : Port F) → broken_off there now (port_by f p) ≡ port_by f (broken_off here now p)
+    broken_same : (now : ℕ) (p : LinkEnd F) → broken_off there now (port_by f p) ≡ port_by f (broken_off here now p)
     broken_same now p =
         ap (λ c. if c && not p.awaits
         && is_some p.core.input then record (port_by f p) { link = Hold now } else port_by f p) (breaks_same p.link)
@@ -122,7 +122,7 @@ module _ {F G : Type 0} (f : F → G) where
     unfolding goes_on
     goes_on_same events now s =
         let t : Turn = turn_of events now s in
-        let p : Port F = Rattle.host_turn.specs.Cycle.port_by t s.port in
+        let p : LinkEnd F = Rattle.host_turn.specs.Cycle.port_by t s.port in
         let done : Bool = is_done now (slice_get events s.done) s.port.core in
         ap (λ q. with_cycled now (ends_cycle t done q) (side_by f s))
         (ap (λ q. settled now q) (broken_same now p) ∙ settled_same now (broken_off here now p))

@@ -3,9 +3,9 @@ use Rattle.std.proofs.Common.{◌≡◌, ℕ, List, Bool, true, false, not, ◌&
 use Rattle.std.specs.Prelude.{if◌then◌else◌}
 use Rattle.ctl_link.specs.declared.link.Link.{Link}
 use Rattle.ctl_link.specs.declared.link.Link.TheVariants.{Busy}
-use Rattle.board_lines.specs.declared.event.HostEvent.{HostEvent}
+use Rattle.board_terms.specs.declared.event.HostEvent.{HostEvent}
 use Rattle.host_turn.specs.Run.{Side, goes_on}
-use Rattle.board_lines.specs.declared.lines.Lines.{Lines}
+use Rattle.board_terms.specs.declared.lines.Lines.{Lines}
 use Rattle.ctl_wire.specs.declared.wire.Wire.{Wire}
 use Rattle.ctl_wire.specs.declared.wire.Wire.TheVariants.{Recv, Send}
 use Rattle.ctl_wire.specs.Wire.{edge_at, drive, is_breakable}

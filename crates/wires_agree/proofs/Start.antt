@@ -4,14 +4,14 @@ use Rattle.std.specs.Prelude.{if◌then◌else◌, nat_le, slice_get, slice_inde
 use Rattle.std.specs.declared.option.Option.{Option}
 use Rattle.std.proofs.lemmas.Bool.Decides.{nat_tests}
 use Rattle.ctl_core.specs.Controller.{at_start}
-use Rattle.board_lines.specs.declared.event.HostEvent.{HostEvent}
+use Rattle.board_terms.specs.declared.event.HostEvent.{HostEvent}
 use Rattle.host_turn.specs.Host.{Host, Turn, is_done, turn, waits, event_turn, bios_turn, in_silence, acted}
 use Rattle.ctl_link.specs.Link.{settled}
 use Rattle.host_turn.specs.Run.{Side, side_at_start, goes_on, with_cycled, desk_of}
 use Rattle.host_turn.specs.Cycle.{cycled, ends_cycle, host_of}
-use Rattle.board_lines.specs.declared.lines.Lines.{Lines}
-use Rattle.board_lines.specs.Frame.{frame_bits, byte_of}
-use Rattle.board_lines.proofs.Frames.{read_back}
+use Rattle.board_terms.specs.declared.lines.Lines.{Lines}
+use Rattle.board_terms.specs.Frame.{frame_bits, byte_of}
+use Rattle.board_terms.proofs.Frames.{read_back}
 use Rattle.ctl_wire.specs.declared.wire.Wire.{Wire}
 use Rattle.pc_wires.specs.Wires.{board_cycle, pc_at_start}
 use Rattle.ctl_wire.specs.Wire.{is_breakable}

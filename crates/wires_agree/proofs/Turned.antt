@@ -2,8 +2,8 @@
 use Rattle.std.proofs.Common.{◌≡◌, ℕ, suc, zero, ◌≤◌, ◌<◌, Bool, true, false, not, ◌&&◌, List, [], ◌∷◌, length, take, drop, set}
 use Rattle.std.proofs.Common.{Some, None, refl, ap, ◌∙◌, arith}
 use Rattle.std.specs.Prelude.{if◌then◌else◌, slice_index_or}
-use Rattle.board_lines.specs.Bits.{is_odd, value}
-use Rattle.board_lines.specs.Frame.{byte_of}
+use Rattle.board_terms.specs.Bits.{is_odd, value}
+use Rattle.board_terms.specs.Frame.{byte_of}
 use Rattle.ctl_wire.specs.Wire.{turned}
 use Rattle.wires_agree.specs.Cells.{bits_to}
 use Rattle.wires_agree.specs.Flips.{FlipsSeen}

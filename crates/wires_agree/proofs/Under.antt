@@ -1,8 +1,8 @@
 -- Spans of cycles while a byte is under way.
 use Rattle.std.proofs.Common.{◌≡◌, ℕ, suc, zero, ◌+◌, ◌≤◌, ◌<◌, List, false, not, ◌&&◌, refl, ap, sym, ◌∙◌, inl, inr, arith}
 use Rattle.ctl_link.specs.declared.link.Link.TheVariants.{Busy}
-use Rattle.board_lines.specs.declared.event.HostEvent.{HostEvent}
-use Rattle.board_lines.specs.declared.lines.Lines.{Lines}
+use Rattle.board_terms.specs.declared.event.HostEvent.{HostEvent}
+use Rattle.board_terms.specs.declared.lines.Lines.{Lines}
 use Rattle.ctl_wire.specs.declared.wire.Wire.{Wire}
 use Rattle.pc_wires.specs.Wires.{Pc, board_cycle}
 use Rattle.byte_time.specs.ByteTime.{quietly}

@@ -1,7 +1,7 @@
 -- What the keyboard drives in a frame: cells of 32 cycles.
 use Rattle.std.specs.Prelude.{◌≡◌, ℕ, ◌+◌, ◌*◌, ◌≤◌, ◌<◌, Bool, true, false, not, ◌&&◌, List, [], ◌∷◌, ◌++◌}
 use Rattle.std.proofs.Common.{zero, suc}
-use Rattle.board_lines.specs.declared.lines.Lines.{Lines}
+use Rattle.board_terms.specs.declared.lines.Lines.{Lines}
 
 -- the keyboard leaves the clock alone from one cycle to before another
 abbrev pub IsUp : (ℕ → Lines) → ℕ → ℕ → Type 0

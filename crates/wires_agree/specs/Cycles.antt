@@ -1,8 +1,8 @@
 -- Cycles of the PC's side at its wires, one after another.
 use Rattle.std.specs.Prelude.{ℕ, List}
 use Rattle.std.proofs.Common.{zero, suc}
-use Rattle.board_lines.specs.declared.event.HostEvent.{HostEvent}
-use Rattle.board_lines.specs.declared.lines.Lines.{Lines}
+use Rattle.board_terms.specs.declared.event.HostEvent.{HostEvent}
+use Rattle.board_terms.specs.declared.lines.Lines.{Lines}
 use Rattle.pc_wires.specs.Wires.{Pc, board_cycle}
 
 -- n cycles from this one on, with what the keyboard drives in each

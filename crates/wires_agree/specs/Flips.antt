@@ -1,10 +1,10 @@
 -- Noise that is pending.
 use Rattle.std.specs.Prelude.{◌≡◌, ℕ, Bool, List, Some, None}
 use Rattle.std.specs.declared.option.Option.{Option}
-use Rattle.board_lines.specs.declared.event.HostEvent.{HostEvent}
-use Rattle.board_lines.specs.declared.lines.Lines.{Lines}
-use Rattle.board_lines.specs.Flips.{IsDataOrParity, AreFlips}
-use Rattle.board_lines.specs.Frame.{byte_of}
+use Rattle.board_terms.specs.declared.event.HostEvent.{HostEvent}
+use Rattle.board_terms.specs.declared.lines.Lines.{Lines}
+use Rattle.board_terms.specs.Flips.{IsDataOrParity, AreFlips}
+use Rattle.board_terms.specs.Frame.{byte_of}
 use Rattle.ctl_wire.specs.Wire.{turned}
 use Rattle.byte_time.specs.ByteTime.{arriving}
 use Rattle.pc_wires.specs.Wires.{Pc}

@@ -1,9 +1,9 @@
 -- Each cycle of a frame, at the wires and in byte time.
 use Rattle.std.specs.Prelude.{◌≡◌, ℕ, ◌+◌, ◌*◌, ◌≤◌, ◌<◌, ◌==◌, ◌&&◌, Bool, true, false, List, Some, if◌then◌else◌}
 use Rattle.std.proofs.Common.{zero, suc}
-use Rattle.board_lines.specs.declared.event.HostEvent.{HostEvent}
-use Rattle.board_lines.specs.declared.lines.Lines.{Lines}
-use Rattle.board_lines.specs.Frame.{byte_of}
+use Rattle.board_terms.specs.declared.event.HostEvent.{HostEvent}
+use Rattle.board_terms.specs.declared.lines.Lines.{Lines}
+use Rattle.board_terms.specs.Frame.{byte_of}
 use Rattle.byte_time.specs.ByteTime.{quietly, byte_cycle, carried, Event, Quiet, Begins, Closes}
 use Rattle.byte_time.specs.declared.UnderWay.{UnderWay}
 use Rattle.byte_time.specs.declared.meeting.Meeting.TheVariants.{Got, Sent}

@@ -2,7 +2,7 @@
 use Rattle.std.specs.Prelude.{true}
 use Rattle.ctl_link.specs.declared.link.Link.{Link}
 use Rattle.ctl_link.specs.declared.link.Link.TheVariants.{Free, Hold, Ask, Request, Busy}
-use Rattle.ctl_link.specs.declared.port.Port.{Port}
+use Rattle.ctl_link.specs.declared.port.LinkEnd.{LinkEnd}
 use Rattle.host_turn.specs.Run.{Side}
 use Rattle.ctl_wire.specs.declared.wire.Wire.{Wire}
 use Rattle.ctl_wire.specs.declared.wire.Wire.TheVariants.{Recv, Send}
@@ -19,7 +19,7 @@ link_by f (Request byte) = Request byte
 link_by f (Busy x) = Busy (f x)
 
 -- the controller with its link
-abbrev pub port_by : {F G : Type 0} → (F → G) → Port F → Port G
+abbrev pub port_by : {F G : Type 0} → (F → G) → LinkEnd F → LinkEnd G
 port_by f p = record {
   core = p.core;
   filled = p.filled;

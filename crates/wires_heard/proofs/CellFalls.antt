@@ -3,7 +3,7 @@ use Rattle.std.proofs.Common.{◌≡◌, ◌≤◌, ℕ, suc, zero, ◌+◌, ◌
 use Rattle.std.proofs.Common.{◌++◌, length, drop, Bool, true, ◌&&◌, ◌==◌}
 use Rattle.std.proofs.Common.{None, if◌then◌else◌, refl, ap, ◌∙◌, arith, length-append}
 use Rattle.std.proofs.lemmas.List.{append_assoc, drop-append-le}
-use Rattle.board_probes.specs.Transfers.{are_spaced, are_spaced_behind}
+use Rattle.board_probes.specs.Transfers.{are_spaced, are_spaced_after}
 use Rattle.board_probes.specs.Transfers.{transfer_by, transfer_in, with_fall}
 use Rattle.board_probes.specs.declared.heard.Fall.{Fall}
 use Rattle.fw_link.proofs.Watching.{same_number}
@@ -15,12 +15,12 @@ falls_from start_cycle dat cell (suc more) =
     record { cycle = start_cycle + (290 + 32 * cell); dat = dat cell } ∷ falls_from start_cycle dat (suc cell) more
 
 spaced_from : (start_cycle : ℕ) (dat : ℕ → Bool) (more cell : ℕ)
-    → are_spaced_behind (start_cycle + (290 + 32 * cell)) (falls_from start_cycle dat (suc cell) more) ≡ true
+    → are_spaced_after (start_cycle + (290 + 32 * cell)) (falls_from start_cycle dat (suc cell) more) ≡ true
 spaced_from start_cycle dat zero cell = refl
 spaced_from start_cycle dat (suc more) cell =
     let apart : (start_cycle + (290 + 32 * suc cell) == start_cycle + (290 + 32 * cell) + 32) ≡ true =
     same_number (start_cycle + (290 + 32 * suc cell)) (start_cycle + (290 + 32 * cell) + 32) (omega arith) in
-    ap (λ spaced. spaced && are_spaced_behind (start_cycle + (290 + 32 * suc cell)) (falls_from start_cycle dat (suc (suc cell)) more))
+    ap (λ spaced. spaced && are_spaced_after (start_cycle + (290 + 32 * suc cell)) (falls_from start_cycle dat (suc (suc cell)) more))
     apart ∙ spaced_from start_cycle dat more (suc cell)
 
 -- the falls of the first cells of a frame

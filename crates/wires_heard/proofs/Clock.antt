@@ -4,7 +4,7 @@ use Rattle.std.proofs.Common.{◌≡◌, ◌≤◌, ◌<◌, ℕ, suc, ◌+◌, 
 use Rattle.std.proofs.Common.{◌⊎◌, inl, inr, if◌then◌else◌, refl, ap, sym, ◌∙◌, arith}
 use Rattle.std.proofs.lemmas.Bool.Decides.{nat_tests}
 use Rattle.bits.specs.Bits.{bit}
-use Rattle.fw_link.proofs.TickLatch.{before_lights, before_data, within, behind}
+use Rattle.fw_link.proofs.TickLatch.{before_lights, before_data, within, afterwards}
 use Rattle.fw_link.proofs.Wired.{IsReleased}
 use Rattle.fw_link.proofs.Wires.{clock_of_latch}
 use Rattle.fw_link.specs.Latch.{Frame, NoFrame, SentFrame, CutFrame, ReceivedFrame, IsLook, frame_latch, frame_cycles, tick_latch}
@@ -156,7 +156,7 @@ module _ (old v : ℕ) (was : IsReleased old) (is : IsReleased v) where
           then nat_lt ((i - 28) % 32) 20 || nat_lt ((i - 28) / 32) 9 else nat_le 16 ((i - 28) % 32)) v is
           ∙ eleven i 0 m (omega (arith, l))
 
-  -- up to two cycles behind a look the frame is in the cells that it counts, or before the first
+  -- up to two cycles after a look the frame is in the cells that it counts, or before the first
   cells_to : (look i : ℕ) → IsLook look → 28 ≤ i → i < look + 2 → (260 + i - 288) / 32 < (look + 4) / 32
   cells_to look i (inl e) l u = absurd (omega (arith, e, l, u))
   cells_to look i (inr (inl e)) l u = absurd (omega (arith, e, l, u))
@@ -171,8 +171,8 @@ module _ (old v : ℕ) (was : IsReleased old) (is : IsReleased v) where
   late_of look i (inr (inr (k, few, inl e))) l u m = omega (arith, e, l, u, m)
   late_of look i (inr (inr (k, few, inr e))) l u m = omega (arith, e, l, u, m)
 
-  up_behind : (look i : ℕ) → IsLook look → look + 2 ≤ i → clock_in ((look + 4) / 32) (260 + i) ≡ true
-  up_behind look i at u = by (nat_lt i 28) refl (nat_le ((look + 4) / 32) ((260 + i - 288) / 32)) refl
+  up_after : (look i : ℕ) → IsLook look → look + 2 ≤ i → clock_in ((look + 4) / 32) (260 + i) ≡ true
+  up_after look i at u = by (nat_lt i 28) refl (nat_le ((look + 4) / 32) ((260 + i - 288) / 32)) refl
     where
       by : (a : Bool) → nat_lt i 28 ≡ a → (b : Bool) → nat_le ((look + 4) / 32) ((260 + i - 288) / 32) ≡ b
           → clock_in ((look + 4) / 32) (260 + i) ≡ true
@@ -205,7 +205,7 @@ module _ (old v : ℕ) (was : IsReleased old) (is : IsReleased v) where
           ∙ sym (in_cells ((look + 4) / 32) (260 + i) (omega (arith, n)) q)
       by false e b f =
           let m : look + 2 ≤ i = grind (arith, nat_tests, e) in
-          ap (λ c. bit 0 (if c then sent_latch v byte i else v)) e ∙ is.clock ∙ sym (up_behind look i at m)
+          ap (λ c. bit 0 (if c then sent_latch v byte i else v)) e ∙ is.clock ∙ sym (up_after look i at m)
 
   -- a frame is one with fewer than eleven cells, or of eleven
   abbrev pub Fits : Frame → Type 0
@@ -221,10 +221,10 @@ module _ (old v : ℕ) (was : IsReleased old) (is : IsReleased v) where
   frame_clock (CutFrame byte look) fits i l = cut_clock byte look i fits.0 fits.1 l
   frame_clock ReceivedFrame fits i l = received_clock i l
 
-  behind_by : (n c i : ℕ)
+  after_by : (n c i : ℕ)
       → 28 ≤ c → (n ≤ (c - 28) / 32) ⊎ ((n ≡ suc ((c - 28) / 32)) × (16 ≤ (c - 28) % 32)) → clock_in n (260 + c + i) ≡ true
-  behind_by n c i long (inl few) = past_cells n (260 + c + i) (omega (arith, long)) (omega (arith, few, long))
-  behind_by n c i long (inr last) = by (nat_le n ((260 + c + i - 288) / 32)) refl
+  after_by n c i long (inl few) = past_cells n (260 + c + i) (omega (arith, long)) (omega (arith, few, long))
+  after_by n c i long (inr last) = by (nat_le n ((260 + c + i - 288) / 32)) refl
     where
       by : (b : Bool) → nat_le n ((260 + c + i - 288) / 32) ≡ b → clock_in n (260 + c + i) ≡ true
       by true e =
@@ -240,13 +240,13 @@ module _ (old v : ℕ) (was : IsReleased old) (is : IsReleased v) where
   pub clock_is : (frame : Frame) → Fits frame → (o : ℕ) → bit 0 (tick_latch old v frame o) ≡ clock_in (cells frame) o
   clock_is frame fits o = by (nat_lt o 232) refl (nat_lt o 260) refl (nat_lt o (260 + frame_cycles frame)) refl
     where
-      behind_frame : (f : Frame) → Fits f → (i : ℕ) → 288 ≤ 260 + frame_cycles f + i → clock_in (cells f) (260 + frame_cycles f + i) ≡ true
-      behind_frame NoFrame h i l = past_cells 0 (260 + 0 + i) l (omega arith)
-      behind_frame (SentFrame byte) h i l = behind_by 11 368 i (omega arith) (inr (refl, omega arith))
-      behind_frame (CutFrame byte look) h i l =
+      after_frame : (f : Frame) → Fits f → (i : ℕ) → 288 ≤ 260 + frame_cycles f + i → clock_in (cells f) (260 + frame_cycles f + i) ≡ true
+      after_frame NoFrame h i l = past_cells 0 (260 + 0 + i) l (omega arith)
+      after_frame (SentFrame byte) h i l = after_by 11 368 i (omega arith) (inr (refl, omega arith))
+      after_frame (CutFrame byte look) h i l =
           let z : 260 + (look + 6) + i ≡ 260 + (look + 6 + i) = omega arith in
-          ap (clock_in ((look + 4) / 32)) z ∙ up_behind look (look + 6 + i) h.0 (omega arith)
-      behind_frame ReceivedFrame h i l = behind_by 11 366 i (omega arith) (inr (refl, omega arith))
+          ap (clock_in ((look + 4) / 32)) z ∙ up_after look (look + 6 + i) h.0 (omega arith)
+      after_frame ReceivedFrame h i l = after_by 11 366 i (omega arith) (inr (refl, omega arith))
 
       by : (a : Bool) → nat_lt o 232 ≡ a → (b : Bool) → nat_lt o 260 ≡ b → (c : Bool)
           → nat_lt o (260 + frame_cycles frame) ≡ c → bit 0 (tick_latch old v frame o) ≡ clock_in (cells frame) o
@@ -273,7 +273,7 @@ module _ (old v : ℕ) (was : IsReleased old) (is : IsReleased v) where
           let m : 260 + frame_cycles frame ≤ o = grind (arith, nat_tests, g) in
           let z : 260 + frame_cycles frame + (o - (260 + frame_cycles frame)) ≡ o = omega (arith, m) in
           ap (λ k. bit 0 (tick_latch old v frame k)) (sym z)
-          ∙ ap (bit 0) (behind old v frame (o - (260 + frame_cycles frame))) ∙ is.clock
+          ∙ ap (bit 0) (afterwards old v frame (o - (260 + frame_cycles frame))) ∙ is.clock
           ∙ sym (early (nat_lt o 288) refl z)
         where
           early : (d : Bool) → nat_lt o 288 ≡ d → 260 + frame_cycles frame + (o - (260 + frame_cycles frame)) ≡ o
@@ -282,4 +282,4 @@ module _ (old v : ℕ) (was : IsReleased old) (is : IsReleased v) where
           early false h z =
               let k : 288 ≤ o = grind (arith, nat_tests, h) in
               ap (clock_in (cells frame)) (sym z)
-              ∙ behind_frame frame fits (o - (260 + frame_cycles frame)) (omega (arith, k, z))
+              ∙ after_frame frame fits (o - (260 + frame_cycles frame)) (omega (arith, k, z))

@@ -2,14 +2,14 @@
 use Rattle.std.proofs.Common.{◌≡◌, ◌≤◌, inl, inr, ℕ, ◌+◌, List, [], ◌∷◌, ◌++◌, length, Bool, true, false, not, ◌&&◌}
 use Rattle.std.proofs.Common.{Some, None, if◌then◌else◌, ◌==◌, refl, ap, sym, ◌∙◌, arith, length-append}
 use Rattle.std.specs.declared.option.Option.{Option}
-use Rattle.board_lines.specs.Frame.{byte_of}
-use Rattle.board_lines.specs.declared.event.HostEvent.{HostEvent}
-use Rattle.board_lines.specs.declared.lines.Lines.{Lines}
-use Rattle.ctl_link.specs.Link.{is_busy, received, handed_over, link_behind}
+use Rattle.board_terms.specs.Frame.{byte_of}
+use Rattle.board_terms.specs.declared.event.HostEvent.{HostEvent}
+use Rattle.board_terms.specs.declared.lines.Lines.{Lines}
+use Rattle.ctl_link.specs.Link.{is_busy, received, handed_over, next_link}
 use Rattle.ctl_link.specs.Pulls.{pulled}
 use Rattle.ctl_link.specs.declared.link.Link.{Link}
 use Rattle.ctl_link.specs.declared.link.Link.TheVariants.{Free, Hold, Ask, Request, Busy}
-use Rattle.ctl_link.specs.declared.port.Port.{Port}
+use Rattle.ctl_link.specs.declared.port.LinkEnd.{LinkEnd}
 use Rattle.ctl_core.specs.Controller.{ControllerState, asks_again}
 use Rattle.ctl_wire.specs.Wire.{drive, edge_at, is_breakable, turned}
 use Rattle.ctl_wire.specs.declared.wire.Wire.{Wire}
@@ -75,7 +75,7 @@ rest_counts events now s (Request byte) e =
     omega (arith, z)
 
 -- an edge counts one at most
-either : (c : Bool) (x y : Port Wire) (n : ℕ) → edges_in x.link ≤ n → edges_in y.link ≤ n → edges_in (if c then x else y).link ≤ n
+either : (c : Bool) (x y : LinkEnd Wire) (n : ℕ) → edges_in x.link ≤ n → edges_in y.link ≤ n → edges_in (if c then x else y).link ≤ n
 either true x y n h g = h
 either false x y n h g = g
 
@@ -85,15 +85,15 @@ ask byte since = Ask byte since
 abbrev hold : ℕ → Link Wire
 hold since = Hold since
 
-behind_none : (now : ℕ) (came : Option ℕ) (s : ControllerState) → edges_in (link_behind {F = Wire} now came s) ≡ 0
-behind_none now (Some byte) s = refl
-behind_none now None s = by (asks_again s)
+after_none : (now : ℕ) (came : Option ℕ) (s : ControllerState) → edges_in (next_link {F = Wire} now came s) ≡ 0
+after_none now (Some byte) s = refl
+after_none now None s = by (asks_again s)
   where
     by : (c : Bool) → edges_in (if c then ask 0xfe now else hold now) ≡ 0
     by true = refl
     by false = refl
 
-edge_counts : (now : ℕ) (dat : Bool) (p : Port Wire) (l : Link Wire) → p.link ≡ l → edges_in (edge_at now dat l p).link ≤ edges_in l + 1
+edge_counts : (now : ℕ) (dat : Bool) (p : LinkEnd Wire) (l : Link Wire) → p.link ≡ l → edges_in (edge_at now dat l p).link ≤ edges_in l + 1
 edge_counts now dat p Free e = omega arith
 edge_counts now dat p (Hold since) e = let z : edges_in p.link ≡ 0 = ap edges_in e in omega (arith, z)
 edge_counts now dat p (Ask byte since) e = let z : edges_in p.link ≡ 0 = ap edges_in e in omega (arith, z)
@@ -101,7 +101,7 @@ edge_counts now dat p (Request byte) e = omega arith
 edge_counts now dat p (Busy (Recv flip bits)) e =
     let came : Option ℕ = byte_of (turned flip (bits ++ dat ∷ [])) in
     let long : length (bits ++ dat ∷ []) ≡ length bits + 1 = length-append bits (dat ∷ []) in
-    let none : edges_in (link_behind {F = Wire} now came p.core) ≡ 0 = behind_none now came p.core in
+    let none : edges_in (next_link {F = Wire} now came p.core) ≡ 0 = after_none now came p.core in
     either (length bits == 10) (received now came p) (record p { link = Busy (Recv flip (bits ++ dat ∷ [])) }) (length bits + 1)
     (omega (arith, none)) (omega (arith, long))
 edge_counts now dat p (Busy (Send byte edges)) e =
@@ -113,7 +113,7 @@ one_if true = 1
 one_if false = 0
 
 -- while the latch leaves the clock alone, a look that sees it fall sees the controller's own pull
-look_counts : (c k : Bool) (now : ℕ) (dat : Bool) (p : Port Wire) (l : Link Wire) → p.link ≡ l
+look_counts : (c k : Bool) (now : ℕ) (dat : Bool) (p : LinkEnd Wire) (l : Link Wire) → p.link ≡ l
     → edges_in (if c && not (k && (drive l).clk) then edge_at now dat l p else p).link ≤ edges_in l + one_if (c && not k)
 look_counts false k now dat p l e = let z : edges_in p.link ≡ edges_in l = ap edges_in e in omega (arith, z)
 look_counts true false now dat p l e = edge_counts now dat p l e

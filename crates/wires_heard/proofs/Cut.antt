@@ -1,6 +1,6 @@
 -- A frame that is cut in its last cell but one: the controller pulls the clock where its next edge would be.
 use Rattle.std.proofs.Common.{◌≡◌, ◌≤◌, ◌<◌, ℕ, ◌+◌, ◌-◌, ◌/◌, List, false, Some, refl, inl, inr, ap, sym, ◌∙◌, subst, arith}
-use Rattle.board_lines.specs.declared.event.HostEvent.{HostEvent}
+use Rattle.board_terms.specs.declared.event.HostEvent.{HostEvent}
 use Rattle.ctl_link.specs.Link.{is_busy}
 use Rattle.ctl_link.specs.Pulls.{pulled}
 use Rattle.fw_link.proofs.Wired.{IsReleased}

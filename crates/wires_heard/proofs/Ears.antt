@@ -7,8 +7,8 @@ use Rattle.std.proofs.lemmas.Bool.Decides.{nat_tests}
 use Rattle.std.proofs.lemmas.List.Elements.{All-append, All-drop, All-weaker, All-nil, All-cons, All-head, All-tail}
 use Rattle.std.specs.declared.option.Option.{Option}
 use Rattle.bits.proofs.Every.{and-left, and-right, same_of}
-use Rattle.board_lines.specs.declared.lines.Lines.{Lines}
-use Rattle.board_probes.specs.Transfers.{are_spaced, are_spaced_behind, completed, data_at, fall_at, is_fall}
+use Rattle.board_terms.specs.declared.lines.Lines.{Lines}
+use Rattle.board_probes.specs.Transfers.{are_spaced, are_spaced_after, completed, data_at, fall_at, is_fall}
 use Rattle.board_probes.specs.Transfers.{transfer_by, transfer_in, wires_at, with_fall}
 use Rattle.board_probes.specs.declared.heard.Fall.{Fall}
 use Rattle.board_probes.specs.declared.heard.Transfer.{Transfer}
@@ -93,17 +93,17 @@ module _ (s : Story) where
   falls_are (suc k) = falls_more k (state_at s (suc k)) refl (falls_are k)
 
 -- falls that are 32 cycles apart
-behind_first : (c : ℕ) (ys : List Fall) (f : Fall) → are_spaced_behind c (ys ++ f ∷ []) ≡ true → f.cycle ≡ c + 32 * (length ys + 1)
-behind_first c [] f h = let e : f.cycle ≡ c + 32 = same_of f.cycle (c + 32) (and-left (f.cycle == c + 32) true h) in omega (arith, e)
-behind_first c (y ∷ ys) f h =
-    let first : y.cycle ≡ c + 32 = same_of y.cycle (c + 32) (and-left (y.cycle == c + 32) (are_spaced_behind y.cycle (ys ++ f ∷ [])) h) in
+afterwards_first : (c : ℕ) (ys : List Fall) (f : Fall) → are_spaced_after c (ys ++ f ∷ []) ≡ true → f.cycle ≡ c + 32 * (length ys + 1)
+afterwards_first c [] f h = let e : f.cycle ≡ c + 32 = same_of f.cycle (c + 32) (and-left (f.cycle == c + 32) true h) in omega (arith, e)
+afterwards_first c (y ∷ ys) f h =
+    let first : y.cycle ≡ c + 32 = same_of y.cycle (c + 32) (and-left (y.cycle == c + 32) (are_spaced_after y.cycle (ys ++ f ∷ [])) h) in
     let rest : f.cycle ≡ y.cycle + 32 * (length ys + 1) =
-    behind_first y.cycle ys f (and-right (y.cycle == c + 32) (are_spaced_behind y.cycle (ys ++ f ∷ [])) h) in
+    afterwards_first y.cycle ys f (and-right (y.cycle == c + 32) (are_spaced_after y.cycle (ys ++ f ∷ [])) h) in
     omega (arith, first, rest)
 
-spaced_rest : (c : ℕ) (ys : List Fall) (f : Fall) → are_spaced_behind c (ys ++ f ∷ []) ≡ true → are_spaced (ys ++ f ∷ []) ≡ true
+spaced_rest : (c : ℕ) (ys : List Fall) (f : Fall) → are_spaced_after c (ys ++ f ∷ []) ≡ true → are_spaced (ys ++ f ∷ []) ≡ true
 spaced_rest c [] f h = refl
-spaced_rest c (y ∷ ys) f h = and-right (y.cycle == c + 32) (are_spaced_behind y.cycle (ys ++ f ∷ [])) h
+spaced_rest c (y ∷ ys) f h = and-right (y.cycle == c + 32) (are_spaced_after y.cycle (ys ++ f ∷ [])) h
 
 -- so the one that is m places before the last is 32 m cycles before it
 pub spaced_back : (P : Fall → Type 0) (ys : List Fall) (f : Fall) → are_spaced (ys ++ f ∷ []) ≡ true → All P ys → (m : ℕ) → 1 ≤ m
@@ -116,7 +116,7 @@ spaced_back P (y ∷ ys) f h all m l u =
         → (g : Fall) × P g × (g.cycle + 32 * m ≡ f.cycle)
     by true e more =
         let is : m ≡ suc (length ys) = same_of m (suc (length ys)) e in
-        let far : f.cycle ≡ y.cycle + 32 * (length ys + 1) = behind_first y.cycle ys f h in
+        let far : f.cycle ≡ y.cycle + 32 * (length ys + 1) = afterwards_first y.cycle ys f h in
         (y, All-head P y ys all, omega (arith, is, far))
     by false e more = more (grind (arith, nat_tests, e, u))
 

@@ -1,18 +1,18 @@
--- A look at which the clock falls by the latch; the controller behind the last edge of a frame, which pulls the clock where
+-- A look at which the clock falls by the latch; the controller after the last edge of a frame, which pulls the clock where
 -- it has taken a byte, and leaves it alone where it has sent one and awaits its reply.
 use Rattle.std.proofs.Common.{◌≡◌, ℕ, List, Bool, true, false, not, ◌&&◌, ◌||◌, Some, None, refl, ap, sym, ◌∙◌, arith}
 use Rattle.std.specs.Prelude.{if◌then◌else◌}
 use Rattle.std.specs.declared.option.Option.{Option}
-use Rattle.board_lines.specs.declared.event.HostEvent.{HostEvent}
-use Rattle.board_lines.specs.declared.lines.Lines.{Lines}
+use Rattle.board_terms.specs.declared.event.HostEvent.{HostEvent}
+use Rattle.board_terms.specs.declared.lines.Lines.{Lines}
 use Rattle.ctl_core.specs.Commands.{Taken, taken}
 use Rattle.ctl_core.specs.Controller.{ControllerState, asks_again, is_disabled}
 use Rattle.ctl_link.proofs.Breaks.{unbroken}
-use Rattle.ctl_link.specs.Link.{held_since, is_busy, link_after, link_behind, received, settled, takes_input, took_where}
+use Rattle.ctl_link.specs.Link.{held_since, is_busy, link_after, next_link, received, settled, takes_input, took_where}
 use Rattle.ctl_link.specs.Pulls.{pulled}
 use Rattle.ctl_link.specs.declared.link.Link.{Link}
 use Rattle.ctl_link.specs.declared.link.Link.TheVariants.{Free, Hold, Ask}
-use Rattle.ctl_link.specs.declared.port.Port.{Port}
+use Rattle.ctl_link.specs.declared.port.LinkEnd.{LinkEnd}
 use Rattle.ctl_wire.specs.Wire.{drive, edge_at, is_breakable}
 use Rattle.ctl_wire.specs.declared.wire.Wire.{Wire}
 use Rattle.host_turn.proofs.Turns.{turn_of}
@@ -23,7 +23,7 @@ use Rattle.pc_wires.specs.Wires.{Pc, board_cycle, looked, wires}
 use Rattle.wires_agree.proofs.Pulls.{stays_pulled}
 use Rattle.wires_agree.proofs.Spans.{and-true, board_by}
 
--- what the edge does to the port stands before the rest of the cycle
+-- what the edge does to the port is before the rest of the cycle
 pub edge_cycle : (events : List HostEvent) (now : ℕ) (latch : Lines) (b : Pc) (l : Link Wire) → b.side.port.link ≡ l → b.clock ≡ true
     → latch.clk ≡ false
     → (board_cycle events now latch b).side
@@ -42,37 +42,37 @@ ask byte since = Ask byte since
 abbrev hold : ℕ → Link Wire
 hold since = Hold since
 
--- behind the keyboard's byte the clock is pulled
-behind_pulled : (now : ℕ) (came : Option ℕ) (s : ControllerState) → pulled (link_behind {F = Wire} now came s) ≡ Some now
-behind_pulled now (Some byte) s = refl
-behind_pulled now None s = by (asks_again s)
+-- after the keyboard's byte the clock is pulled
+afterwards_pulled : (now : ℕ) (came : Option ℕ) (s : ControllerState) → pulled (next_link {F = Wire} now came s) ≡ Some now
+afterwards_pulled now (Some byte) s = refl
+afterwards_pulled now None s = by (asks_again s)
   where
     by : (c : Bool) → pulled (if c then ask 0xfe now else hold now) ≡ Some now
     by true = refl
     by false = refl
 
-pub received_pulls : (events : List HostEvent) (now : ℕ) (s : Side Wire) (came : Option ℕ) (p : Port Wire)
+pub received_pulls : (events : List HostEvent) (now : ℕ) (s : Side Wire) (came : Option ℕ) (p : LinkEnd Wire)
     → pulled (goes_on is_breakable events now (record s { port = received now came p })).port.link ≡ Some now
 received_pulls events now s came p =
-    stays_pulled Wire is_breakable events now (record s { port = received now came p }) now (behind_pulled now came p.core) (omega arith)
+    stays_pulled Wire is_breakable events now (record s { port = received now came p }) now (afterwards_pulled now came p.core) (omega arith)
 
 -- a link that is free while a reply is awaited
-pub record Waits (p : Port Wire) : Type 0 where
+pub record Waits (p : LinkEnd Wire) : Type 0 where
   pub free : p.link ≡ Free
   pub awaits : p.awaits ≡ true
 
-took_none : (now : ℕ) (input : Option Taken) (p : Port Wire) (awaits : Bool) (l : Link Wire) → awaits ≡ true → l ≡ Free
+took_none : (now : ℕ) (input : Option Taken) (p : LinkEnd Wire) (awaits : Bool) (l : Link Wire) → awaits ≡ true → l ≡ Free
     → (took_where now (held_since now awaits l) input p).port ≡ p
 took_none now input p awaits l a e =
     ap (λ b. (took_where now (held_since now b l) input p).port) a ∙ ap (λ k. (took_where now (held_since now true k) input p).port) e
 
-settle_waits : (now : ℕ) (p : Port Wire) → Waits p → Waits (settled now p).port
+settle_waits : (now : ℕ) (p : LinkEnd Wire) → Waits p → Waits (settled now p).port
 settle_waits now p w =
     let input : Option Taken = if p.core.output_full then None else taken p.core in
-    let t : Port Wire = (takes_input now p).port in
+    let t : LinkEnd Wire = (takes_input now p).port in
     let same : t ≡ p = took_none now input p p.awaits p.link w.awaits w.free in
-    let awaits : t.awaits ≡ true = ap (λ (q : Port Wire). q.awaits) same ∙ w.awaits in
-    let free : t.link ≡ Free = ap (λ (q : Port Wire). q.link) same ∙ w.free in
+    let awaits : t.awaits ≡ true = ap (λ (q : LinkEnd Wire). q.awaits) same ∙ w.awaits in
+    let free : t.link ≡ Free = ap (λ (q : LinkEnd Wire). q.link) same ∙ w.free in
     record {
       free = ap (λ a. link_after now (t.core.output_full || is_disabled t.core) a t.link) awaits
           ∙ ap (λ l. link_after now (t.core.output_full || is_disabled t.core) true l) free;
@@ -80,7 +80,7 @@ settle_waits now p w =
     }
 
 goes_by : (events : List HostEvent) (now : ℕ) (s : Side Wire)
-    → (p : Port Wire) → p ≡ port_by (turn_of events now s) s.port → is_busy p.link ≡ false
+    → (p : LinkEnd Wire) → p ≡ port_by (turn_of events now s) s.port → is_busy p.link ≡ false
     → (goes_on is_breakable events now s).port.link ≡ (settled now p).port.link
 unfolding goes_on
 goes_by events now s p e h =
@@ -88,7 +88,7 @@ goes_by events now s p e h =
     ∙ ap (λ q. (settled now q).port.link) (unbroken is_breakable now p h)
 
 awaits_by : (events : List HostEvent) (now : ℕ) (s : Side Wire)
-    → (p : Port Wire) → p ≡ port_by (turn_of events now s) s.port → is_busy p.link ≡ false
+    → (p : LinkEnd Wire) → p ≡ port_by (turn_of events now s) s.port → is_busy p.link ≡ false
     → (goes_on is_breakable events now s).port.awaits ≡ (settled now p).port.awaits
 unfolding goes_on
 awaits_by events now s p e h =
@@ -97,7 +97,7 @@ awaits_by events now s p e h =
 
 pub goes_waits : (events : List HostEvent) (now : ℕ) (s : Side Wire) → Waits s.port → Waits (goes_on is_breakable events now s).port
 goes_waits events now s w =
-    let p : Port Wire = port_by (turn_of events now s) s.port in
+    let p : LinkEnd Wire = port_by (turn_of events now s) s.port in
     let idle : is_busy p.link ≡ false = ap is_busy w.free in
     let q = settle_waits now p (record { free = w.free; awaits = w.awaits }) in
     record {
@@ -110,7 +110,7 @@ board_waits : (events : List HostEvent) (now : ℕ) (latch : Lines) (b : Pc) →
     → Waits (board_cycle events now latch b).side.port
 unfolding board_cycle
 board_waits events now latch b w still =
-    let p : Port Wire = b.side.port in
+    let p : LinkEnd Wire = b.side.port in
     let line : Lines = wires latch b in
     let level : line.clk ≡ latch.clk = ap (λ l. latch.clk && (drive l).clk) w.free ∙ and-true latch.clk in
     let same : (looked now line b).side ≡ b.side =

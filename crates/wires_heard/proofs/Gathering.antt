@@ -7,7 +7,7 @@ use Rattle.std.proofs.lemmas.Bool.Decides.{nat_tests}
 use Rattle.std.proofs.lemmas.List.{append-nil, drop_all}
 use Rattle.bits.proofs.Every.{same_of}
 use Rattle.bits.specs.Bits.{bit}
-use Rattle.board_lines.specs.declared.lines.Lines.{Lines}
+use Rattle.board_terms.specs.declared.lines.Lines.{Lines}
 use Rattle.ctl_link.specs.Link.{is_busy}
 use Rattle.board_probes.specs.Transfers.{completed, fall_at, is_fall}
 use Rattle.board_probes.specs.Transfers.{transfer_by, transfer_in, with_fall}
@@ -54,7 +54,7 @@ module _ (story : Story) (first_step end_step start_cycle : ℕ) (start : Beside
   abbrev pub dat : ℕ → Bool
   dat cell = (wires (latch_of (latch_at (289 + 32 * cell))) (side_at (290 + 32 * cell)).pc).dat
 
-  -- the falls of the cells so far, behind earlier ones
+  -- the falls of the cells so far, after earlier ones
   pub record Gathered (steps offset : ℕ) : Type 0 where
     pub count : ℕ
     pub from : (count ≡ 0) ⊎ (258 + 32 * count ≤ offset)
@@ -84,7 +84,7 @@ module _ (story : Story) (first_step end_step start_cycle : ℕ) (start : Beside
       fall_at (record { cycle = start_cycle + (290 + 32 * cell); lines = wires (latch_of (latch_at (289 + 32 * cell))) side.pc }))
       there.board
 
-  -- the falls that are kept behind a step
+  -- the falls that are kept after a step
   kept : (steps : ℕ) (one next : World Beside) → state_at story steps ≡ Some one → state_at story (suc steps) ≡ Some next
       → (heard_to story (suc steps)).falls
       ≡ (if is_fall (shown_at story one) (shown_at story next) then with_fall (fall_at (sample_in next)) (heard_to story steps).falls
@@ -97,7 +97,7 @@ module _ (story : Story) (first_step end_step start_cycle : ℕ) (start : Beside
 
   module _ (steps offset : ℕ) (one next : World Beside) (from : state_at story steps ≡ Some one)
       (to : state_at story (suc steps) ≡ Some next)
-      (stands : IsThere one offset) (goes : Follows one next) where
+      (holds_so : IsThere one offset) (goes : Follows one next) where
     abbrev passed : ℕ
     passed = goes.step.count
 
@@ -108,7 +108,7 @@ module _ (story : Story) (first_step end_step start_cycle : ℕ) (start : Beside
         let levels = high_low (shown_at story one).clk (shown_at story next).clk falling in
         let up = both_high (latch_of one.cpu.p2).clk (lets one.board) levels.0 in
         let low : (latch_of next.cpu.p2).clk ≡ false = by (latch_of next.cpu.p2).clk refl levels.1 alone in
-        fall_by_latch story.events start_cycle start old new was is frame fits idle one next offset stands goes up.0 low
+        fall_by_latch story.events start_cycle start old new was is frame fits idle one next offset holds_so goes up.0 low
       where
         by : (level : Bool)
             → (latch_of next.cpu.p2).clk ≡ level → ((latch_of next.cpu.p2).clk && lets next.board) ≡ false → lets next.board ≡ true
@@ -124,12 +124,12 @@ module _ (story : Story) (first_step end_step start_cycle : ℕ) (start : Beside
     falls_at_cell cell few at most =
         let offset_is : offset ≡ suc (287 + 32 * cell) = omega (arith, at) in
         let low : (latch_of next.cpu.p2).clk ≡ false =
-        ap (bit 0) (first_latch story.events start_cycle start old new was is frame fits idle one next offset stands goes)
+        ap (bit 0) (first_latch story.events start_cycle start old new was is frame fits idle one next offset holds_so goes)
         ∙ clock offset ∙ ap (clock_in cell_count) at ∙ cell_begins cell_count cell few in
         let high : (latch_of one.cpu.p2).clk ≡ true =
-        ap (bit 0) (stands.p2 ∙ ap (last_latch story.events start_cycle start old new was is frame fits idle) offset_is)
+        ap (bit 0) (holds_so.p2 ∙ ap (last_latch story.events start_cycle start old new was is frame fits idle) offset_is)
         ∙ clock (287 + 32 * cell) ∙ high_before cell_count cell in
-        let alone : lets one.board ≡ true = ap lets stands.board ∙ left_alone offset (omega (arith, at)) most in
+        let alone : lets one.board ≡ true = ap lets holds_so.board ∙ left_alone offset (omega (arith, at)) most in
         ap (λ now. (now && lets one.board) && not ((latch_of next.cpu.p2).clk && lets next.board)) high
         ∙ ap (λ now. now && not ((latch_of next.cpu.p2).clk && lets next.board)) alone
         ∙ ap (λ now. not (now && lets next.board)) low
@@ -146,7 +146,7 @@ module _ (story : Story) (first_step end_step start_cycle : ℕ) (start : Beside
         let edge = falls_there (omega (arith, in_frame)) (omega (arith, most)) alone falling_is in
         let at : offset ≡ 288 + 32 * edge.cell = edge.at in
         let two : passed ≡ 2 =
-        slow_at_cell story.events start_cycle start old new was is frame fits idle one next offset edge.cell stands goes edge.few at in
+        slow_at_cell story.events start_cycle start old new was is frame fits idle one next offset edge.cell holds_so goes edge.few at in
         let here : offset + passed ≡ 290 + 32 * edge.cell = omega (arith, at, two) in
         let bound : offset < 290 + 32 * gathered.count = gathered.to in
         let same : gathered.count ≡ edge.cell =
@@ -204,11 +204,11 @@ module _ (story : Story) (first_step end_step start_cycle : ℕ) (start : Beside
         stays count bound two false beyond_is false at_cell_is =
             let far : 290 + 32 * count ≤ offset + passed = grind (arith, nat_tests, beyond_is) in
             let at : offset ≡ 289 + 32 * count = grind (arith, nat_tests, at_cell_is, far, bound, two) in
-            absurd (stands.between count (omega (arith, far, most, eleven)) at)
+            absurd (holds_so.between count (omega (arith, far, most, eleven)) at)
 
     pub more : Gathered steps offset → offset + passed ≤ 608 → Gathered (suc steps) (offset + passed)
     more gathered most =
-        more_by (goes_in story.events start_cycle start old new was is frame fits idle one next offset stands goes)
+        more_by (goes_in story.events start_cycle start old new was is frame fits idle one next offset holds_so goes)
         gathered most (nat_lt (offset + passed) 290) refl
         (is_fall (shown_at story one) (shown_at story next)) refl
 
@@ -220,8 +220,8 @@ module _ (story : Story) (first_step end_step start_cycle : ℕ) (start : Beside
         let falling_is = falls_at_cell 10 few (omega (arith, at)) (omega (arith, at)) in
         let two : passed ≡ 2 =
         slow_at_cell story.events start_cycle start old new was is frame fits idle one next
-        offset 10 stands goes few (omega (arith, at)) in
-        let there = goes_in story.events start_cycle start old new was is frame fits idle one next offset stands goes in
+        offset 10 holds_so goes few (omega (arith, at)) in
+        let there = goes_in story.events start_cycle start old new was is frame fits idle one next offset holds_so goes in
         let bound : offset < 290 + 32 * gathered.count = gathered.to in
         let ten : gathered.count ≡ 10 =
         elim gathered.from [
@@ -274,13 +274,13 @@ module _ (story : Story) (first_step end_step start_cycle : ℕ) (start : Beside
   pub completes_last : (steps : ℕ) (one next : World Beside)
       → first_step ≤ steps → steps < end_step → state_at story steps ≡ Some one → state_at story (suc steps) ≡ Some next
       → IsThere one 608 → Follows one next → completed (sample_in next) (heard_to story steps) ≡ transfer_in (eleven_of dat)
-  completes_last steps one next begun not_ended from to stands goes =
+  completes_last steps one next begun not_ended from to holds_so goes =
       let same_step : (steps - first_step) + first_step ≡ steps = omega (arith, begun) in
       let gathered =
       gather_by (steps - first_step) one (omega (arith, begun, not_ended))
       (ap (λ steps_made. state_at story steps_made) same_step ∙ from) in
       let cycle_here : one.cycle ≡ start_cycle + gathered.0 = gathered.1.cycle in
-      let cycle_there : one.cycle ≡ start_cycle + 608 = stands.cycle in
+      let cycle_there : one.cycle ≡ start_cycle + 608 = holds_so.cycle in
       let at : gathered.0 ≡ 608 = omega (arith, cycle_here, cycle_there) in
       let falls_gathered : Gathered steps gathered.0 =
       subst (λ steps_made. Gathered steps_made gathered.0) same_step (gathered.2 (omega (arith, at))) in

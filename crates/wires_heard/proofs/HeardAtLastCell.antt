@@ -1,6 +1,6 @@
 -- A tick with a frame of eleven cells: what is heard at the last is what ends there.
 use Rattle.std.proofs.Common.{◌≡◌, ◌≤◌, ◌<◌, ℕ, ◌+◌, ◌*◌, List, Bool, true, false, refl, ap, ◌∙◌, inl, inr, arith}
-use Rattle.board_lines.specs.declared.event.HostEvent.{HostEvent}
+use Rattle.board_terms.specs.declared.event.HostEvent.{HostEvent}
 use Rattle.ctl_link.specs.Link.{is_busy}
 use Rattle.board_probes.specs.Transfers.{transfer_in}
 use Rattle.fw_link.proofs.Wired.{IsReleased}
@@ -19,7 +19,7 @@ use Rattle.wires_heard.specs.Passing.{ended_in}
 
 module _ (events : List HostEvent) (x : ℕ) (start : Beside) (old v : ℕ) (was : IsReleased old) (is : IsReleased v)
     (idle : is_busy (link_of start) ≡ false) where
-  -- in the frame the controller leaves the clock alone; behind it, it pulls it all along, or leaves it alone; and the
+  -- in the frame the controller leaves the clock alone; after it, it pulls it all along, or leaves it alone; and the
   -- transfer by the data at the falls is the byte that ends
   pub record IsWhole (frame : Frame) (fits : Fits old v was is frame) : Type 0 where
     pub opens : (o : ℕ) → 288 ≤ o → o ≤ 608 → lets (beside events x start old v was is frame fits idle o) ≡ true

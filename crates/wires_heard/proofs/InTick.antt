@@ -73,7 +73,7 @@ module _ (s : Story) (k0 k1 x : ℕ) (start : Beside) (old v : ℕ) (was : IsRel
       ap (λ o. transfer_in o (heard_to s k)) to ∙ heard_step k c.before next a b c.at to
       ∙ sym (ap (λ o. passed_between s.events o (state_at s (suc k))) c.at ∙ ap (λ o. passed_between s.events (Some c.before) o) to)
 
-  -- long behind the frame the latch leaves the clock alone
+  -- long after the frame the latch leaves the clock alone
   pub high_later : (y : ℕ) → x + 2000 ≤ y → (j : ℕ) (u : World Beside) → j ≤ k1 → state_at s j ≡ Some u → y < u.cycle + 330
       → k0 ≤ j → bit 0 u.cpu.p2 ≡ true
   high_later y far j u l at near from =

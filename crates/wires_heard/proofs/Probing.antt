@@ -8,7 +8,7 @@ use Rattle.board_probes.specs.declared.heard.Transfer.{Transfer}
 use Rattle.board_probes.specs.declared.tally.Arms.{Arms}
 use Rattle.board_probes.specs.Counts.{meets_if, hears_if, met_from, ear_from}
 use Rattle.board_probes.specs.Probes.{line_kind, is_awaited, awaited_if}
-use Rattle.board_probes.specs.Transfers.{Ear, is_behind, heard, completed}
+use Rattle.board_probes.specs.Transfers.{Ear, is_later_than, heard, completed}
 use Rattle.joint_feed.specs.Stories.{Story, state_at}
 use Rattle.joint_run.specs.Joint.{Beside}
 use Rattle.joint_run.specs.Run.{World}
@@ -28,20 +28,20 @@ among_listed arms None = refl
 among_listed arms (Some t) = sym (or_none (is_awaited arms t))
 
 module _ (s : Story) where
-  -- each state's sample is behind the last one
-  behind : (k : ℕ) (w : World Beside) → state_at s (suc k) ≡ Some w → is_behind w.cycle (heard_to s k).last ≡ true
-  behind zero w at = refl
-  behind (suc k) w at =
+  -- each state's sample is after the last one
+  afterwards : (k : ℕ) (w : World Beside) → state_at s (suc k) ≡ Some w → is_later_than w.cycle (heard_to s k).last ≡ true
+  afterwards zero w at = refl
+  afterwards (suc k) w at =
       let c = comes_from s (suc k) w at in
       let y : 1 + suc k ≡ suc (suc k) = omega arith in
       let l : c.before.cycle + 1 ≤ w.cycle = later s 1 (suc k) c.before w c.at (ap (λ j. state_at s j) y ∙ at) in
       let before : nat_lt c.before.cycle w.cycle ≡ true = grind (arith, nat_tests, l) in
-      ap (λ o. is_behind w.cycle (heard_in o (heard_to s k)).last) c.at ∙ before
+      ap (λ o. is_later_than w.cycle (heard_in o (heard_to s k)).last) c.at ∙ before
 
   -- so the probe hears what is heard
   hears_so : (k : ℕ) (o : Option (World Beside)) → state_at s (suc k) ≡ o → hears_if line_kind o (heard_to s k) ≡ heard_in o (heard_to s k)
   hears_so k None at = refl
-  hears_so k (Some w) at = ap (λ b. if b then heard (sample_in w) (heard_to s k) else heard_to s k) (behind k w at)
+  hears_so k (Some w) at = ap (λ b. if b then heard (sample_in w) (heard_to s k) else heard_to s k) (afterwards k w at)
 
   next_ear : (k : ℕ) → hears_if line_kind (state_at s (k + 1)) (heard_to s k) ≡ heard_to s (suc k)
   next_ear k =
@@ -53,7 +53,7 @@ module _ (s : Story) where
       → meets_if line_kind (Some arms) (heard_to s k) o ≡ is_among arms (transfer_in o (heard_to s k))
   meets_so k arms None at = refl
   meets_so k arms (Some w) at =
-      ap (λ b. awaited_if (Some arms) (if b then completed (sample_in w) (heard_to s k) else None)) (behind k w at)
+      ap (λ b. awaited_if (Some arms) (if b then completed (sample_in w) (heard_to s k) else None)) (afterwards k w at)
       ∙ among_listed arms (completed (sample_in w) (heard_to s k))
 
   module _ (all : HearsAll s) (arms : Arms) where

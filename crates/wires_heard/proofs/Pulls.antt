@@ -3,8 +3,8 @@ use Rattle.std.proofs.Common.{◌≡◌, ◌≤◌, ◌<◌, ◌⊎◌, inl, inr
 use Rattle.std.proofs.Common.{refl, ap, sym, ◌∙◌, subst, arith}
 use Rattle.std.proofs.lemmas.Bool.Decides.{nat_tests}
 use Rattle.std.specs.declared.option.Option.{Option}
-use Rattle.board_lines.specs.declared.event.HostEvent.{HostEvent}
-use Rattle.board_lines.specs.declared.lines.Lines.{Lines}
+use Rattle.board_terms.specs.declared.event.HostEvent.{HostEvent}
+use Rattle.board_terms.specs.declared.lines.Lines.{Lines}
 use Rattle.ctl_link.specs.Pulls.{pulled}
 use Rattle.ctl_link.specs.declared.link.Link.{Link}
 use Rattle.ctl_wire.proofs.Pulls.{OrNow, look_begins, breaks_once, high_is_none, since_now, pulled_is_low}
@@ -116,7 +116,7 @@ both_high false b h = absurd cc
 
 -- over the run
 module _ (s : Story) where
-  -- a state behind the first comes from the one before it, by a step
+  -- a state after the first comes from the one before it, by a step
   pub record Comes (k : ℕ) (u : World Beside) : Type 0 where
     pub before : World Beside
     pub at : state_at s k ≡ Some before
@@ -190,7 +190,7 @@ module _ (s : Story) where
   -- between a fall by the controller alone and the next fall there are 62 cycles at least
   pub no_fall : (i j : ℕ) (one next later_one later_next : World Beside) → Falls i one next → (latch_of next.cpu.p2).clk ≡ true
       → Falls j later_one later_next → next.cycle < later_next.cycle → later_next.cycle ≤ next.cycle + 62 → ⊥
-  no_fall i j one next x y first alone second behind soon =
+  no_fall i j one next x y first alone second afterwards soon =
       let a = comes_from i next first.to in
       let same : a.before ≡ one = same_state i a.before one a.at first.from in
       let step : StepOf s.events one next = subst (λ w. StepOf s.events w next) same a.step in
@@ -205,7 +205,7 @@ module _ (s : Story) where
       let step_y : StepOf s.events x y = subst (λ w. StepOf s.events w y) same_y b.step in
       let least_y : 1 ≤ step_y.count = step_y.least in
       let is_y : y.cycle ≡ x.cycle + step_y.count = step_y.cycle in
-      let order : suc i < suc j = ordered (suc i) (suc j) next y first.to second.to behind in
+      let order : suc i < suc j = ordered (suc i) (suc j) next y first.to second.to afterwards in
       let z : (j - suc i) + suc i ≡ j = omega (arith, order) in
       let there : pulled (link_of x.board) ≡ Some p.0 =
       stays (j - suc i) (suc i) next x p.0 first.to (ap (λ n. state_at s n) z ∙ second.from) p.2

@@ -4,9 +4,9 @@ use Rattle.std.proofs.Common.{if◌then◌else◌, nat_le, nat_lt, refl, ap, sym
 use Rattle.std.proofs.lemmas.Bool.Decides.{nat_tests}
 use Rattle.std.specs.Prelude.{take, drop}
 use Rattle.bits.proofs.Every.{at_each, and-left, and-right, same_of}
-use Rattle.board_lines.specs.Bits.{value}
-use Rattle.board_lines.specs.declared.event.HostEvent.{HostEvent}
-use Rattle.board_lines.specs.declared.lines.Lines.{Lines}
+use Rattle.board_terms.specs.Bits.{value}
+use Rattle.board_terms.specs.declared.event.HostEvent.{HostEvent}
+use Rattle.board_terms.specs.declared.lines.Lines.{Lines}
 use Rattle.ctl_link.specs.Link.{is_busy, handed_over}
 use Rattle.ctl_link.specs.declared.link.Link.TheVariants.{Request, Busy}
 use Rattle.ctl_wire.specs.Wire.{drive}
@@ -35,7 +35,7 @@ use Rattle.wires_heard.proofs.Ticks.{latch, beside, beside_next, edge_at_cell, d
 use Rattle.wires_heard.specs.Hearing.{listed}
 use Rattle.wires_heard.specs.Passing.{ended_at, ended_in}
 
--- the data wire at the eleven falls: the bits behind the start bit, and the keyboard's acknowledge
+-- the data wire at the eleven falls: the bits after the start bit, and the keyboard's acknowledge
 abbrev acknowledged : ℕ → ℕ → Bool
 acknowledged byte k = if nat_lt k 10 then frame_bit byte (k + 1) else false
 
@@ -184,7 +184,7 @@ module _ (events : List HostEvent) (x : ℕ) (start : Beside) (old v : ℕ) (was
         let z : (o - 609) + 609 ≡ o = omega (arith, l) in
         ap (λ k. lets (B k)) (sym z) ∙ ap (λ l. (drive l).clk) (waits_on (o - 609)).free
 
-    -- the levels of the latch behind a fall
+    -- the levels of the latch after a fall
     level_in : (k : ℕ) → k ≤ 10 → (latch_of (L (289 + 32 * k))).dat ≡ (if nat_lt k 10 then true else nat_le 16 1)
     level_in k few =
         let z : 289 + 32 * k ≡ 260 + (28 + 32 * k + 1) = omega arith in

@@ -54,7 +54,7 @@ module _ (s : Story) (time : KeepsTimeFrom (joint_start_of s.held) s.bytes s.edg
   d = joint_board s.edges s.events
 
   -- a tick start, up to which the law holds, and long before which the latch leaves the clock alone
-  pub record Stands (n : ℕ) : Type 0 where
+  pub record HoldsAfter (n : ℕ) : Type 0 where
     pub steps : ℕ
     pub many : n ≤ steps
     pub w : World Beside
@@ -64,7 +64,7 @@ module _ (s : Story) (time : KeepsTimeFrom (joint_start_of s.held) s.bytes s.edg
     pub high : (j : ℕ) (u : World Beside) → j ≤ steps → state_at s j ≡ Some u → w.cycle < u.cycle + 330 → bit 0 u.cpu.p2 ≡ true
     pub law : (k : ℕ) → k < steps → transfer_at s k ≡ passed_at s k
 
-  start_of : (n : ℕ) (t : Stands n) → IsStart d TICK s.bytes (joint_start_of s.held) n (t.w.cycle - 4096)
+  start_of : (n : ℕ) (t : HoldsAfter n) → IsStart d TICK s.bytes (joint_start_of s.held) n (t.w.cycle - 4096)
   start_of n t =
       let early : 4096 ≤ t.w.cycle = time.none_early t.steps t.w t.at t.starts in
       record { steps = t.steps; state = t.w; reached = t.at; at = t.starts; number = t.number; cycle = omega (arith, early) }
@@ -112,7 +112,7 @@ module _ (s : Story) (time : KeepsTimeFrom (joint_start_of s.held) s.bytes s.edg
 
   module _ {S : Type 0} (kb : Rattle.link_model.specs.Machine.KeyboardMachine S)
       (wires : DrivesWires (joint_start_of s.held) s.bytes kb s.edges s.events) where
-    first : Stands 0
+    first : HoldsAfter 0
     first =
         let r = wires.first in
         let k1 : ℕ = 0 + r.steps in
@@ -137,7 +137,7 @@ module _ (s : Story) (time : KeepsTimeFrom (joint_start_of s.held) s.bytes s.edg
               (omega arith) l u.1;
         }
 
-    next : (n : ℕ) → Stands n → Stands (suc n)
+    next : (n : ℕ) → HoldsAfter n → HoldsAfter (suc n)
     unfolding start_of
     next n t0 =
         let w : World Beside = t0.w in
@@ -145,7 +145,7 @@ module _ (s : Story) (time : KeepsTimeFrom (joint_start_of s.held) s.bytes s.edg
         let x : ℕ = w.cycle in
         let f = wires.frames n (x - 4096) (start_of n t0) in
         let was = released w.cpu.p2 f.before in
-        let is = released f.lit f.behind in
+        let is = released f.lit f.afterwards in
         let fits : Fits w.cpu.p2 f.lit was is f.frame =
         fits_of w.cpu.p2 f.lit was is (kb.offer (whole_at kb s.edges s.events wires.starts n).keys)
         (meeting_from kb s.events x (whole_at kb s.edges s.events wires.starts n)) f.frame f.of_meeting in
@@ -201,13 +201,13 @@ module _ (s : Story) (time : KeepsTimeFrom (joint_start_of s.held) s.bytes s.edg
         before_or_in k f g l true e = f (grind (arith, nat_tests, e))
         before_or_in k f g l false e = g (grind (arith, nat_tests, e)) l
 
-    stands : (n : ℕ) → Stands n
-    stands zero = first
-    stands (suc n) = next n (stands n)
+    holds_so : (n : ℕ) → HoldsAfter n
+    holds_so zero = first
+    holds_so (suc n) = next n (holds_so n)
 
     pub each : (k : ℕ) → transfer_at s k ≡ passed_at s k
     each k =
-        let t = stands (suc k) in
+        let t = holds_so (suc k) in
         let many : suc k ≤ t.steps = t.many in
         t.law k (omega (arith, many))
 

@@ -6,15 +6,15 @@ use Rattle.std.proofs.lemmas.Bool.Decides.{nat_tests}
 use Rattle.std.specs.Prelude.{take, drop}
 use Rattle.std.specs.declared.option.Option.{Option}
 use Rattle.bits.proofs.Every.{at_each, every_below}
-use Rattle.board_lines.specs.Bits.{value}
-use Rattle.board_lines.specs.Frame.{byte_of}
-use Rattle.board_lines.specs.declared.event.HostEvent.{HostEvent}
-use Rattle.board_lines.specs.declared.lines.Lines.{Lines}
+use Rattle.board_terms.specs.Bits.{value}
+use Rattle.board_terms.specs.Frame.{byte_of}
+use Rattle.board_terms.specs.declared.event.HostEvent.{HostEvent}
+use Rattle.board_terms.specs.declared.lines.Lines.{Lines}
 use Rattle.ctl_link.specs.Link.{is_busy, received}
 use Rattle.ctl_link.specs.Pulls.{pulled}
 use Rattle.ctl_link.specs.declared.link.Link.{Link}
 use Rattle.ctl_link.specs.declared.link.Link.TheVariants.{Free, Hold, Ask, Request, Busy}
-use Rattle.ctl_link.specs.declared.port.Port.{Port}
+use Rattle.ctl_link.specs.declared.port.LinkEnd.{LinkEnd}
 use Rattle.ctl_wire.proofs.Pulls.{pulled_is_low}
 use Rattle.ctl_wire.specs.Wire.{drive, edge_at, is_breakable, turned}
 use Rattle.ctl_wire.specs.declared.wire.Wire.{Wire}
@@ -30,8 +30,8 @@ use Rattle.joint_run.specs.Joint.{Beside, latch_of}
 use Rattle.pc_wires.specs.Wires.{Pc, board_cycle, wires}
 use Rattle.wires_agree.proofs.Frames.{cell}
 use Rattle.wires_agree.proofs.Spans.{IsAt, On, and-true}
-use Rattle.wires_agree.proofs.Ways.{IsWay, sent_way, behind_first}
-use Rattle.wires_agree.proofs.CellByCell.{IsThrough, stands, cycles_more}
+use Rattle.wires_agree.proofs.Ways.{IsWay, sent_way, afterwards_first}
+use Rattle.wires_agree.proofs.CellByCell.{IsThrough, holds_so, cycles_more}
 use Rattle.wires_agree.specs.Cells.{IsFrame, bits_to}
 use Rattle.wires_agree.specs.Cycles.{board_cycles}
 use Rattle.wires_agree.specs.InFrame.{at_edge as edge_of}
@@ -123,8 +123,8 @@ module _ (events : List HostEvent) (x : ℕ) (start : Beside) (old v : ℕ) (was
     abbrev w : ℕ → Wire
     w k = Recv b.side.port.flip (bits_to bits (suc k))
 
-    abbrev q : Port Wire
-    q = behind_first (bits 0) b.side.port
+    abbrev q : LinkEnd Wire
+    q = afterwards_first (bits 0) b.side.port
 
     way : IsWay b.side.port q Free w true bits
     way = sent_way bits b.side.port
@@ -138,7 +138,7 @@ module _ (events : List HostEvent) (x : ℕ) (start : Beside) (old v : ℕ) (was
     -- each cell passes, since the controller leaves the clock alone at its look
     through : (k : ℕ) → k < 10 → IsThrough events drives now bits is_frame b q Free w true at (sent_way bits b.side.port) k
     through k below =
-        elim (stands events drives now bits is_frame b q Free w true at (sent_way bits b.side.port) k below) [
+        elim (holds_so events drives now bits is_frame b q Free w true at (sent_way bits b.side.port) k below) [
           | inl passes ↦ passes
           | inr broken ↦
               let j : ℕ = broken.0 in

@@ -22,14 +22,14 @@ use Rattle.wires_heard.specs.Hearing.{heard_to, sample_in}
 
 -- a fall that another follows within 62 cycles is one by the latch
 module _ (s : Story) (k c : ℕ) (i : IsFall s k c) (j : ℕ) (one next : World Beside) (f : Falls s j one next)
-    (behind : c < next.cycle) (soon : next.cycle ≤ c + 62) where
+    (afterwards : c < next.cycle) (soon : next.cycle ≤ c + 62) where
   pub by_latch : (latch_of i.next.cpu.p2).clk ≡ false
   by_latch = by (latch_of i.next.cpu.p2).clk refl
     where
       by : (b : Bool) → (latch_of i.next.cpu.p2).clk ≡ b → (latch_of i.next.cpu.p2).clk ≡ false
       by true e =
           let at : i.next.cycle ≡ c = i.cycle in
-          absurd (no_fall s i.step j i.one i.next one next i.falls e f (omega (arith, at, behind)) (omega (arith, at, soon)))
+          absurd (no_fall s i.step j i.one i.next one next i.falls e f (omega (arith, at, afterwards)) (omega (arith, at, soon)))
       by false e = e
 
 module _ (s : Story) (k0 k1 x : ℕ) (start : Beside) (old v : ℕ) (was : IsReleased old) (is : IsReleased v)
@@ -139,13 +139,13 @@ module _ (s : Story) (k0 k1 x : ℕ) (start : Beside) (old v : ℕ) (was : IsRel
           where
             by : c ≤ 2 → 1 ≤ c → (o + c ≡ 609 → ⊥) → (o ≡ 609 → ⊥) → (o ≡ 608 → ⊥) → (p : Bool) → nat_lt o 608 ≡ p
                 → (q : Bool) → (o == 608) ≡ q → ⊥
-            by most least behind here last true e q d =
+            by most least afterwards here last true e q d =
                 let m : o < 608 = grind (arith, nat_tests, e) in
-                behind (omega (arith, m, l, most))
-            by most least behind here last false e true d = last (grind (arith, nat_tests, d))
-            by most least behind here last false e false d = here (grind (arith, nat_tests, e, d, u, least))
+                afterwards (omega (arith, m, l, most))
+            by most least afterwards here last false e true d = last (grind (arith, nat_tests, d))
+            by most least afterwards here last false e false d = here (grind (arith, nat_tests, e, d, u, least))
 
-        -- behind the frame the controller pulls the clock all along, or leaves it alone
+        -- after the frame the controller pulls the clock all along, or leaves it alone
         at_end : n ≡ 11 → 641 ≤ o + c → o + c ≤ 642 → ⊥
         at_end all l u =
             let most : c ≤ 2 = g.step.most in

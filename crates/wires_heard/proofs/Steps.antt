@@ -1,15 +1,15 @@
--- A step of the joint run: its cycles, and what it makes of what stands beside the processor.
+-- A step of the joint run: its cycles, and what it makes of what is beside the processor.
 use Rattle.std.proofs.Common.{◌≡◌, ◌≤◌, ◌⊎◌, ℕ, ◌+◌, List, Some, None}
 use Rattle.std.proofs.Common.{refl, subst}
 use Rattle.std.specs.declared.option.Option.{Option}
-use Rattle.board_lines.specs.declared.event.Edge.{Edge}
-use Rattle.board_lines.specs.declared.event.HostEvent.{HostEvent}
+use Rattle.board_terms.specs.declared.event.Edge.{Edge}
+use Rattle.board_terms.specs.declared.event.HostEvent.{HostEvent}
 use Rattle.joint_run.specs.Joint.{Beside, joint_board, joint_cycle}
 use Rattle.joint_run.specs.Run.{World, after_cycles, after_step, joint_step, seen}
 use Rattle.mcs48_core.specs.Step.{Stepped, stepped}
 use Rattle.wires_heard.proofs.Port2.{stepped_timed}
 
--- one step: its cycles, in each of which the latch of port 2 is that behind it; two where the latch has changed
+-- one step: its cycles, in each of which the latch of port 2 is that after it; two where the latch has changed
 pub record StepOf (events : List HostEvent) (one next : World Beside) : Type 0 where
   pub count : ℕ
   pub least : 1 ≤ count

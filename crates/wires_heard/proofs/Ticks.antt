@@ -5,8 +5,8 @@ use Rattle.std.proofs.Common.{if◌then◌else◌, ◌==◌, refl, ap, sym, ◌�
 use Rattle.std.specs.Prelude.{take, drop}
 use Rattle.bits.proofs.Every.{same_of}
 use Rattle.bits.specs.Bits.{bit}
-use Rattle.board_lines.specs.Bits.{value}
-use Rattle.board_lines.specs.declared.event.HostEvent.{HostEvent}
+use Rattle.board_terms.specs.Bits.{value}
+use Rattle.board_terms.specs.declared.event.HostEvent.{HostEvent}
 use Rattle.ctl_link.specs.Link.{is_busy}
 use Rattle.ctl_link.specs.declared.link.Link.{Link}
 use Rattle.ctl_link.specs.declared.link.Link.TheVariants.{Free, Hold, Ask, Request, Busy}
@@ -31,7 +31,7 @@ module _ (events : List HostEvent) (x : ℕ) (start : Beside) (old v : ℕ) (was
   abbrev pub latch : ℕ → ℕ
   latch o = tick_latch old v frame o
 
-  -- what stands beside the processor after so many cycles of the tick
+  -- what is beside the processor after so many cycles of the tick
   abbrev pub beside : ℕ → Beside
   beside n = after_cycles n 0 (λ o. joint_cycle events (latch o) (x + o)) start
 

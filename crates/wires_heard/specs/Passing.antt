@@ -2,9 +2,9 @@
 use Rattle.std.specs.Prelude.{ℕ, zero, suc, ◌+◌, ◌-◌, ◌==◌, Bool, true, false, not, ◌&&◌, List, [], ◌∷◌, ◌++◌}
 use Rattle.std.specs.Prelude.{length, take, drop, Some, None, if◌then◌else◌}
 use Rattle.std.specs.declared.option.Option.{Option}
-use Rattle.board_lines.specs.Bits.{value}
-use Rattle.board_lines.specs.declared.event.HostEvent.{HostEvent}
-use Rattle.board_lines.specs.declared.lines.Lines.{Lines}
+use Rattle.board_terms.specs.Bits.{value}
+use Rattle.board_terms.specs.declared.event.HostEvent.{HostEvent}
+use Rattle.board_terms.specs.declared.lines.Lines.{Lines}
 use Rattle.ctl_link.specs.declared.link.Link.{Link}
 use Rattle.ctl_link.specs.declared.link.Link.TheVariants.{Free, Hold, Ask, Request, Busy}
 use Rattle.ctl_wire.specs.declared.wire.Wire.{Wire}
@@ -32,7 +32,7 @@ ended_at dat (Ask byte since) = []
 ended_at dat (Request byte) = []
 ended_at dat (Busy wire) = ended_by dat wire
 
--- the byte that a look of the controller ends, by what the keyboard drives: the clock falls where it was high at the
+-- the byte that a look of the controller ends, by what the keyboard drives: the clock falls if it was high at the
 -- last look, and is low at this one
 abbrev pub ended_in : Lines → Pc → List Transfer
 ended_in latch b =

@@ -21,7 +21,7 @@ pub fn wires_are_heard()
 
 /// A probe that listens to the wires counts exactly the steps in which the controller takes, or sends, its byte: in the
 /// same runs, one that has listened from power-on, and is armed there or later for a direction and a byte, meets these
-/// steps and no others, in their order. So the number and the first step that it tells are of these. Nothing is done when
+/// steps and no others, in their order. So the number and the first step that it reports are of these. Nothing is done when
 /// it is called; the law is its contract.
 pub fn wire_probes_count()
     ensures counted { ProbeLaw }

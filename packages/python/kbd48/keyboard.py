@@ -87,16 +87,16 @@ class Error(Exception):
 
 
 class TextFault(Error):
-    """A layout or a HEX text with a fault: `place` is the entry or the line, counted from 1 (0 is the layout as a whole),
+    """A layout or a HEX text with a fault: `position` is the entry or the line, counted from 1 (0 is the layout as a whole),
     and `number` the rule that it breaks (docs/FORMATS.md)."""
 
-    def __init__(self, place: int, number: int):
-        super().__init__(Status.BAD_TEXT, f"the text has fault {number} at entry or line {place}")
-        self.place, self.number = place, number
+    def __init__(self, position: int, number: int):
+        super().__init__(Status.BAD_TEXT, f"the text has fault {number} at entry or line {position}")
+        self.position, self.number = position, number
 
 
 class Stuck(Error):
-    """The keyboard's processor is at a byte that begins no instruction: `counter` is its place, `byte` the byte."""
+    """The keyboard's processor is at a byte that begins no instruction: `counter` is its program counter, `byte` the byte there."""
 
     def __init__(self, counter: int, byte: int, cycles: int):
         super().__init__(Status.STUCK, f"the keyboard's processor is stuck at {counter:03X}, at the byte {byte:02X}")
@@ -119,12 +119,12 @@ class KeysRan(NamedTuple):
 
 
 class Stop(IntFlag):
-    """What a run may stop for: a rise of the interrupt line, something said, a wire that changed, a place of the program."""
+    """What a run may stop for: a rise of the interrupt line, something said, a wire that changed, a value of the program counter."""
 
     RISE = 1
     ITEM = 2
     WIRES = 4
-    PLACE = 8
+    COUNTER = 8
 
 
 class Stopped(NamedTuple):
@@ -255,7 +255,7 @@ class Keyboard:
         keyboard, fault = cls(), library.Fault()
         status = Status(call(data, len(data), keyboard._handle, fault))
         if status == Status.BAD_TEXT:
-            raise TextFault(fault.place, fault.number)
+            raise TextFault(fault.position, fault.number)
         _need(status)
         return keyboard
 
@@ -290,10 +290,10 @@ class Keyboard:
 
     def run(self, cycles: int, watched: bool = False) -> Ran:
         """Makes steps until so many cycles have passed, or one more; if watched, until the interrupt line rises."""
-        passed, place = c.c_uint64(), library.Place()
-        status = self._call("run", _unsigned(cycles, 64, "a number of cycles"), watched, passed, place)
+        passed, spot = c.c_uint64(), library.Spot()
+        status = self._call("run", _unsigned(cycles, 64, "a number of cycles"), watched, passed, spot)
         if status == Status.STUCK:
-            raise Stuck(place.counter, place.byte, passed.value)
+            raise Stuck(spot.counter, spot.byte, passed.value)
         if status != Status.ROSE:
             _need(status)
         return Ran(passed.value, status == Status.ROSE)
@@ -321,24 +321,24 @@ class Keyboard:
         """Runs as `run` does, and hands over each edge of the queue when it is due."""
         made, rises, status = 0, 0, Status.KEY_DUE
         while status == Status.KEY_DUE:
-            passed, place = c.c_uint64(), library.Place()
+            passed, spot = c.c_uint64(), library.Spot()
             left = _unsigned(cycles, 64, "a number of cycles") - made
-            status = self._call("run_keys", self._keys, left, watched, passed, place)
+            status = self._call("run_keys", self._keys, left, watched, passed, spot)
             made, rises = made + passed.value, rises + (self.rises if status != Status.NOT_OPEN else 0)
         if status == Status.STUCK:
-            raise Stuck(place.counter, place.byte, made)
+            raise Stuck(spot.counter, spot.byte, made)
         if status != Status.ROSE:
             _need(status)
         return KeysRan(made, rises, status == Status.ROSE)
 
     def run_to(self, stop: Stop, cycles: int, steps: int = (1 << 64) - 1, at: int = 0) -> Stopped:
         """Makes steps until one comes to what `stop` asks for, or until so many cycles have passed or steps were made. `at`
-        is the place of Stop.PLACE; 7 is where a tick of the firmware begins."""
-        met, passed, place = c.c_uint8(), c.c_uint64(), library.Place()
-        status = self._call("run_to", int(stop), _unsigned(at, 16, "a place"), _unsigned(cycles, 64, "a number of cycles"),
-                            _unsigned(steps, 64, "a number of steps"), met, passed, place)
+        is the counter of Stop.COUNTER; 7 is where a tick of the firmware begins."""
+        met, passed, spot = c.c_uint8(), c.c_uint64(), library.Spot()
+        status = self._call("run_to", int(stop), _unsigned(at, 16, "a counter"), _unsigned(cycles, 64, "a number of cycles"),
+                            _unsigned(steps, 64, "a number of steps"), met, passed, spot)
         if status == Status.STUCK:
-            raise Stuck(place.counter, place.byte, passed.value)
+            raise Stuck(spot.counter, spot.byte, passed.value)
         _need(status)
         return Stopped(passed.value, Stop(met.value))
 

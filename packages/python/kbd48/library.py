@@ -10,10 +10,10 @@ class Handle(c.Structure):
 
 
 class Fault(c.Structure):
-    _fields_ = [("place", c.c_uint32), ("number", c.c_uint32)]
+    _fields_ = [("position", c.c_uint32), ("number", c.c_uint32)]
 
 
-class Place(c.Structure):
+class Spot(c.Structure):
     _fields_ = [("counter", c.c_uint16), ("byte", c.c_uint8)]
 
 
@@ -55,9 +55,9 @@ PARAMETERS = {
     "open_sample": [],
     "copy": [_to(Handle)],
     "key": [c.c_uint8, c.c_bool],
-    "run": [c.c_uint64, c.c_bool, _to(c.c_uint64), _to(Place)],
-    "run_keys": [_to(Keys), c.c_uint64, c.c_bool, _to(c.c_uint64), _to(Place)],
-    "run_to": [c.c_uint8, c.c_uint16, c.c_uint64, c.c_uint64, _to(c.c_uint8), _to(c.c_uint64), _to(Place)],
+    "run": [c.c_uint64, c.c_bool, _to(c.c_uint64), _to(Spot)],
+    "run_keys": [_to(Keys), c.c_uint64, c.c_bool, _to(c.c_uint64), _to(Spot)],
+    "run_to": [c.c_uint8, c.c_uint16, c.c_uint64, c.c_uint64, _to(c.c_uint8), _to(c.c_uint64), _to(Spot)],
     "write": [c.c_uint8, c.c_uint8],
     "read60": [_to(c.c_uint8)],
     "status": [_to(c.c_uint8)],

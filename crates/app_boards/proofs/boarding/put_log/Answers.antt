@@ -3,7 +3,7 @@ use Rattle.std.specs.Prelude.{OnErr, OnOk}
 use Rattle.board_run.specs.Ending.{ending}
 use Rattle.io_edge.specs.Said.{IsBrokenOff, IsSaid}
 use Rattle.app_words.specs.declared.words.BoardCommand.TheVariants.{Log}
-use Rattle.app_boards.proofs.BoardsAreSaid.{cut, over_behind, stuck_behind}
+use Rattle.app_boards.proofs.BoardsAreSaid.{cut, over_after, stuck_after}
 use Rattle.app_answers.proofs.EndStates.{same_state}
 use Rattle.app_boards.proofs.boarding.put_log.Goals as goal
 
@@ -19,7 +19,7 @@ returns g c =
     let x = g.K.Sink.shown c.args.out.now in
     let y = g.K.Sink.shown c.run_to.new.out in
     record {
-      says = stuck_behind (Log c.args.steps) c.args.board _ _ (ending c.args.board c.in-Ok.ended) c.in-Ok.ensures.run c.in-Ok.ensures.looked
+      says = stuck_after (Log c.args.steps) c.args.board _ _ (ending c.args.board c.in-Ok.ended) c.in-Ok.ensures.run c.in-Ok.ensures.looked
           c.in-Stuck.stuck x y (sym c.end.ensures.end ∙ c.in-Stuck.is) c.in-Ok.ensures.said;
     }
 
@@ -32,7 +32,7 @@ returns-in-Over g c =
     let same = same_state c.args.steps c.mcu.result.now run.mcu c.steps.result run.steps c.cycles.result run.cycles
     c.mcu.ensures.processor c.steps.ensures.steps c.cycles.ensures.cycles in
     record {
-      says = over_behind (Log c.args.steps) c.args.board _ _ run c.in-Ok.ensures.run c.in-Ok.ensures.looked c.put_end.result
+      says = over_after (Log c.args.steps) c.args.board _ _ run c.in-Ok.ensures.run c.in-Ok.ensures.looked c.put_end.result
           x y z (sym c.end.ensures.end ∙ c.in-Over.is) c.in-Ok.ensures.said
           (subst (λ t. OnOk c.put_end.result (IsSaid y z t)) same c.put_end.ensures.said)
           (subst (λ t. OnErr c.put_end.result (IsBrokenOff y z t)) same c.put_end.ensures.broken);

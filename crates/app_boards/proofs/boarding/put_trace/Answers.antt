@@ -2,7 +2,7 @@ use Rattle.std.proofs.Common.{Ok, sym, ◌∙◌}
 use Rattle.board_run.specs.Ending.{ending}
 use Rattle.io_edge.proofs.Pieces.{none_said}
 use Rattle.app_words.specs.declared.words.BoardCommand.TheVariants.{Trace}
-use Rattle.app_boards.proofs.BoardsAreSaid.{cut, over_behind, stuck_behind}
+use Rattle.app_boards.proofs.BoardsAreSaid.{cut, over_after, stuck_after}
 use Rattle.app_boards.proofs.boarding.put_trace.Goals as goal
 
 pub returns-in-Err : goal.returns-in-Err
@@ -17,7 +17,7 @@ returns g c =
     let x = g.K.Sink.shown c.args.out.now in
     let y = g.K.Sink.shown c.trace_to.new.out in
     record {
-      says = stuck_behind Trace c.args.board _ _ (ending c.args.board c.in-Ok.ended) c.in-Ok.ensures.run c.in-Ok.ensures.looked
+      says = stuck_after Trace c.args.board _ _ (ending c.args.board c.in-Ok.ended) c.in-Ok.ensures.run c.in-Ok.ensures.looked
           c.in-Stuck.stuck x y (sym c.end.ensures.end ∙ c.in-Stuck.is) c.in-Ok.ensures.said;
     }
 
@@ -27,6 +27,6 @@ returns-in-Over g c =
     let y = g.K.Sink.shown c.trace_to.new.out in
     let run = ending c.args.board c.in-Ok.ended in
     record {
-      says = over_behind Trace c.args.board _ _ run c.in-Ok.ensures.run c.in-Ok.ensures.looked (Ok tt)
+      says = over_after Trace c.args.board _ _ run c.in-Ok.ensures.run c.in-Ok.ensures.looked (Ok tt)
           x y y (sym c.end.ensures.end ∙ c.in-Over.is) c.in-Ok.ensures.said (none_said y) tt;
     }

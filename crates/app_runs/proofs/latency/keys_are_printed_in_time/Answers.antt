@@ -1,4 +1,4 @@
-use Rattle.app_runs.proofs.LinesStandInText.{printed}
+use Rattle.app_runs.proofs.LinesAreInText.{printed}
 use Rattle.app_runs.proofs.latency.keys_are_printed_in_time.Goals as goal
 
 pub returns : goal.returns

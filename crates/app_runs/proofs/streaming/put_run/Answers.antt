@@ -4,8 +4,8 @@ use Rattle.io_edge.specs.Said.{IsBrokenOff, IsSaid}
 use Rattle.subsystem.specs.Ending.{ending}
 use Rattle.io_edge.proofs.Taken.{on_err}
 use Rattle.app_runs.specs.RunTexts.{start_lines}
-use Rattle.app_runs.proofs.StartsAreLines.{cut_in_end, cut_in_log, cut_in_starts, end_behind_log}
-use Rattle.app_runs.proofs.StartsAreLines.{err_on, ok_on, starts_behind_log, whole_run}
+use Rattle.app_runs.proofs.StartsAreLines.{cut_in_end, cut_in_log, cut_in_starts, end_after_log}
+use Rattle.app_runs.proofs.StartsAreLines.{err_on, ok_on, starts_after_log, whole_run}
 use Rattle.app_answers.proofs.EndStates.{same_state}
 use Rattle.app_runs.proofs.streaming.put_run.Goals as goal
 
@@ -29,7 +29,7 @@ returns-in_err-put_ticks-clause-broken g c =
       run,
       c.in_ok-ended.ensures.run,
       cut_in_starts c.args.ticks c.args.steps run x a z c.in_ok-ended.ensures.said broken,
-      inr (starts_behind_log c.args.ticks c.args.steps run x a z c.in_ok-ended.ensures.said broken, c.in_ok-ended.ensures.looked),
+      inr (starts_after_log c.args.ticks c.args.steps run x a z c.in_ok-ended.ensures.said broken, c.in_ok-ended.ensures.looked),
     )
 
 pub returns-clause-said : goal.returns-clause-said
@@ -68,6 +68,6 @@ returns-clause-broken g c =
       run,
       c.in_ok-ended.ensures.run,
       cut_in_end c.args.ticks c.args.steps run x a b z c.in_ok-ended.ensures.said ticks broken,
-      inr (end_behind_log c.args.ticks c.args.steps run x a b z c.in_ok-ended.ensures.said ticks broken, c.in_ok-ended.ensures.looked),
+      inr (end_after_log c.args.ticks c.args.steps run x a b z c.in_ok-ended.ensures.said ticks broken, c.in_ok-ended.ensures.looked),
     ))
     c.put_end.ensures.broken

@@ -1,13 +1,13 @@
 use Rattle.app_words.specs.declared.words.RunCommand.TheVariants.{Log}
 use Rattle.key_file.specs.KeyFile.{history_of}
 use Rattle.app_answers.proofs.AreSpoken.{keys_refused}
-use Rattle.app_runs.specs.Telling.{MayTellRun}
+use Rattle.app_runs.specs.RunOfText.{MaySayOfRun}
 use Rattle.app_runs.proofs.RunsAreSaid.{streamed}
 use Rattle.app_runs.proofs.streaming.stream.Goals as goal
 
 pub returns-in_err-feed-clause-says : goal.returns-in_err-feed-clause-says
 returns-in_err-feed-clause-says g c =
-    keys_refused (MayTellRun (Log c.args.ticks c.args.steps) c.args.layout.now _) (history_of c.args.layout.now c.args.text.now) _ _ c.from_residual.result
+    keys_refused (MaySayOfRun (Log c.args.ticks c.args.steps) c.args.layout.now _) (history_of c.args.layout.now c.args.text.now) _ _ c.from_residual.result
     (g.K.Sink.shown c.args.out.now)
     c.in_err-feed.ensures.history c.from_residual.ensures.1
 

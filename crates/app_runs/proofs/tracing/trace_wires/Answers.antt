@@ -2,13 +2,13 @@ use Rattle.io_edge.specs.declared.sink.SinkFault.TheVariants.{Failed}
 use Rattle.app_words.specs.declared.words.RunCommand.TheVariants.{Trace}
 use Rattle.key_file.specs.KeyFile.{history_of}
 use Rattle.app_answers.proofs.AreSpoken.{keys_refused}
-use Rattle.app_runs.specs.Telling.{MayTellRun}
+use Rattle.app_runs.specs.RunOfText.{MaySayOfRun}
 use Rattle.app_runs.proofs.RunsAreSaid.{trace_stopped, traced}
 use Rattle.app_runs.proofs.tracing.trace_wires.Goals as goal
 
 pub returns-in_err-feed-clause-says : goal.returns-in_err-feed-clause-says
 returns-in_err-feed-clause-says g c = λ probes.
-    keys_refused (MayTellRun Trace c.args.layout.now probes) (history_of c.args.layout.now c.args.text.now) _ probes c.from_residual.result
+    keys_refused (MaySayOfRun Trace c.args.layout.now probes) (history_of c.args.layout.now c.args.text.now) _ probes c.from_residual.result
     (g.K.Sink.shown c.args.out.now)
     c.in_err-feed.ensures.history c.from_residual.ensures.1
 

@@ -6,14 +6,14 @@ use Rattle.fw_logic.proofs.AtTick.{at_tick_is, at_tick_row}
 use Rattle.fw_logic.proofs.at_start.at_tick.Goals as goal
 
 -- the processor's own test
-abbrev stands : Cpu → Bool
-stands m = m.pc % 2048 == TICK && not (takes_timer m)
+abbrev holds_so : Cpu → Bool
+holds_so m = m.pc % 2048 == TICK && not (takes_timer m)
 
-pub returns-clause-tells : goal.returns-clause-tells
-returns-clause-tells c edges events w same =
-    c.stands_at_tick.ensures ∙ ap stands (c.mcu.ensures.processor ∙ sym same) ∙ sym (at_tick_is edges events w)
+pub returns-clause-decides : goal.returns-clause-decides
+returns-clause-decides c edges events w same =
+    c.is_at_tick_start.ensures ∙ ap holds_so (c.mcu.ensures.processor ∙ sym same) ∙ sym (at_tick_is edges events w)
 
 pub returns-clause-executes : goal.returns-clause-executes
 returns-clause-executes c bytes has edges events w same said =
     at_tick_row bytes has edges events w
-    (at_tick_is edges events w ∙ ap stands (same ∙ sym c.mcu.ensures.processor) ∙ sym c.stands_at_tick.ensures ∙ said)
+    (at_tick_is edges events w ∙ ap holds_so (same ∙ sym c.mcu.ensures.processor) ∙ sym c.is_at_tick_start.ensures ∙ said)

@@ -8,7 +8,7 @@ loop-done-init g c = record {
   within = grind (arith);
   steady = grind (arith);
   taken = takes_none _ _;
-  offering = offering_first (g.K.Sink.shown c.args.out.now).told c.args.piece.now;
+  offering = offering_first (g.K.Sink.shown c.args.out.now).in_memory c.args.piece.now;
 }
 
 pub loop-done-preserved : goal.loop-done-preserved

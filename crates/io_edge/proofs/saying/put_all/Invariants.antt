@@ -8,7 +8,7 @@ invariant-loop-done g l = record {
   within : l.done ≤ length l.piece;
   steady : (g.K.Sink.shown l.out).faults ≡ (g.K.Sink.shown l.initial.out).faults;
   taken : Takes (g.K.Sink.shown l.initial.out).taken (g.K.Sink.shown l.out).taken l.piece l.done;
-  offering : Offering (g.K.Sink.shown l.initial.out).told (g.K.Sink.shown l.out).told l.piece l.done;
+  offering : Offering (g.K.Sink.shown l.initial.out).in_memory (g.K.Sink.shown l.out).in_memory l.piece l.done;
 }
 
 abbrev pub decreases-loop-done : goal.decreases-loop-done

@@ -11,7 +11,7 @@ loop-start-init g c = record {
   within = grind (arith);
   steady = grind (arith);
   taken = takes_none _ _;
-  saying = saying_first (g.K.Sink.shown c.args.out.now).told c.args.text.now;
+  saying = saying_first (g.K.Sink.shown c.args.out.now).in_memory c.args.text.now;
 }
 
 pub loop-start-preserved : goal.loop-start-preserved

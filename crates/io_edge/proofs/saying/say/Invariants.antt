@@ -8,7 +8,7 @@ invariant-loop-start g l = record {
   within : l.start ≤ length l.text;
   steady : (g.K.Sink.shown l.out).faults ≡ (g.K.Sink.shown l.initial.out).faults;
   taken : Takes (g.K.Sink.shown l.initial.out).taken (g.K.Sink.shown l.out).taken l.text l.start;
-  saying : Saying (g.K.Sink.shown l.initial.out).told (g.K.Sink.shown l.out).told l.text l.start;
+  saying : Saying (g.K.Sink.shown l.initial.out).in_memory (g.K.Sink.shown l.out).in_memory l.text l.start;
 }
 
 abbrev pub decreases-loop-start : goal.decreases-loop-start

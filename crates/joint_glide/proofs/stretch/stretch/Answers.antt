@@ -1,7 +1,7 @@
 use Rattle.std.proofs.Common.{◌≡◌, ◌≤◌, ◌+◌, ◌*◌, ◌%◌, ◌==◌, false, ap, sym, ◌∙◌, arith}
 use Rattle.mcs48_core.specs.Leap.{spun}
 use Rattle.joint_run.specs.declared.machine.Machine.{Machine}
-use Rattle.joint_glide.proofs.Turns.{parts_leapt, parts_on, turn_leapt, turn_on, turn_stuck, turn_told, turn_written}
+use Rattle.joint_glide.proofs.Turns.{parts_leapt, parts_on, turn_leapt, turn_on, turn_stuck, turn_reported, turn_written}
 use Rattle.joint_glide.proofs.stretch.stretch.Goals as goal
 
 pub returns-in-Err : goal.returns-in-Err
@@ -9,7 +9,7 @@ returns-in-Err c =
     let inv = c.steps.invariant in
     record {
       stretched =
-          turn_stuck c.args.due.now c.args.tick c.args.joint.now c.steps.joint c.args.room c.steps.steps c.steps.passed
+          turn_stuck c.args.due.now c.args.tick_pc c.args.joint.now c.steps.joint c.args.room c.steps.steps c.steps.passed
           c.requires.still inv.parts inv.latch inv.quiet c.steps-test.true
           c.call.new.joint c.count.new.self c.call.ensures.parts c.in-Err.stuck c.in-Err.ensures.step c.count.ensures.counted;
     }
@@ -19,7 +19,7 @@ returns-then-port_2-latch c =
     let inv = c.steps.invariant in
     record {
       stretched =
-          turn_written c.args.due.now c.args.tick c.args.joint.now c.steps.joint c.args.room c.steps.steps c.steps.passed
+          turn_written c.args.due.now c.args.tick_pc c.args.joint.now c.steps.joint c.args.room c.steps.steps c.steps.passed
           c.requires.still inv.parts inv.latch inv.quiet c.steps-test.true
           c.call.new.joint c.count-then-port_2-latch.new.self c.call.ensures.parts c.in-Ok.cycles
           c.in-Ok.ensures.some c.in-Ok.ensures.few c.in-Ok.ensures.step
@@ -34,11 +34,11 @@ returns-then-is_at c =
     sym c.port_2.ensures ∙ c.if-port_2-latch.false ∙ c.port_2-latch.ensures ∙ sym inv.latch in
     record {
       stretched =
-          turn_told c.args.due.now c.args.tick c.args.joint.now c.steps.joint c.args.room c.steps.steps c.steps.passed
+          turn_reported c.args.due.now c.args.tick_pc c.args.joint.now c.steps.joint c.args.room c.steps.steps c.steps.passed
           c.requires.still inv.parts inv.latch inv.quiet c.steps-test.true
           c.call.new.joint c.count-then-is_at.new.self c.call.ensures.parts c.in-Ok.cycles c.in-Ok.ensures.some
           c.in-Ok.ensures.few c.in-Ok.ensures.step kept
-          c.lines-line.result c.tell.new.seen c.lines-line.ensures.wires c.count-then-is_at.ensures.counted c.tell.ensures;
+          c.lines-line.result c.report.new.seen c.lines-line.ensures.wires c.count-then-is_at.ensures.counted c.report.ensures;
     }
 
 pub steps-preserved : goal.steps-preserved
@@ -46,10 +46,10 @@ steps-preserved c =
     let inv = c.steps.invariant in
     let kept : c.call.new.joint.mcu.p2 ≡ c.steps.joint.mcu.p2 =
     sym c.port_2.ensures ∙ c.if-port_2-latch.false ∙ c.port_2-latch.ensures ∙ sym inv.latch in
-    let off : (c.call.new.joint.mcu.pc % 2048 == c.args.tick) ≡ false = sym c.is_at.ensures ∙ c.if-is_at.false in
+    let off : (c.call.new.joint.mcu.pc % 2048 == c.args.tick_pc) ≡ false = sym c.is_at.ensures ∙ c.if-is_at.false in
     record {
       quiet =
-          turn_on c.args.due.now c.args.tick c.args.joint.now c.steps.joint c.args.room c.steps.steps c.steps.passed
+          turn_on c.args.due.now c.args.tick_pc c.args.joint.now c.steps.joint c.args.room c.steps.steps c.steps.passed
           c.requires.still inv.parts inv.latch inv.quiet c.steps-test.true
           c.call.new.joint c.call.new.joint c.call.ensures.parts c.in-Ok.cycles c.in-Ok.ensures.some
           c.in-Ok.ensures.few c.in-Ok.ensures.step kept off;
@@ -64,13 +64,13 @@ steps-preserved-then-counter-place c =
     let inv = c.steps.invariant in
     let kept : c.call.new.joint.mcu.p2 ≡ c.steps.joint.mcu.p2 =
     sym c.port_2.ensures ∙ c.if-port_2-latch.false ∙ c.port_2-latch.ensures ∙ sym inv.latch in
-    let off : (c.call.new.joint.mcu.pc % 2048 == c.args.tick) ≡ false = sym c.is_at.ensures ∙ c.if-is_at.false in
+    let off : (c.call.new.joint.mcu.pc % 2048 == c.args.tick_pc) ≡ false = sym c.is_at.ensures ∙ c.if-is_at.false in
     let e = c.leap-jumps.ensures in
     let low : c.steps.passed + c.in-Ok.cycles + 2 * c.leap-jumps.result ≤ c.args.room =
     let test = c.steps-test.true in let few = c.in-Ok.ensures.few in let most = e.few in omega (arith, test, few, most) in
     record {
       quiet =
-          turn_leapt c.args.due.now c.args.tick c.args.joint.now c.steps.joint c.args.room c.steps.steps c.steps.passed
+          turn_leapt c.args.due.now c.args.tick_pc c.args.joint.now c.steps.joint c.args.room c.steps.steps c.steps.passed
           c.requires.still inv.parts inv.latch inv.quiet c.steps-test.true
           c.call.new.joint c.call.new.joint c.call.ensures.parts c.in-Ok.cycles c.in-Ok.ensures.some
           c.in-Ok.ensures.few c.in-Ok.ensures.step kept

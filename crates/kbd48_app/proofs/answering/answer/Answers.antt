@@ -5,7 +5,7 @@ use Rattle.kbd48_app.proofs.answering.answer.Goals as goal
 
 pub returns-in-Some-OverFile-clause-ends : goal.returns-in-Some-OverFile-clause-ends
 returns-in-Some-OverFile-clause-ends g c =
-    file_spoken c.args.words.now (g.F.Shelf.told c.args.shelf.now) _ c.in-Some-OverFile.command c.index-words-1.result
+    file_spoken c.args.words.now (g.F.Shelf.in_memory c.args.shelf.now) _ c.in-Some-OverFile.command c.index-words-1.result
     _ _ c.over_file.result c.to_say-in-Some-OverFile.result
     (g.K.Sink.shown c.args.out.now)
     (sym c.read_command.ensures.command ∙ (c.in-Some-OverFile.is ∙ ap (λ f. Some f) c.in-Some-OverFile.field-0-is))
@@ -14,7 +14,7 @@ returns-in-Some-OverFile-clause-ends g c =
 
 pub returns-in-Some-OverPair-clause-ends : goal.returns-in-Some-OverPair-clause-ends
 returns-in-Some-OverPair-clause-ends g c =
-    pair_spoken c.args.words.now (g.F.Shelf.told c.args.shelf.now) _ c.in-Some-OverPair.command
+    pair_spoken c.args.words.now (g.F.Shelf.in_memory c.args.shelf.now) _ c.in-Some-OverPair.command
     c.index-words-1-in-Some-OverPair.result c.index-words-2.result _ _ _ _ c.over_pair.result
     (g.K.Sink.shown c.args.out.now)
     (g.K.Sink.shown c.over_pair.new.out)
@@ -24,7 +24,7 @@ returns-in-Some-OverPair-clause-ends g c =
 
 pub returns-in-Some-Debug-clause-ends : goal.returns-in-Some-Debug-clause-ends
 returns-in-Some-Debug-clause-ends g c =
-    debug_spoken c.args.words.now (g.F.Shelf.told c.args.shelf.now) _ c.index-words-1-in-Some-Debug.result
+    debug_spoken c.args.words.now (g.F.Shelf.in_memory c.args.shelf.now) _ c.index-words-1-in-Some-Debug.result
     c.index-words-2-in-Some-Debug.result c.index-words-3.result _ _ _ _ _ c.over_debug.result c.to_say-in-Some-Debug.result
     (g.K.Sink.shown c.args.out.now)
     (sym c.read_command.ensures.command ∙ (c.in-Some-Debug.is ∙ ap (λ f. Some f) c.in-Some-Debug.field-0-is))
@@ -34,7 +34,7 @@ returns-in-Some-Debug-clause-ends g c =
 
 pub returns-in-Some-Probe-clause-ends : goal.returns-in-Some-Probe-clause-ends
 returns-in-Some-Probe-clause-ends g c =
-    probe_spoken c.args.words.now (g.F.Shelf.told c.args.shelf.now) _ c.in-Some-Probe.fill c.index-words-1-in-Some-Probe.result
+    probe_spoken c.args.words.now (g.F.Shelf.in_memory c.args.shelf.now) _ c.in-Some-Probe.fill c.index-words-1-in-Some-Probe.result
     c.index-words-2-in-Some-Probe.result c.index-words-3-in-Some-Probe.result c.index-words-4.result
     _ _ _ _ _ _ c.over_probe.result c.to_say-in-Some-Probe.result
     (g.K.Sink.shown c.args.out.now)
@@ -45,7 +45,7 @@ returns-in-Some-Probe-clause-ends g c =
 
 pub returns-in-Some-Sample-clause-ends : goal.returns-in-Some-Sample-clause-ends
 returns-in-Some-Sample-clause-ends g c =
-    sample_spoken c.args.words.now (g.F.Shelf.told c.args.shelf.now) c.in-Some-Sample.strokes _ _ _ c.sample.result
+    sample_spoken c.args.words.now (g.F.Shelf.in_memory c.args.shelf.now) c.in-Some-Sample.strokes _ _ _ c.sample.result
     (g.K.Sink.shown c.args.out.now)
     (g.K.Sink.shown c.sample.new.out)
     (sym c.read_command.ensures.command ∙ (c.in-Some-Sample.is ∙ ap (λ f. Some f) c.in-Some-Sample.field-0-is))
@@ -53,7 +53,7 @@ returns-in-Some-Sample-clause-ends g c =
 
 pub returns-in-Some-Board-clause-ends : goal.returns-in-Some-Board-clause-ends
 returns-in-Some-Board-clause-ends g c =
-    board_spoken c.args.words.now (g.F.Shelf.told c.args.shelf.now) _ c.in-Some-Board.wanted c.index-words-1-in-Some-Board.result
+    board_spoken c.args.words.now (g.F.Shelf.in_memory c.args.shelf.now) _ c.in-Some-Board.wanted c.index-words-1-in-Some-Board.result
     c.index-words-2-in-Some-Board.result c.index-words-3-in-Some-Board.result _ _ _ _ _ c.over_board.result
     (g.K.Sink.shown c.args.out.now)
     (g.K.Sink.shown c.over_board.new.out)

@@ -5,7 +5,7 @@ use Rattle.kbd48_app.proofs.answering.over_run.Goals as goal
 
 pub returns-clause-ends : goal.returns-clause-ends
 returns-clause-ends g c =
-    ran_spoken c.args.command c.args.layout.now c.args.keys.now (g.F.Shelf.told c.args.shelf.now)
+    ran_spoken c.args.command c.args.layout.now c.args.keys.now (g.F.Shelf.in_memory c.args.shelf.now)
     _ _ c.in_ok-document.document c.in_ok-text.text c.in_ok-layout.layout _
     c.in_ok-document.ensures.gives c.in_ok-document.ensures.fetched
     (ap layout_of_document (sym c.deref.ensures.value) ∙ c.in_ok-layout.ensures)

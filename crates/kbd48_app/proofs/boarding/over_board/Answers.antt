@@ -6,7 +6,7 @@ use Rattle.kbd48_app.proofs.boarding.over_board.Goals as goal
 
 pub returns-clause-ends : goal.returns-clause-ends
 returns-clause-ends g c =
-    three_spoken c.args.wanted c.args.image.now c.args.layout.now c.args.keys.now (g.F.Shelf.told c.args.shelf.now)
+    three_spoken c.args.wanted c.args.image.now c.args.layout.now c.args.keys.now (g.F.Shelf.in_memory c.args.shelf.now)
     _ _ _ c.in_ok-file.file c.in_ok-document.document c.in_ok-text.text
     c.in_ok-image.image.bytes c.in_ok-layout.layout _
     c.in_ok-file.ensures.gives c.in_ok-file.ensures.fetched (ap hex_of (sym c.deref.ensures.value) ∙ c.in_ok-image.ensures)
@@ -19,7 +19,7 @@ returns-clause-ends g c =
 
 pub returns-in_err-text-clause-ends : goal.returns-in_err-text-clause-ends
 returns-in_err-text-clause-ends g c =
-    keys_unread c.args.wanted c.args.image.now c.args.layout.now c.args.keys.now (g.F.Shelf.told c.args.shelf.now)
+    keys_unread c.args.wanted c.args.image.now c.args.layout.now c.args.keys.now (g.F.Shelf.in_memory c.args.shelf.now)
     _ _ _ c.in_ok-file.file c.in_ok-document.document
     c.in_ok-image.image.bytes c.in_ok-layout.layout
     c.in_ok-file.ensures.gives c.in_ok-file.ensures.fetched (ap hex_of (sym c.deref.ensures.value) ∙ c.in_ok-image.ensures)

@@ -7,7 +7,7 @@ use Rattle.kbd48_app.proofs.debugging.over_debug.Goals as goal
 
 pub returns-clause-ends : goal.returns-clause-ends
 returns-clause-ends g c = λ taking.
-    both_found c.args.layout.now c.args.keys.now (debug_next c.args.script.now) (g.F.Shelf.told c.args.shelf.now)
+    both_found c.args.layout.now c.args.keys.now (debug_next c.args.script.now) (g.F.Shelf.in_memory c.args.shelf.now)
     _ _ _ _ _ _ c.in_ok-document.document c.in_ok-text.text c.in_ok-layout.layout c.in_ok-history.history
     c.in_ok-document.ensures.gives c.in_ok-document.ensures.fetched
     (ap layout_of_document (sym c.deref.ensures.value) ∙ c.in_ok-layout.ensures)

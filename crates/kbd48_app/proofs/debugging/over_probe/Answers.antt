@@ -1,5 +1,5 @@
 use Rattle.std.proofs.Common.{ap, refl, sym, ◌∙◌}
-use Rattle.fw_debug.specs.Sessions.{with_fill}
+use Rattle.debugger.specs.Sessions.{with_fill}
 use Rattle.hexfile.specs.Hex.{hex_of}
 use Rattle.key_file.specs.KeyFile.{history_of}
 use Rattle.layout_reader.specs.Documents.{layout_of_document}
@@ -10,7 +10,7 @@ use Rattle.kbd48_app.proofs.debugging.over_probe.Goals as goal
 pub returns-clause-ends : goal.returns-clause-ends
 returns-clause-ends g c = λ taking.
     image_found c.args.image.now c.args.layout.now c.args.keys.now (probe_next c.args.fill c.args.script.now)
-    (g.F.Shelf.told c.args.shelf.now) _ _ _ _ _ c.in_ok-file.file c.in_ok-image.image.bytes
+    (g.F.Shelf.in_memory c.args.shelf.now) _ _ _ _ _ c.in_ok-file.file c.in_ok-image.image.bytes
     c.in_ok-file.ensures.gives c.in_ok-file.ensures.fetched (ap hex_of (sym c.deref.ensures.value) ∙ c.in_ok-image.ensures)
     (both_found c.args.layout.now c.args.keys.now (λ layout. probe_next c.args.fill c.args.script.now c.in_ok-image.image.bytes)
     _ _ _ _ _ _ _ c.in_ok-document.document c.in_ok-text.text c.in_ok-layout.layout c.in_ok-history.history
@@ -24,7 +24,7 @@ returns-clause-ends g c = λ taking.
 pub returns-in_err-text-clause-ends : goal.returns-in_err-text-clause-ends
 returns-in_err-text-clause-ends g c = λ taking.
     keys_unfound_by (probe_next c.args.fill c.args.script.now) c.args.image.now c.args.layout.now c.args.keys.now
-    (g.F.Shelf.told c.args.shelf.now) _ _ _ c.in_ok-file.file c.in_ok-document.document
+    (g.F.Shelf.in_memory c.args.shelf.now) _ _ _ c.in_ok-file.file c.in_ok-document.document
     c.in_ok-image.image.bytes c.in_ok-layout.layout
     c.in_ok-file.ensures.gives c.in_ok-file.ensures.fetched (ap hex_of (sym c.deref.ensures.value) ∙ c.in_ok-image.ensures)
     c.in_ok-document.ensures.gives c.in_ok-document.ensures.fetched

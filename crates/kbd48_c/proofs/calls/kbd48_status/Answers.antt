@@ -1,5 +1,5 @@
 use Rattle.std.proofs.Common.{rules}
-use Rattle.board_lines.specs.declared.event.HostAct.TheVariants.{Status}
+use Rattle.board_terms.specs.declared.event.HostAct.TheVariants.{Status}
 use Rattle.kbd48_c.specs.Exports.{HasRead}
 use Rattle.kbd48_c.proofs.Through.{through_call}
 use Rattle.kbd48_c.proofs.calls.kbd48_status.Goals as goal

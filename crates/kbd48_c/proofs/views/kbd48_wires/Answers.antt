@@ -2,7 +2,7 @@ use Rattle.std.proofs.Common.{◌≡◌, refl, subst, pos}
 use Rattle.joint_run.specs.Joint.{latch_of}
 use Rattle.pc_wires.specs.Wires.{wires}
 use Rattle.live_board.specs.Pasts.{Past}
-use Rattle.live_board.specs.Standing.{Stands}
+use Rattle.live_board.specs.States.{HasPast}
 use Rattle.kbd48_c.specs.Exports.{HasShownWires}
 use Rattle.kbd48_c.proofs.Through.{through_look}
 use Rattle.kbd48_c.proofs.views.kbd48_wires.Goals as goal
@@ -13,6 +13,6 @@ returns-in-Some-clause-wires c =
     c.holding.result.keyboard (pos 0) c.in-Some.keyboard.value
     c.in-Some.ensures.taken c.holding.ensures (
       (refl, refl),
-      subst (λ k. (p : Past) → (s : Stands p k) → c.wires-line.result ≡ wires (latch_of s.world.cpu.p2) s.world.board.pc)
+      subst (λ k. (p : Past) → (s : HasPast p k) → c.wires-line.result ≡ wires (latch_of s.world.cpu.p2) s.world.board.pc)
           c.deref.ensures c.wires-line.ensures.state,
     )

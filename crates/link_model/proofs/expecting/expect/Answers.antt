@@ -1,8 +1,8 @@
 use Rattle.std.proofs.Common.{List, sym, subst, length}
 use Rattle.std.specs.Prelude.{All}
-use Rattle.board_lines.specs.declared.event.Edge.{Edge}
-use Rattle.board_lines.specs.Cadence.{listed}
-use Rattle.board_lines.specs.Edges.{AreInOrder}
+use Rattle.board_terms.specs.declared.event.Edge.{Edge}
+use Rattle.board_terms.specs.Cadence.{listed}
+use Rattle.board_terms.specs.Edges.{AreInOrder}
 use Rattle.layout_reader.specs.Layouts.{HasEntry}
 use Rattle.link_model.proofs.Known.{few_starts}
 use Rattle.link_model.proofs.expecting.expect.Goals as goal

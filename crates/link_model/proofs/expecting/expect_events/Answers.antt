@@ -1,4 +1,4 @@
-use Rattle.board_lines.specs.Cadence.{listed}
+use Rattle.board_terms.specs.Cadence.{listed}
 use Rattle.link_model.specs.Machine.{keyboard}
 use Rattle.link_model.proofs.Known.{whole_next}
 use Rattle.link_model.proofs.expecting.expect_events.Goals as goal

@@ -1,5 +1,5 @@
 use Rattle.std.proofs.Common.{◌≡◌, ◌-◌, length, take}
-use Rattle.board_lines.specs.Cadence.{listed}
+use Rattle.board_terms.specs.Cadence.{listed}
 use Rattle.link_model.specs.Expected.{lines}
 use Rattle.link_model.proofs.lines.log_lines.Given as goal
 

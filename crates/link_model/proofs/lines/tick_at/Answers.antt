@@ -1,7 +1,7 @@
 use Rattle.std.proofs.Common.{◌≡◌, ◌+◌, ◌-◌, ℕ, length, true, false, arith}
 use Rattle.std.specs.Prelude.{nat_le}
 use Rattle.std.proofs.lemmas.Bool.Decides.{nat_tests}
-use Rattle.board_lines.specs.Cadence.{listed}
+use Rattle.board_terms.specs.Cadence.{listed}
 use Rattle.link_model.proofs.Ticks.{tick_near}
 use Rattle.link_model.proofs.lines.tick_at.Goals as goal
 use Rattle.link_model.proofs.lines.tick_at.Goals.{then-starts-n, else-starts-n}

@@ -1,6 +1,6 @@
 use Rattle.std.proofs.Common.{◌≡◌, ◌++◌, take, map}
 use Rattle.std.specs.List.{filter}
-use Rattle.board_lines.specs.Edges.{of_place}
+use Rattle.board_terms.specs.Edges.{of_place}
 use Rattle.link_model.specs.TickEdges.{change_of}
 use Rattle.link_model.specs.Seeing.{sees}
 use Rattle.link_model.proofs.seeing.push_seen.Given as goal

@@ -1,6 +1,6 @@
 use Rattle.std.proofs.Common.{◌≡◌, map}
 use Rattle.std.specs.List.{filter}
-use Rattle.board_lines.specs.Edges.{of_place}
+use Rattle.board_terms.specs.Edges.{of_place}
 use Rattle.link_model.specs.TickEdges.{by_place, change_of}
 use Rattle.link_model.specs.Seeing.{sees}
 use Rattle.link_model.proofs.seeing.seen_among.Given as goal

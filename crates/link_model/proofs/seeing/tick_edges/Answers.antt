@@ -1,8 +1,8 @@
 use Rattle.std.proofs.Common.{ℕ, ap, ◌∙◌, subst, map}
 use Rattle.std.specs.List.{filter}
 use Rattle.std.specs.declared.option.Option.{Option}
-use Rattle.board_lines.specs.Edges.{of_place}
-use Rattle.board_lines.specs.Cadence.{listed}
+use Rattle.board_terms.specs.Edges.{of_place}
+use Rattle.board_terms.specs.Cadence.{listed}
 use Rattle.link_model.specs.TickEdges.{by_place, change_of}
 use Rattle.link_model.specs.Seeing.{sees, HasSeen}
 use Rattle.link_model.proofs.Windows.{tick_edges_so}

@@ -3,7 +3,7 @@ use Rattle.std.proofs.lemmas.List.{get_or-replicate, length-replicate}
 use Rattle.std.specs.Str.Lines.{lines}
 use Rattle.mcs48_asm.specs.Capped.{kept_places}
 use Rattle.mcs48_asm.specs.Kept.{kept_line, kept_value, line_seen}
-use Rattle.mcs48_asm.proofs.Passes.{Stands, begun, next, faulty, ended, placed-turn}
+use Rattle.mcs48_asm.proofs.Passes.{IsPassed, begun, next, faulty, ended, placed-turn}
 use Rattle.mcs48_asm.proofs.assembling.outcome_of.Goals as goal
 
 pub loop-line-init : goal.loop-line-init
@@ -27,7 +27,7 @@ returns-in-Some-fault_of c =
     let held = c.loop-line.invariant.pass in
     faulty names all _ _ (kept_value c.loop-line.seen.entries) c.loop-line.filled c.loop-line.bytes c.loop-line.number
     held.0 c.in-Some-fault_of.flaw
-    (subst (λ rest. Stands names all rest
+    (subst (λ rest. IsPassed names all rest
     (kept_value c.loop-line.seen.entries) c.loop-line.filled c.loop-line.bytes c.loop-line.number held.0) turn held.1)
     (sym c.in-Some-fault_of.ensures)
     ∙ ap (λ number. Err (c.loop-line.number + 1, number)) (sym c.number.ensures)
@@ -49,7 +49,7 @@ loop-line-preserved c =
         next names all _ _ (kept_value c.loop-line.seen.entries)
             (kept_value c.define_names.new.names.entries) c.loop-line.filled c.fill.new.filled c.loop-line.bytes
             c.fill.new.bytes c.loop-line.number held.0
-            (subst (λ rest. Stands names all rest
+            (subst (λ rest. IsPassed names all rest
             (kept_value c.loop-line.seen.entries) c.loop-line.filled c.loop-line.bytes c.loop-line.number held.0) turn held.1)
             (sym c.in_default-fault_of.ensures) c.in_ok-define_names.ensures c.in_ok-fill.ensures.bytes c.in_ok-fill.ensures.marks,
       );
@@ -61,7 +61,7 @@ returns c =
     let all = kept_places 0 (map kept_line (lines c.args.text.now)) in
     let held = c.loop-line.invariant.pass in
     ended names all (kept_value c.loop-line.seen.entries) c.loop-line.filled c.loop-line.bytes c.loop-line.number held.0
-    (subst (λ rest. Stands names all rest
+    (subst (λ rest. IsPassed names all rest
     (kept_value c.loop-line.seen.entries) c.loop-line.filled c.loop-line.bytes c.loop-line.number held.0)
     (ap (λ ls. kept_places c.loop-line.place (map kept_line ls)) c.in_default.ensures.lines) held.1)
     c.loop-line.invariant.memory

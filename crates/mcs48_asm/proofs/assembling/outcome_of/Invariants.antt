@@ -3,7 +3,7 @@ use Rattle.std.specs.Str.Lines.{lines}
 use Rattle.mcs48_asm.specs.Places.{Placed}
 use Rattle.mcs48_asm.specs.Capped.{kept_places}
 use Rattle.mcs48_asm.specs.Kept.{kept_line, kept_value}
-use Rattle.mcs48_asm.proofs.Passes.{Stands}
+use Rattle.mcs48_asm.proofs.Passes.{IsPassed}
 use Rattle.mcs48_asm.proofs.assembling.outcome_of.Given as goal
 
 -- what the pass has made of the lines before the rest, of which there are so many
@@ -12,7 +12,7 @@ invariant-loop-line l = record {
   memory : length l.bytes ≡ 2048;
   lines_left : l.number + length l.rest ≤ length l.text;
   pass : (earlier : List Placed)
-      × Stands (kept_value l.names.entries) (kept_places 0 (map kept_line (lines l.text)))
+      × IsPassed (kept_value l.names.entries) (kept_places 0 (map kept_line (lines l.text)))
       (kept_places l.place (map kept_line (lines l.rest))) (kept_value l.seen.entries) l.filled l.bytes l.number earlier;
 }
 

@@ -15,8 +15,8 @@ before start end place b h =
     let no : nat_le start place ≡ false = grind (arith, nat_tests) in
     rw no refl
 
-behind : (start end place : ℕ) (b : Bool) → end ≤ place → (nat_le start place && nat_lt place end && b) ≡ false
-behind start end place b h =
+afterwards : (start end place : ℕ) (b : Bool) → end ≤ place → (nat_le start place && nat_lt place end && b) ≡ false
+afterwards start end place b h =
     let no : nat_lt place end ≡ false = grind (arith, nat_tests) in
     rw (no, and_false) refl
 
@@ -43,7 +43,7 @@ returns c =
     let none : list_any filled (range_with_len c.loop-place.place (length c.args.filled.now - c.loop-place.place)) ≡ false =
     elim (dec_lt c.loop-place.place (length c.args.filled.now)) [
       | yes within ↦ any_range-none filled c.loop-place.place (length c.args.filled.now - c.loop-place.place)
-          (λ place h. behind c.args.start c.args.end place (slice_index_or c.args.filled.now place false) (omega (arith, h, within)))
+          (λ place h. afterwards c.args.start c.args.end place (slice_index_or c.args.filled.now place false) (omega (arith, h, within)))
       | no past ↦ any_range-end filled (length c.args.filled.now) c.loop-place.place (omega (arith, past))
     ] in
     sym (c.loop-place.invariant ∙ none)

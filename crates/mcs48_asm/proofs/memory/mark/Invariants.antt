@@ -5,5 +5,5 @@ abbrev pub invariant-loop-place : goal.invariant-loop-place
 invariant-loop-place l = record {
   inside : (k : ℕ) → l.start ≤ k → k < l.place → slice_index_or l.filled k false ≡ true;
   before : (k : ℕ) → k < l.start → slice_index_or l.filled k false ≡ slice_index_or l.initial.filled k false;
-  behind : (k : ℕ) → l.place ≤ k → slice_index_or l.filled k false ≡ slice_index_or l.initial.filled k false;
+  afterwards : (k : ℕ) → l.place ≤ k → slice_index_or l.filled k false ≡ slice_index_or l.initial.filled k false;
 }

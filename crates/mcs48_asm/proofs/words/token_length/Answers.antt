@@ -4,9 +4,9 @@ use Rattle.mcs48_asm.proofs.Tokenized.{before-comma, token-cut}
 use Rattle.mcs48_asm.proofs.words.token_length.Goals as goal
 
 pub returns-then-first-eq44-clause-token : goal.returns-then-first-eq44-clause-token
-returns-then-first-eq44-clause-token c = before-comma c.args.first (goes_on c.args.behind.now) (tokens_of c.args.behind.now) (cc)
+returns-then-first-eq44-clause-token c = before-comma c.args.first (goes_on c.args.afterwards.now) (tokens_of c.args.afterwards.now) (cc)
 
 pub returns-else-first-eq44-clause-token : goal.returns-else-first-eq44-clause-token
 returns-else-first-eq44-clause-token c =
-    token-cut c.args.first c.args.behind.now c.run_length.result c.requires
+    token-cut c.args.first c.args.afterwards.now c.run_length.result c.requires
     (ne_eqb c.args.first 44 c.if-first-eq44.false) c.run_length.ensures.run c.run_length.ensures.ends

@@ -7,7 +7,7 @@ use Rattle.mcs48_core.proofs.text.state_text.Goals as goal
 abbrev rows : List ℕ
 rows = 0 ∷ 1 ∷ 2 ∷ 3 ∷ 4 ∷ []
 
--- the lines from a number on are its line and those behind it
+-- the lines from a number on are its line and those after it
 lines_from : (f : ℕ → List ℕ) (row : ℕ) → row < 5 → f row ++ flat_map f (drop (row + 1) rows) ≡ flat_map f (drop row rows)
 lines_from f row h =
     from_each (λ row. f row ++ flat_map f (drop (row + 1) rows) ≡ flat_map f (drop row rows)) 0 5

@@ -11,13 +11,13 @@ use Rattle.story_run.proofs.beginning.begin_run.Goals as goal
 pub returns-clause-run : goal.returns-clause-run
 returns-clause-run g c =
     same_story 0 c.begin.result.joint.image.bytes (image_of c.args.layout.now)
-    (g.F.Feed.told c.begin.new.feed).history (g.F.Feed.told c.args.feed.now).history
+    (g.F.Feed.feeds c.begin.new.feed).history (g.F.Feed.feeds c.args.feed.now).history
     (c.begin.ensures.on.image ∙ c.compile-image.ensures.image) c.begin.ensures.history
 
 pub returns-clause-ready : goal.returns-clause-ready
 returns-clause-ready g c =
-    let fed = g.F.Feed.told c.begin.new.feed in
-    let first = (g.F.Feed.told c.args.feed.now).history in
+    let fed = g.F.Feed.feeds c.begin.new.feed in
+    let first = (g.F.Feed.feeds c.args.feed.now).history in
     let sound : IsKeyLayout c.args.layout.now = search rules in
     ready_at_start TickStart 0 c.compile-image.result.bytes first fed c.begin.result c.begin.ensures.on
     c.begin.ensures.history c.begin.ensures.steps c.begin.ensures.taken c.requires.accepted.accepted

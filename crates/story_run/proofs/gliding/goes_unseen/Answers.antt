@@ -1,6 +1,6 @@
 use Rattle.std.proofs.Common.{◌≡◌, true, [], refl, arith}
 use Rattle.story_run.proofs.Dozing.{none_dozed}
-use Rattle.story_run.proofs.Stretched.{stretch_dozed, stretch_later, stretch_onward, stretch_stuck, stretch_told}
+use Rattle.story_run.proofs.Stretched.{stretch_dozed, stretch_later, stretch_onward, stretch_stuck, stretch_reported}
 use Rattle.story_run.proofs.Timekeeping.{soon}
 use Rattle.story_run.proofs.gliding.goes_unseen.Goals as goal
 
@@ -23,7 +23,7 @@ returns-in-Err-clause-stretch g c = λ s is before at_rest.
 pub returns-in-Ok-false-clause-stretch : goal.returns-in-Ok-false-clause-stretch
 returns-in-Ok-false-clause-stretch g c = λ s is before at_rest.
     let inv = c.steps.invariant in
-    stretch_told c.args.halt s c.args.course.now c.steps.course c.goes_quietly.new.course before (inv.dozed s is before at_rest)
+    stretch_reported c.args.halt s c.args.course.now c.steps.course c.goes_quietly.new.course before (inv.dozed s is before at_rest)
     c.args.clk c.args.rest inv.level at_rest c.args.lines c.in-Ok-false.field-0 c.in-Ok-false.ensures.made
 
 pub returns-then-not-is_passed_over-clause-stretch : goal.returns-then-not-is_passed_over-clause-stretch

@@ -9,9 +9,9 @@ step_inlined-requires g c =
 
 pub returns-then-rest-clause-made : goal.returns-then-rest-clause-made
 returns-then-rest-clause-made g c = record {
-  place = c.reach-tick.result.0;
-  most = c.reach-tick.result.1;
-  before_halt = c.reach-tick.ensures.none;
+  place = c.reach-tick_pc.result.0;
+  most = c.reach-tick_pc.result.1;
+  before_halt = c.reach-tick_pc.ensures.none;
   gone = c.go_on.ensures.gone;
   alone = λ off. absurd (cc (off, c.if-rest.true));
   ahead = refl;

@@ -1,5 +1,5 @@
 use Rattle.std.proofs.Common.{refl}
-use Rattle.subsystem.specs.Running.{outcome}
+use Rattle.subsystem.specs.LayoutOutcomes.{outcome}
 use Rattle.subsystem.proofs.ticking.tick_starts.Goals as goal
 
 pub returns-clause-starts : goal.returns-clause-starts

@@ -1,7 +1,7 @@
--- Behind a mark stands one more piece.
+-- After a mark is one more piece.
 use Rattle.std.proofs.Common.{sym, subst}
 use Rattle.text_lines.specs.Fields.{HasMore}
-use Rattle.text_lines.proofs.Behind.{two_pieces}
+use Rattle.text_lines.proofs.Afterwards.{two_pieces}
 use Rattle.text_lines.proofs.pieces.single.Goals as goal
 
 pub returns-in-Some : goal.returns-in-Some

@@ -4,9 +4,9 @@ use Rattle.joint_feed.specs.Stories.{story}
 use Rattle.wire_trace.proofs.TraceIsSaid.{broken_in_changes, broken_in_header, heard_none, trace_said}
 use Rattle.wire_trace.proofs.tracing.put_trace.Goals as goal
 
-pub tell_run-requires-clause-told : goal.tell_run-requires-clause-told
-tell_run-requires-clause-told g c =
-    let s = story c.args.course.now.joint.image.bytes (g.F.Feed.told c.args.feed.now).history in (
+pub make_run-requires-clause-reported : goal.make_run-requires-clause-reported
+make_run-requires-clause-reported g c =
+    let s = story c.args.course.now.joint.image.bytes (g.F.Feed.feeds c.args.feed.now).history in (
       heard_none s c.new-changes.result.decoder c.new-changes.ensures.silent,
       none_said (g.K.Sink.shown c.put_header.new.out),
     )
@@ -14,7 +14,7 @@ tell_run-requires-clause-told g c =
 pub returns-in_err-put_header-clause-broken : goal.returns-in_err-put_header-clause-broken
 returns-in_err-put_header-clause-broken g c =
     on_err c.from_residual.result _
-    (broken_in_header (story c.args.course.now.joint.image.bytes (g.F.Feed.told c.args.feed.now).history) c.requires.ready.timely
+    (broken_in_header (story c.args.course.now.joint.image.bytes (g.F.Feed.feeds c.args.feed.now).history) c.requires.ready.timely
     (g.K.Sink.shown c.args.out.now)
     (g.K.Sink.shown c.put_header.new.out)
     c.in_err-put_header.ensures.broken)
@@ -22,17 +22,17 @@ returns-in_err-put_header-clause-broken g c =
 pub returns-in_err-_end-clause-broken : goal.returns-in_err-_end-clause-broken
 returns-in_err-_end-clause-broken g c =
     on_err c.from_residual-in_err-_end.result _
-    (broken_in_changes (story c.args.course.now.joint.image.bytes (g.F.Feed.told c.args.feed.now).history) c.requires.ready.timely
+    (broken_in_changes (story c.args.course.now.joint.image.bytes (g.F.Feed.feeds c.args.feed.now).history) c.requires.ready.timely
     (g.K.Sink.shown c.args.out.now)
     (g.K.Sink.shown c.put_header.new.out)
-    (g.K.Sink.shown c.tell_run.new.out)
+    (g.K.Sink.shown c.make_run.new.out)
     _ _ c.in_ok-put_header.ensures.said c.in_err-_end.ensures.broken)
 
 pub returns-clause-said : goal.returns-clause-said
 returns-clause-said g c =
-    trace_said (story c.args.course.now.joint.image.bytes (g.F.Feed.told c.args.feed.now).history) c.requires.ready.timely
+    trace_said (story c.args.course.now.joint.image.bytes (g.F.Feed.feeds c.args.feed.now).history) c.requires.ready.timely
     (g.K.Sink.shown c.args.out.now)
     (g.K.Sink.shown c.put_header.new.out)
-    (g.K.Sink.shown c.tell_run.new.out)
-    c.tell_run.new.course c.in_ok-_end._end c.tell_run.new.teller.decoder c.in_ok-_end.ensures.ended
-    c.in_ok-put_header.ensures.said c.in_ok-_end.ensures.told
+    (g.K.Sink.shown c.make_run.new.out)
+    c.make_run.new.course c.in_ok-_end._end c.make_run.new.reporter.decoder c.in_ok-_end.ensures.ended
+    c.in_ok-put_header.ensures.said c.in_ok-_end.ensures.reported

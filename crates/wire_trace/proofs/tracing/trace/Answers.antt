@@ -6,7 +6,7 @@ use Rattle.wire_trace.proofs.tracing.trace.Goals as goal
 
 pub begin_run-requires-clause-timely : goal.begin_run-requires-clause-timely
 begin_run-requires-clause-timely g c = λ sound.
-    (c.run_and_model_agree.ensures.agreement c.args.layout.now (g.F.Feed.told c.args.feed).history sound (lawful_for c.requires.accepted)).0
+    (c.run_and_model_agree.ensures.agreement c.args.layout.now (g.F.Feed.feeds c.args.feed).history sound (lawful_for c.requires.accepted)).0
 
 pub returns-in-Err-put_trace-clause-broken : goal.returns-in-Err-put_trace-clause-broken
 returns-in-Err-put_trace-clause-broken g c = λ _.
@@ -24,12 +24,12 @@ returns-clause-said g c =
 
 pub returns-clause-heard : goal.returns-clause-heard
 returns-clause-heard g c =
-    c.wires_are_heard.ensures.heard c.args.layout.now (g.F.Feed.told c.args.feed).history c.begin_run.ensures.layout (lawful_for c.requires.accepted)
+    c.wires_are_heard.ensures.heard c.args.layout.now (g.F.Feed.feeds c.args.feed).history c.begin_run.ensures.layout (lawful_for c.requires.accepted)
 
 pub returns-in-Err-clause-heard : goal.returns-in-Err-clause-heard
 returns-in-Err-clause-heard g c =
-    c.wires_are_heard.ensures.heard c.args.layout.now (g.F.Feed.told c.args.feed).history c.begin_run.ensures.layout (lawful_for c.requires.accepted)
+    c.wires_are_heard.ensures.heard c.args.layout.now (g.F.Feed.feeds c.args.feed).history c.begin_run.ensures.layout (lawful_for c.requires.accepted)
 
 pub returns-in-Err-put_trace-clause-heard : goal.returns-in-Err-put_trace-clause-heard
 returns-in-Err-put_trace-clause-heard g c =
-    c.wires_are_heard.ensures.heard c.args.layout.now (g.F.Feed.told c.args.feed).history c.begin_run.ensures.layout (lawful_for c.requires.accepted)
+    c.wires_are_heard.ensures.heard c.args.layout.now (g.F.Feed.feeds c.args.feed).history c.begin_run.ensures.layout (lawful_for c.requires.accepted)

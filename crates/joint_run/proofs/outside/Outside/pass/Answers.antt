@@ -1,6 +1,6 @@
 use Rattle.std.proofs.Common.{◌≡◌, ◌≤◌, ◌+◌, ◌-◌, true, [], refl, ap, sym, ◌∙◌, arith}
 use Rattle.std.specs.Prelude.{slice_get}
-use Rattle.board_lines.specs.declared.lines.Lines.{Lines}
+use Rattle.board_terms.specs.declared.lines.Lines.{Lines}
 use Rattle.joint_run.specs.Due.{beside, outside_of}
 use Rattle.joint_run.specs.Joint.{Beside, latch_of}
 use Rattle.pc_wires.specs.Wires.{wires}

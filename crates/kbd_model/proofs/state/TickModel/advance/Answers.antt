@@ -5,7 +5,7 @@ use Rattle.kbd_model.proofs.Known.{meets, counts}
 use Rattle.kbd_model.proofs.state.TickModel.advance.Goals as goal
 use Rattle.kbd_model.proofs.state.TickModel.advance.Goals.{then-not-was_tested, else-not-was_tested}
 
--- what repeats behind the meeting and the test's count repeated before
+-- what repeats after the meeting and the test's count repeated before
 pub scan-requires-clause-repeats : goal.scan-requires-clause-repeats
 scan-requires-clause-repeats c =
     λ r h. let keys = keys_of c.args.layout.now in

@@ -1,6 +1,6 @@
 use Rattle.std.proofs.Common.{◌∙◌, ℕ, List, Bool, sym, subst}
 use Rattle.std.specs.Prelude.{All}
-use Rattle.board_lines.specs.Cadence.{listed}
+use Rattle.board_terms.specs.Cadence.{listed}
 use Rattle.layout_reader.specs.Layouts.{HasEntry}
 use Rattle.link_model.proofs.Known.{tick_edges_known}
 use Rattle.link_model.proofs.whole.Together.next.Goals as goal

@@ -3,7 +3,7 @@ use Rattle.std.specs.Prelude.{map}
 use Rattle.host_turn.specs.Host.{waits}
 use Rattle.joint_run.specs.Due.{due_step}
 use Rattle.joint_run.specs.declared.due.Due.{Due}
-use Rattle.live_board.proofs.Calling.{acted_on, acted_stuck, answered_here, says_on, stands_still, stuck_at}
+use Rattle.live_board.proofs.Calling.{acted_on, acted_stuck, answered_here, says_on, holds_still, stuck_at}
 use Rattle.live_board.proofs.Passed.{passed_over}
 use Rattle.live_board.proofs.Stepping.{counted}
 use Rattle.live_board.proofs.Watching.{line_here}
@@ -11,7 +11,7 @@ use Rattle.live_board.specs.Heard.{heard_all, rise, said_so}
 use Rattle.live_board.specs.Passing.{at_fall, passed_by}
 use Rattle.live_board.specs.Pasts.{acted, state_of}
 use Rattle.live_board.specs.Rising.{irq_in, irq_of}
-use Rattle.live_board.specs.Standing.{Stands}
+use Rattle.live_board.specs.States.{HasPast}
 use Rattle.live_board.specs.declared.happened.Happened.{Happened}
 use Rattle.live_board.specs.declared.irq.Irq.{Irq}
 use Rattle.live_board.specs.declared.parts.Parts.{Parts as Keyboard}
@@ -50,8 +50,8 @@ returns-in-Ok-clause-said c =
     let e = c.in-Ok.ensures in
     λ p s. says_on k act late room due c.step.new.self.joint c.step.new.self.seen only e.some e.step p s refl e.run
 
-pub returns-in-Ok-clause-told : goal.returns-in-Ok-clause-told
-returns-in-Ok-clause-told c =
+pub returns-in-Ok-clause-log_kept : goal.returns-in-Ok-clause-log_kept
+returns-in-Ok-clause-log_kept c =
     let k = c.args.self.now in
     let act = c.args.act in
     let cycle = c.cycle-cycle.ensures.cycle in
@@ -64,7 +64,7 @@ returns-in-Ok-clause-told c =
     let e = c.in-Ok.ensures in
     let new : Keyboard = record c.step.new.self { due = record c.step.new.self.due { host = c.new-self.result } } in
     λ p s.
-    let t : Stands (acted p (k.joint.cycle - 4096) act) new =
+    let t : HasPast (acted p (k.joint.cycle - 4096) act) new =
     acted_on k act late room due c.step.new.self.joint c.step.new.self.seen only e.some
     e.step p s refl e.run new refl e.edges c.new-self.ensures in
     record {
@@ -116,5 +116,5 @@ returns-in-Err-clause-acted c =
         λ p s. acted_stuck k act late due c.step.new.self.joint c.in-Err.stuck only refl e.run p s,
       ),
       e.unchanged.0,
-      λ p s. stands_still p k _ e.unchanged.0 (ap (λ (d : Due). d.edges.items) e.unchanged.1) c.new-self-in-Err.ensures s,
+      λ p s. holds_still p k _ e.unchanged.0 (ap (λ (d : Due). d.edges.items) e.unchanged.1) c.new-self-in-Err.ensures s,
     )

@@ -16,7 +16,7 @@ steps-init c =
       few = omega (arith, start);
       so_far = λ p s. goes_still p old c.args.cycles c.args.watched old (record old { rises = 0 }) refl refl
           (goes_first p old c.args.cycles c.args.watched s);
-      told = λ p s. tally_first p old (record old { rises = 0 }) refl refl refl;
+      log_kept = λ p s. tally_first p old (record old { rises = 0 }) refl refl refl;
     }
 
 pub steps-preserved : goal.steps-preserved
@@ -45,9 +45,9 @@ steps-preserved c =
           let risen = e.risen in
           let once = rise_few c.steps.was (irq_of new.joint.outside.desk.port) in
           omega (arith, before, risen, once, more);
-      told = λ p s.
+      log_kept = λ p s.
           tally_on k new c.room.result e.gone p old c.args.cycles c.args.watched (inv.so_far p s)
-          (omega (arith, within, now, start, later)) e.edges e.host c.steps.was inv.line e.kept e.risen (inv.told p s);
+          (omega (arith, within, now, start, later)) e.edges e.host c.steps.was inv.line e.kept e.risen (inv.log_kept p s);
     }
 
 pub steps-smaller : goal.steps-smaller
@@ -69,13 +69,13 @@ returns-then-cycle-ge-LAST-clause-run c =
     let at = c.cycle-cycle.ensures.cycle in
     λ p s.
     let so = inv.so_far p s in
-    record { stands = so.stands; before = so.before; ends = (omega (arith, over, at), omega (arith, test, now, start, later), so.calm) }
+    record { has_past = so.has_past; before = so.before; ends = (omega (arith, over, at), omega (arith, test, now, start, later), so.calm) }
 
-pub returns-then-cycle-ge-LAST-clause-told : goal.returns-then-cycle-ge-LAST-clause-told
-returns-then-cycle-ge-LAST-clause-told c = c.steps.invariant.told
+pub returns-then-cycle-ge-LAST-clause-log_kept : goal.returns-then-cycle-ge-LAST-clause-log_kept
+returns-then-cycle-ge-LAST-clause-log_kept c = c.steps.invariant.log_kept
 
-pub returns-in-Err-clause-told : goal.returns-in-Err-clause-told
-returns-in-Err-clause-told c =
+pub returns-in-Err-clause-log_kept : goal.returns-in-Err-clause-log_kept
+returns-in-Err-clause-log_kept c =
     let inv = c.steps.invariant in
     let e = c.in-Err.ensures in
     let later = inv.later in
@@ -83,11 +83,11 @@ returns-in-Err-clause-told c =
     let now = c.cycle.ensures.cycle in
     let within = c.room.ensures.within in
     λ p s.
-    tally_stuck c.steps.self c.glide.new.self c.room.result c.in-Err.stuck e.gone e.untold.0 e.untold.1 p
-    c.args.self.now c.args.cycles c.args.watched (inv.so_far p s) (omega (arith, within, now, start, later)) (inv.told p s)
+    tally_stuck c.steps.self c.glide.new.self c.room.result c.in-Err.stuck e.gone e.log_unchanged.0 e.log_unchanged.1 p
+    c.args.self.now c.args.cycles c.args.watched (inv.so_far p s) (omega (arith, within, now, start, later)) (inv.log_kept p s)
 
-pub returns-then-has_risen-clause-told : goal.returns-then-has_risen-clause-told
-returns-then-has_risen-clause-told c =
+pub returns-then-has_risen-clause-log_kept : goal.returns-then-has_risen-clause-log_kept
+returns-then-has_risen-clause-log_kept c =
     let inv = c.steps.invariant in
     let e = c.in-Ok.ensures in
     let later = inv.later in
@@ -96,10 +96,10 @@ returns-then-has_risen-clause-told c =
     let within = c.room.ensures.within in
     λ p s.
     tally_on c.steps.self c.glide.new.self c.room.result e.gone p c.args.self.now c.args.cycles c.args.watched (inv.so_far p s)
-    (omega (arith, within, now, start, later)) e.edges e.host c.steps.was inv.line e.kept e.risen (inv.told p s)
+    (omega (arith, within, now, start, later)) e.edges e.host c.steps.was inv.line e.kept e.risen (inv.log_kept p s)
 
-pub returns-clause-told : goal.returns-clause-told
-returns-clause-told c = c.steps.invariant.told
+pub returns-clause-log_kept : goal.returns-clause-log_kept
+returns-clause-log_kept c = c.steps.invariant.log_kept
 
 pub returns-in-Err-clause-later : goal.returns-in-Err-clause-later
 returns-in-Err-clause-later c =
@@ -153,4 +153,4 @@ returns-clause-run c =
     let test = c.steps-test.false in
     λ p s.
     let so = inv.so_far p s in
-    record { stands = so.stands; before = so.before; ends = (omega (arith, test, now, start, later), so.calm) }
+    record { has_past = so.has_past; before = so.before; ends = (omega (arith, test, now, start, later), so.calm) }

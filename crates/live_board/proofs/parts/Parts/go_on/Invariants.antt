@@ -1,9 +1,9 @@
 use Rattle.std.proofs.Common.{◌≡◌, ◌≤◌, ◌+◌, ◌^◌, ◌-◌}
 use Rattle.live_board.proofs.Watching.{GoesOnSo}
-use Rattle.live_board.specs.Heard.{HasToldAll}
+use Rattle.live_board.specs.Heard.{HasKeptAll}
 use Rattle.live_board.specs.Pasts.{Past}
 use Rattle.live_board.specs.Rising.{irq_of}
-use Rattle.live_board.specs.Standing.{Stands}
+use Rattle.live_board.specs.States.{HasPast}
 use Rattle.live_board.proofs.parts.Parts.go_on.Given as goal
 
 abbrev pub invariant-steps : goal.invariant-steps
@@ -12,8 +12,8 @@ invariant-steps l = record {
   later : l.fn.self.joint.cycle ≤ l.self.joint.cycle;
   line : l.was ≡ irq_of l.self.joint.outside.desk.port;
   few : l.self.rises + l.start ≤ l.self.joint.cycle;
-  so_far : (p : Past) → Stands p l.fn.self → GoesOnSo p l.fn.self l.cycles l.watched l.self;
-  told : (p : Past) → Stands p l.fn.self → HasToldAll p l.fn.self l.self;
+  so_far : (p : Past) → HasPast p l.fn.self → GoesOnSo p l.fn.self l.cycles l.watched l.self;
+  log_kept : (p : Past) → HasPast p l.fn.self → HasKeptAll p l.fn.self l.self;
 }
 
 abbrev pub decreases-steps : goal.decreases-steps

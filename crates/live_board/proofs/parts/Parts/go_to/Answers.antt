@@ -1,5 +1,5 @@
 use Rattle.std.proofs.Common.{◌<◌, ◌+◌, false, refl, ap, sym, ◌∙◌, inl, inr, arith}
-use Rattle.live_board.proofs.Gliding.{cycles_on, goes_all, has_stuck, one_step, so_last, stands_on, stuck_later}
+use Rattle.live_board.proofs.Gliding.{cycles_on, goes_all, has_stuck, one_step, so_last, holds_on, stuck_later}
 use Rattle.live_board.proofs.Meeting.{as_met, last_unmet, lines_of, met_last, steps_few, steps_later, stuck_few, stuck_unmet, unmet_more}
 use Rattle.live_board.proofs.Tallying.{rise_few, tally_first, tally_on, tally_stuck}
 use Rattle.live_board.proofs.Watching.{before_on, goes_first, goes_still}
@@ -21,7 +21,7 @@ going-init c =
       so_far = λ p s. goes_still p old c.args.cycles false old (record old { rises = 0 }) refl refl
           (goes_first p old c.args.cycles false s);
       unmet = λ p s j l m. absurd (omega (arith, l, m));
-      told = λ p s. tally_first p old (record old { rises = 0 }) refl refl refl;
+      log_kept = λ p s. tally_first p old (record old { rises = 0 }) refl refl refl;
     }
 
 pub going-preserved : goal.going-preserved
@@ -68,9 +68,9 @@ going-preserved c =
           ∙ as_met c.args.stops.now new c.met-met.result c.irq-was.result (irq_of k.joint.outside.desk.port)
           c.lines-lines.result (lines_of k.joint) c.met-met.ensures c.irq-was.ensures.irq c.lines-lines.ensures.wires)
           ∙ flat);
-      told = λ p s.
+      log_kept = λ p s.
           tally_on k new most g p old c.args.cycles false (inv.so_far p s) room e.edges e.host c.irq-was.result
-          c.irq-was.ensures.irq e.kept e.risen (inv.told p s);
+          c.irq-was.ensures.irq e.kept e.risen (inv.log_kept p s);
     }
 
 pub going-smaller : goal.going-smaller
@@ -92,14 +92,14 @@ returns-then-is_full-clause-stopped c =
     λ p s.
     let so = inv.so_far p s in
     record {
-      stands = so.stands;
+      has_past = so.has_past;
       before = so.before;
       few = inv.limit;
       why = (inr (omega (arith, full, made, first, above, limit)), inv.unmet p s);
     }
 
-pub returns-then-is_full-clause-told : goal.returns-then-is_full-clause-told
-returns-then-is_full-clause-told c = c.going.invariant.told
+pub returns-then-is_full-clause-log_kept : goal.returns-then-is_full-clause-log_kept
+returns-then-is_full-clause-log_kept c = c.going.invariant.log_kept
 
 pub returns-then-cycle-ge-LAST-clause-stopped : goal.returns-then-cycle-ge-LAST-clause-stopped
 returns-then-cycle-ge-LAST-clause-stopped c =
@@ -117,7 +117,7 @@ returns-then-cycle-ge-LAST-clause-stopped c =
     λ p s.
     let so = inv.so_far p s in
     record {
-      stands = so.stands;
+      has_past = so.has_past;
       before = so.before;
       few = inv.limit;
       why = (
@@ -127,8 +127,8 @@ returns-then-cycle-ge-LAST-clause-stopped c =
       );
     }
 
-pub returns-then-cycle-ge-LAST-clause-told : goal.returns-then-cycle-ge-LAST-clause-told
-returns-then-cycle-ge-LAST-clause-told c = c.going.invariant.told
+pub returns-then-cycle-ge-LAST-clause-log_kept : goal.returns-then-cycle-ge-LAST-clause-log_kept
+returns-then-cycle-ge-LAST-clause-log_kept c = c.going.invariant.log_kept
 
 pub returns-in-Err-clause-later : goal.returns-in-Err-clause-later
 returns-in-Err-clause-later c =
@@ -158,7 +158,7 @@ returns-in-Err-clause-stopped c =
     λ p s.
     let r = has_stuck k new most c.in-Err.stuck e.gone e.unchanged p old c.args.cycles false (inv.so_far p s) room in
     record {
-      stands = r.stands;
+      has_past = r.has_past;
       before = r.before;
       few = omega (arith, few_more, few, made, first, above, limit);
       why = (
@@ -170,8 +170,8 @@ returns-in-Err-clause-stopped c =
       );
     }
 
-pub returns-in-Err-clause-told : goal.returns-in-Err-clause-told
-returns-in-Err-clause-told c =
+pub returns-in-Err-clause-log_kept : goal.returns-in-Err-clause-log_kept
+returns-in-Err-clause-log_kept c =
     let inv = c.going.invariant in
     let e = c.in-Err.ensures in
     let later = inv.later in
@@ -179,8 +179,8 @@ returns-in-Err-clause-told c =
     let now = c.cycle-cycle.ensures.cycle in
     let within = c.quiet_room-most.ensures.within in
     λ p s.
-    tally_stuck c.going.self c.glide.new.self c.quiet_room-most.result c.in-Err.stuck e.gone e.untold.0 e.untold.1 p
-    c.args.self.now c.args.cycles false (inv.so_far p s) (omega (arith, within, now, start, later)) (inv.told p s)
+    tally_stuck c.going.self c.glide.new.self c.quiet_room-most.result c.in-Err.stuck e.gone e.log_unchanged.0 e.log_unchanged.1 p
+    c.args.self.now c.args.cycles false (inv.so_far p s) (omega (arith, within, now, start, later)) (inv.log_kept p s)
 
 pub returns-then-is_any-clause-later : goal.returns-then-is_any-clause-later
 returns-then-is_any-clause-later c =
@@ -213,10 +213,10 @@ returns-then-is_any-clause-stopped c =
     λ p s.
     let so = inv.so_far p s in
     let last = so_last k new most g p old c.args.cycles false so room e.edges e.host in
-    let there = stands_on k new most g p old c.args.cycles false so room e.edges e.host in
+    let there = holds_on k new most g p old c.args.cycles false so room e.edges e.host in
     let one = one_step k new most g p old c.args.cycles false so room e.edges e.host in
     record {
-      stands = there;
+      has_past = there;
       before = before_on p old c.args.cycles false (record k { joint = g.last }) new last there one (omega (arith, quiet, room));
       few = omega (arith, few_more, few, made, first, above, limit);
       why = (
@@ -232,8 +232,8 @@ returns-then-is_any-clause-stopped c =
       );
     }
 
-pub returns-then-is_any-clause-told : goal.returns-then-is_any-clause-told
-returns-then-is_any-clause-told c =
+pub returns-then-is_any-clause-log_kept : goal.returns-then-is_any-clause-log_kept
+returns-then-is_any-clause-log_kept c =
     let inv = c.going.invariant in
     let e = c.in-Ok.ensures in
     let later = inv.later in
@@ -242,7 +242,7 @@ returns-then-is_any-clause-told c =
     let within = c.quiet_room-most.ensures.within in
     λ p s.
     tally_on c.going.self c.glide.new.self c.quiet_room-most.result e.gone p c.args.self.now c.args.cycles false (inv.so_far p s)
-    (omega (arith, within, now, start, later)) e.edges e.host c.irq-was.result c.irq-was.ensures.irq e.kept e.risen (inv.told p s)
+    (omega (arith, within, now, start, later)) e.edges e.host c.irq-was.result c.irq-was.ensures.irq e.kept e.risen (inv.log_kept p s)
 
 pub returns-clause-stopped : goal.returns-clause-stopped
 returns-clause-stopped c =
@@ -254,11 +254,11 @@ returns-clause-stopped c =
     λ p s.
     let so = inv.so_far p s in
     record {
-      stands = so.stands;
+      has_past = so.has_past;
       before = so.before;
       few = inv.limit;
       why = (inl (omega (arith, test, now, start, later)), inv.unmet p s);
     }
 
-pub returns-clause-told : goal.returns-clause-told
-returns-clause-told c = c.going.invariant.told
+pub returns-clause-log_kept : goal.returns-clause-log_kept
+returns-clause-log_kept c = c.going.invariant.log_kept

@@ -1,8 +1,8 @@
 use Rattle.std.proofs.Common.{◌≡◌, ◌≤◌, ◌+◌, ◌^◌, ◌-◌, false}
 use Rattle.live_board.proofs.Watching.{GoesOnSo}
-use Rattle.live_board.specs.Heard.{HasToldAll}
+use Rattle.live_board.specs.Heard.{HasKeptAll}
 use Rattle.live_board.specs.Pasts.{Past}
-use Rattle.live_board.specs.Standing.{Stands}
+use Rattle.live_board.specs.States.{HasPast}
 use Rattle.live_board.specs.Stopping.{AreUnmet}
 use Rattle.live_board.proofs.parts.Parts.go_to.Given as goal
 
@@ -14,9 +14,9 @@ invariant-going l = record {
   more : l.fn.self.joint.steps ≤ l.self.joint.steps;
   limit : l.self.joint.steps ≤ l.fn.self.joint.steps + l.steps;
   few : l.self.rises + l.start ≤ l.self.joint.cycle;
-  so_far : (p : Past) → Stands p l.fn.self → GoesOnSo p l.fn.self l.cycles false l.self;
-  unmet : (p : Past) → Stands p l.fn.self → AreUnmet l.stops p l.fn.self.joint.steps l.self.joint.steps;
-  told : (p : Past) → Stands p l.fn.self → HasToldAll p l.fn.self l.self;
+  so_far : (p : Past) → HasPast p l.fn.self → GoesOnSo p l.fn.self l.cycles false l.self;
+  unmet : (p : Past) → HasPast p l.fn.self → AreUnmet l.stops p l.fn.self.joint.steps l.self.joint.steps;
+  log_kept : (p : Past) → HasPast p l.fn.self → HasKeptAll p l.fn.self l.self;
 }
 
 abbrev pub decreases-going : goal.decreases-going

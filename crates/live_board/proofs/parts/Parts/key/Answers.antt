@@ -1,5 +1,5 @@
 use Rattle.std.proofs.Common.{◌≤◌, ◌-◌, [], ◌∷◌, ◌++◌, refl, ap, ◌∙◌, arith}
-use Rattle.board_lines.specs.declared.event.Edge.{Edge}
+use Rattle.board_terms.specs.declared.event.Edge.{Edge}
 use Rattle.live_board.proofs.Calling.{keyed_on}
 use Rattle.live_board.proofs.parts.Parts.key.Goals as goal
 
@@ -16,6 +16,6 @@ returns c =
     ∙ ap (λ n. k.due.edges.items ++ record { stamp = n - 4096; place = c.args.place; down = c.args.down } ∷ []) cycle in
     record {
       keyed = (late, omega (arith, long, room), λ p s. keyed_on p k _ e late refl refl items refl s);
-      untold = (refl, refl);
+      log_unchanged = (refl, refl);
       joint = refl;
     }

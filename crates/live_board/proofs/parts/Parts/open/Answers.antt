@@ -1,4 +1,4 @@
-use Rattle.live_board.proofs.Calling.{stands_after}
+use Rattle.live_board.proofs.Calling.{holds_after}
 use Rattle.live_board.specs.Pasts.{gone_on, untouched}
 use Rattle.live_board.proofs.parts.Parts.open.Goals as goal
 
@@ -13,15 +13,15 @@ returns-clause-opened c =
       middle = c.run.new.self;
       end = c.run.result.end;
       ran = c.run.ensures.run (untouched c.args.image.now.bytes 0) first.0;
-      ran_told = c.run.ensures.told (untouched c.args.image.now.bytes 0) first.0;
+      ran_reported = c.run.ensures.log_kept (untouched c.args.image.now.bytes 0) first.0;
       answer = c.act.result;
       masked = c.act.ensures.acted;
-      masked_told = c.act.ensures.told;
+      masked_reported = c.act.ensures.log_kept;
     }
 
-pub returns-clause-stands : goal.returns-clause-stands
-returns-clause-stands c =
+pub returns-clause-has_past : goal.returns-clause-has_past
+returns-clause-has_past c =
     let first = c.power_on-parts.ensures.first in
     let p = untouched c.args.image.now.bytes 0 in
     let ran = c.run.ensures.run p first.0 in
-    stands_after (gone_on p c.run.new.self.joint.steps) _ c.run.new.self c.act.new.self c.act.result ran.stands c.act.ensures.acted
+    holds_after (gone_on p c.run.new.self.joint.steps) _ c.run.new.self c.act.new.self c.act.result ran.has_past c.act.ensures.acted

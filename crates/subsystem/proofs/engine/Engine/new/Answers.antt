@@ -4,7 +4,7 @@ use Rattle.subsystem.proofs.engine.Engine.new.Goals as goal
 
 pub begin_run-requires-clause-timely : goal.begin_run-requires-clause-timely
 begin_run-requires-clause-timely g c = λ sound.
-    (c.run_and_model_agree.ensures.agreement c.args.layout.now (g.F.Feed.told c.args.feed).history sound (lawful_for c.requires.accepted)).0
+    (c.run_and_model_agree.ensures.agreement c.args.layout.now (g.F.Feed.feeds c.args.feed).history sound (lawful_for c.requires.accepted)).0
 
 pub invariant_of-result : goal.invariant_of-result
 invariant_of-result g c =

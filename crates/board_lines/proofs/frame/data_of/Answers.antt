@@ -1,5 +1,0 @@
-use Rattle.board_lines.proofs.Frames.{masks_give}
-use Rattle.board_lines.proofs.frame.data_of.Goals as goal
-
-pub returns : goal.returns
-returns c = masks_give c.args.byte c.ranges.byte.fits

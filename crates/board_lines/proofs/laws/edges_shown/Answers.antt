@@ -1,5 +1,0 @@
-use Rattle.board_lines.proofs.Shown.{edges_shown}
-use Rattle.board_lines.proofs.laws.edges_shown.Goals as goal
-
-pub returns : goal.returns
-returns c = record { shown = edges_shown }

@@ -1,5 +1,0 @@
-use Rattle.board_lines.proofs.Shown.{first_edges_shown}
-use Rattle.board_lines.proofs.laws.first_edges_shown.Goals as goal
-
-pub returns : goal.returns
-returns c = record { shown = first_edges_shown }

@@ -1,0 +1,66 @@
+use Rattle.std.proofs.Common.{refl, subst}
+use Rattle.io_edge.proofs.Pieces.{none_said}
+use Rattle.io_edge.proofs.Taken.{on_err}
+use Rattle.io_edge.specs.Said.{IsSaid}
+use Rattle.joint_feed.specs.Filled.{run_of}
+use Rattle.joint_feed.specs.Stories.{Story}
+use Rattle.board_run.specs.Ending.{ending}
+use Rattle.board_run.specs.Putting.{IsLogBrokenAt, IsLogBrokenOff}
+use Rattle.board_run.specs.BoardOutcomes.{IsOutcome}
+use Rattle.board_run.specs.Texts.{log_text}
+use Rattle.story_run.specs.declared.ending.Ending.TheVariants.{Stamp}
+use Rattle.story_run.specs.Running.{log_at}
+use Rattle.story_run.proofs.Looked.{broke_by, looked_by, some_looked, some_looked_to_break}
+use Rattle.board_run.proofs.BrokenOff.{log_broken_off}
+use Rattle.board_run.proofs.Ends.{ends}
+use Rattle.board_run.proofs.ReportedByStamp.{said_to}
+use Rattle.board_run.proofs.board.ProgramRun.run_to.Goals as goal
+
+pub make_run-requires-clause-ready : goal.make_run-requires-clause-ready
+make_run-requires-clause-ready g c = c.self.invariant
+
+pub make_run-requires-clause-reported : goal.make_run-requires-clause-reported
+make_run-requires-clause-reported g c =
+    none_said (g.K.Sink.shown c.args.out.now)
+
+pub returns-clause-run : goal.returns-clause-run
+returns-clause-run g c =
+    let s = run_of c.self.inside.course (g.F.Feed.feeds c.self.inside.feed).history in
+    let new = c.make_run.new.course in
+    subst (λ (t : Story). IsOutcome t (ending t (record { end = c.in_ok-end.end; joint = new.joint }))) c.self.view_is
+    (ends s new c.in_ok-end.end c.in_ok-end.ensures.ended)
+
+pub returns-clause-said : goal.returns-clause-said
+returns-clause-said g c =
+    let s = run_of c.self.inside.course (g.F.Feed.feeds c.self.inside.feed).history in
+    let x = g.K.Sink.shown c.args.out.now in
+    let y = g.K.Sink.shown c.make_run.new.out in
+    let k = c.make_run.new.course.joint.steps in
+    subst (λ (t : Story). IsSaid x y (log_text (log_at t k))) c.self.view_is (said_to Stamp s k x y c.in_ok-end.ensures.reported)
+
+pub returns-clause-looked : goal.returns-clause-looked
+returns-clause-looked g c =
+    let k = c.make_run.new.course.joint.steps in
+    looked_by _ _ c.self.view_is _ _ k k refl c.in_ok-end.ensures.looked
+
+pub returns-clause-looked_so_far : goal.returns-clause-looked_so_far
+returns-clause-looked_so_far g c =
+    let r = c.in_ok-end.ensures in
+    some_looked _ _ c.self.view_is _ _ Stamp c.make_run.new.course.joint.steps r.ended.run_so_far.goes_on r.looked
+
+pub returns-in_err-end-clause-broken : goal.returns-in_err-end-clause-broken
+returns-in_err-end-clause-broken g c =
+    let s = run_of c.self.inside.course (g.F.Feed.feeds c.self.inside.feed).history in
+    let x = g.K.Sink.shown c.args.out.now in
+    let y = g.K.Sink.shown c.make_run.new.out in
+    on_err c.from_residual.result _ (subst (λ (t : Story). IsLogBrokenOff t x y) c.self.view_is
+    (log_broken_off s x y _ _ c.in_err-end.ensures.broken))
+
+pub returns-in_err-end-clause-looked_so_far : goal.returns-in_err-end-clause-looked_so_far
+returns-in_err-end-clause-looked_so_far g c = some_looked_to_break _ _ c.self.view_is _ _ Stamp _ c.in_err-end.ensures.broken
+
+pub returns-in_err-end-clause-looked_to_break : goal.returns-in_err-end-clause-looked_to_break
+returns-in_err-end-clause-looked_to_break g c =
+    let x = g.K.Sink.shown c.args.out.now in
+    let y = g.K.Sink.shown c.make_run.new.out in
+    on_err c.from_residual.result _ (broke_by _ _ c.self.view_is _ _ Stamp (λ s. IsLogBrokenAt s x y) c.in_err-end.ensures.broken)

@@ -1,0 +1,14 @@
+pub mod Asked
+pub mod AtNumber
+pub mod Counted
+pub mod Fields
+pub mod Lasting
+pub mod Leading
+pub mod Making
+pub mod Obeyed
+pub mod Passing
+pub mod Printed
+pub mod Uneventful
+pub mod Right
+pub mod SessionStates
+pub mod Strode

@@ -1,0 +1,143 @@
+-- A session's state: whether its run has ended there, and its next step.
+use Rattle.std.proofs.Common.{◌≡◌, ◌<◌, ℕ, suc, ◌+◌, Bool, true, false, not, ◌&&◌, ◌||◌, List}
+use Rattle.std.proofs.Common.{Some, None, is_none, refl, ap, sym, subst, ◌∙◌, arith}
+use Rattle.std.specs.Prelude.{if◌then◌else◌, nat_le}
+use Rattle.std.proofs.lemmas.Bool.Decides.{nat_tests}
+use Rattle.std.specs.declared.option.Option.{Option}
+use Rattle.mcs48_isa.specs.declared.operation.Decoded.{Decoded}
+use Rattle.mcs48_core.specs.Cpu.{Cpu}
+use Rattle.mcs48_core.specs.declared.levels.Pins.{Pins}
+use Rattle.mcs48_core.specs.Step.{Stepped, stepped, executed, row_at, takes_external, takes_timer, entered}
+use Rattle.board_terms.specs.declared.event.Edge.{Edge}
+use Rattle.board_terms.specs.declared.event.HostEvent.{HostEvent}
+use Rattle.joint_run.specs.Joint.{Beside, joint_board, joint_pins, joint_start_of}
+use Rattle.joint_run.specs.Run.{Board, World, after_step, joint_step, run_at, seen, step_on}
+use Rattle.fw_logic.specs.JointRun.{DecidesTick}
+use Rattle.joint_feed.specs.declared.course.Course.{Course}
+use Rattle.joint_feed.specs.Course.{IsOnCourse}
+use Rattle.joint_feed.specs.Stories.{state_at, starts_tick}
+use Rattle.debugger.specs.Sessions.{Debuggee, Sitting, sitting, session_is_over, next_from, next_state, has_ended}
+use Rattle.board_probes.specs.Stuck.{sticks}
+use Rattle.debugger.specs.Advance.{IsStateAt, DecidesSessionOver}
+use Rattle.board_probes.proofs.Sights.{same_sight}
+
+none_after : (d : Board) (w : World d.State) (o : Option Stepped) → is_none (after_step d w o) ≡ is_none o
+none_after d w None = refl
+none_after d w (Some n) = refl
+
+none_executed : (r : Option Decoded) (bytes : List ℕ) (pins : Pins) (m : Cpu) → is_none (executed r bytes pins m) ≡ is_none r
+none_executed None bytes pins m = refl
+none_executed (Some d) bytes pins m = refl
+
+none_by : (e t : Bool) (x y : Stepped) (o : Option Stepped) → e ≡ false
+    → is_none (elim e as (λ b. Option Stepped) [ true ↦ Some x | false ↦ elim t as (λ b. Option Stepped) [ true ↦ Some y | false ↦ o ] ])
+    ≡ (not t && is_none o)
+none_by true t x y o h = absurd (cc h)
+none_by false true x y o h = refl
+none_by false false x y o h = refl
+
+pin_high : (a b : Bool) → (a && b && not true) ≡ false
+pin_high true true = refl
+pin_high true false = refl
+pin_high false b = refl
+
+-- a step with the pin INT high is missing exactly where the processor is stuck
+none_stepped : (bytes : List ℕ) (pins : Pins) (m : Cpu) → pins.int_pin ≡ true → is_none (stepped bytes pins m) ≡ sticks bytes m
+none_stepped bytes pins m high =
+    let off : takes_external pins m ≡ false = ap (λ b. not m.svc && m.ext_on && not b) high ∙ pin_high (not m.svc) m.ext_on in
+    none_by (takes_external pins m) (takes_timer m) (entered 3 pins m) (entered 7 pins (record m { rq = false }))
+    (executed (row_at bytes m.pc) bytes pins m) off
+    ∙ ap (λ b. not (takes_timer m) && b) (none_executed (row_at bytes m.pc) bytes pins m)
+
+int_high : (edges : List Edge) (events : List HostEvent) (w : World Beside) → (seen (joint_board edges events) w).int_pin ≡ true
+unfolding joint_pins
+int_high edges events w = refl
+
+none_step : (edges : List Edge) (events : List HostEvent) (bytes : List ℕ) (w : World Beside)
+    → is_none (joint_step (joint_board edges events) bytes w) ≡ sticks bytes w.cpu
+none_step edges events bytes w =
+    let d : Board = joint_board edges events in
+    none_after d w (stepped bytes (seen d w) w.cpu) ∙ none_stepped bytes (seen d w) w.cpu (int_high edges events w)
+
+-- the next state from one that is there
+pub next_there : (s : Debuggee) (k : ℕ) (w : World Beside) (over : Bool)
+    → state_at s.story k ≡ Some w → over ≡ session_is_over s w → next_state s k ≡ (if over then None else state_at s.story (suc k))
+next_there s k w over e o = ap (next_from s k) e ∙ ap (λ b. if b then None else state_at s.story (suc k)) (sym o)
+
+module _ (s : Debuggee) (c : Course) (h : IsOnCourse s.story c) where
+  pub here : state_at s.story c.joint.steps ≡ Some h.world
+  here = subst (λ (bytes : List ℕ). run_at (joint_board s.story.edges s.story.events) bytes
+      (joint_start_of s.story.held) c.joint.steps ≡ Some h.world) h.image h.in_run.run
+
+  pub same : (w : World Beside) → state_at s.story c.joint.steps ≡ Some w → h.world ≡ w
+  same w e = let f : Some h.world ≡ Some w = sym here ∙ e in cc f
+
+  -- what is answered of the machine is so of the state
+  pub past_so : (starts : Bool) (cycle stop latest : ℕ) (result : Bool)
+      → DecidesTick c.joint starts → cycle ≡ c.joint.cycle → stop ≡ s.story.stop → latest ≡ s.latest
+      → result ≡ ((starts && nat_le (4096 + stop) cycle) || nat_le (stop + latest) cycle)
+      → (w : World Beside) → state_at s.story c.joint.steps ≡ Some w → result ≡ session_is_over s w
+  past_so starts cycle stop latest result decides at end late is w e =
+      let world : h.world ≡ w = same w e in
+      let cpu : w.cpu ≡ c.joint.mcu = sym (h.in_run.mcu ∙ ap (λ (v : World Beside). v.cpu) world) in
+      let tick : starts ≡ starts_tick s.story w = decides s.story.edges s.story.events w cpu in
+      let now : cycle ≡ w.cycle = at ∙ h.in_run.cycle ∙ ap (λ (v : World Beside). v.cycle) world in
+      is ∙ ap (λ (n : ℕ). (starts && nat_le (4096 + n) cycle) || nat_le (n + latest) cycle) end
+      ∙ ap (λ (n : ℕ). (starts && nat_le (4096 + s.story.stop) cycle) || nat_le (s.story.stop + n) cycle) late
+      ∙ ap (λ (n : ℕ). (starts && nat_le (4096 + s.story.stop) n) || nat_le (s.story.stop + s.latest) n) now
+      ∙ ap (λ b. (b && nat_le (4096 + s.story.stop) w.cycle) || nat_le (s.story.stop + s.latest) w.cycle) tick
+
+  -- before its end the run ends exactly where the processor is stuck
+  pub ended_so : (past stuck : Bool) → ((w : World Beside) → state_at s.story c.joint.steps ≡ Some w → past ≡ session_is_over s w)
+      → past ≡ false → stuck ≡ sticks s.story.bytes c.joint.mcu
+      → stuck ≡ has_ended s c.joint.steps
+  ended_so past stuck over f is =
+      let next : next_state s c.joint.steps ≡ state_at s.story (suc c.joint.steps) =
+      next_there s c.joint.steps h.world past here (over h.world here)
+      ∙ ap (λ b. if b then None else state_at s.story (suc c.joint.steps)) f in
+      let step : state_at s.story (suc c.joint.steps) ≡ joint_step (joint_board s.story.edges s.story.events) s.story.bytes h.world =
+      ap (step_on (joint_board s.story.edges s.story.events) s.story.bytes) here in
+      is ∙ ap (sticks s.story.bytes) h.in_run.mcu
+      ∙ sym (none_step s.story.edges s.story.events s.story.bytes h.world) ∙ sym (ap is_none (next ∙ step))
+
+  pub state_now : IsStateAt (sitting s c.joint.steps) c.joint
+  state_now = record {
+    world = h.world;
+    state = here;
+    mcu = h.in_run.mcu;
+    cycle = h.in_run.cycle;
+    steps = refl;
+    sight = same_sight c.joint h.world h.in_run.mcu h.in_run.outside h.in_run.cycle;
+  }
+
+-- a run that isn't over at its present state is before its latest end
+or_not : (a b : Bool) → false ≡ (a || b) → b ≡ false
+or_not true b h = absurd (cc h)
+or_not false b h = sym h
+
+before_end : (s : Debuggee) (w : World Beside) → false ≡ session_is_over s w → w.cycle < s.story.stop + s.latest
+before_end s w h =
+    let off = or_not _ (nat_le (s.story.stop + s.latest) w.cycle) h in
+    grind (arith, nat_tests, off)
+
+pub room_there : (s : Debuggee) (c : Course)
+    → IsOnCourse s.story c → DecidesSessionOver (sitting s c.joint.steps) false → c.joint.cycle < s.story.stop + s.latest
+room_there s c h open_now =
+    let a = before_end s h.world (open_now h.world (here s c h)) in
+    let e = h.in_run.cycle in
+    omega (arith, a, e)
+
+pub cycle_there : (s : Debuggee) (c : Course) (h : IsOnCourse s.story c) (w : World Beside)
+    → state_at s.story c.joint.steps ≡ Some w → w.cycle ≡ c.joint.cycle
+cycle_there s c h w there = sym (h.in_run.cycle ∙ ap (λ (v : World Beside). v.cycle) (same s c h w there))
+
+over_by : (s : Debuggee) (k : ℕ) (o : Option (World Beside))
+    → state_at s.story k ≡ o → ((w : World Beside) → state_at s.story k ≡ Some w → true ≡ session_is_over s w)
+    → next_from s k o ≡ None
+over_by s k None e t = refl
+over_by s k (Some w) e t = ap (λ b. if b then None else state_at s.story (suc k)) (sym (t w e))
+
+-- where it is over there is no next state
+pub over_now : (s : Sitting) (past : Bool) → DecidesSessionOver s past → past ≡ true → next_state s.debuggee s.steps ≡ None
+over_now s past decides on =
+    over_by s.debuggee s.steps (state_at s.debuggee.story s.steps) refl (λ w there. sym on ∙ decides w there)

@@ -1,0 +1,15 @@
+use Rattle.std.proofs.Common.{◌≡◌, map}
+use Rattle.debugger.specs.Sessions.{debug, walk}
+use Rattle.debugger.proofs.session.Session.walk.Given as goal
+
+abbrev pub invariant-steps : goal.invariant-steps
+invariant-steps g l = record {
+  debuggee : l.self.debuggee ≡ l.fn.self.debuggee;
+  so_far :
+      walk l.fn.self.debuggee l.left (debug l.self (map (λ b. (goal.Probe-dyn g (b.vtable, b.value)).watch b.value) l.probes.items))
+      ≡ walk l.fn.self.debuggee l.count
+      (debug l.fn.self (map (λ b. (goal.Probe-dyn g (b.vtable, b.value)).watch b.value) l.fn.probes.items));
+}
+
+abbrev pub decreases-steps : goal.decreases-steps
+decreases-steps g l = l.left

@@ -1,0 +1,11 @@
+pub mod Advance
+pub mod Commands
+pub mod CountLaw
+pub mod Faults
+pub mod Lines
+pub mod Making
+pub mod Obeyed
+pub mod Scripts
+pub mod Sessions
+pub mod Striding
+pub mod Effects

@@ -1,7 +1,0 @@
-use Rattle.std.proofs.Common.{ℕ, List, ap}
-use Rattle.joint_feed.specs.Stories.{story}
-use Rattle.fw_debug.specs.Sessions.{of_layout}
-use Rattle.fw_debug.proofs.debuggee.Debuggee.of_layout.Goals as goal
-
-pub returns : goal.returns
-returns c = ap (λ (bytes : List ℕ). of_layout (story bytes c.args.history)) c.compile-image.ensures.image

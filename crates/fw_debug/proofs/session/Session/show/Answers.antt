@@ -1,8 +1,0 @@
-use Rattle.fw_debug.proofs.Printed.{reads, shown_as}
-use Rattle.fw_debug.proofs.session.Session.show.Goals as goal
-
-pub returns : goal.returns
-returns c =
-    reads _ c.state_text.result
-    _ _ (shown_as c.args.self.now c.joint-joint.result.now c.mcu.result.now c.steps.result c.cycle.result c.joint-joint.ensures.state
-    c.mcu.ensures.processor c.steps.ensures.steps c.cycle.ensures.cycle) c.state_text.ensures.text

@@ -1,0 +1,37 @@
+use Rattle.std.proofs.lemmas.Result.{on_ok_weaker}
+use Rattle.wire_trace.proofs.SampleIsOfState.{broken_now, heard_now, on_err, rises_now, said_now}
+use Rattle.wire_trace.proofs.reporting.ChangesReporterSinkFault.report.Goals as goal
+
+pub put_sample-requires : goal.put_sample-requires
+put_sample-requires g c =
+    let t = c.requires.reported in
+    record {
+      rises = rises_now t.0 t.1 t.3 c.args.course.now t.4 c.args.self.now.decoder t.5.0 c.cycle-cycle.result c.cycle-cycle.ensures.cycle;
+    }
+
+pub returns-clause-reported : goal.returns-clause-reported
+returns-clause-reported g c = λ e s first k b h.
+    let old = c.args.self.now.decoder in
+    let it = c.args.course.now in
+    let cycle = c.cycle-cycle.result in
+    let lines = c.lines-lines.result in
+    on_ok_weaker c.put_sample.result (λ said. (
+      heard_now e s k it b old h.0 cycle lines c.cycle-cycle.ensures.cycle c.lines-lines.ensures.wires
+          c.put_sample.new.decoder c.put_sample.ensures.heard,
+      said_now e s k it b old h.0 cycle lines c.cycle-cycle.ensures.cycle c.lines-lines.ensures.wires
+          (g.K.Sink.shown first)
+          (g.K.Sink.shown c.args.out.now)
+          (g.K.Sink.shown c.put_sample.new.out)
+          h.1 said,
+    )) c.put_sample.ensures.said
+
+pub returns-clause-broken : goal.returns-clause-broken
+returns-clause-broken g c = λ e s first k b h.
+    let old = c.args.self.now.decoder in
+    on_err c.put_sample.result
+    (broken_now e s k c.args.course.now b old h.0 c.cycle-cycle.result c.lines-lines.result
+    c.cycle-cycle.ensures.cycle c.lines-lines.ensures.wires
+    (g.K.Sink.shown first)
+    (g.K.Sink.shown c.args.out.now)
+    (g.K.Sink.shown c.put_sample.new.out) h.1)
+    c.put_sample.ensures.broken
