@@ -35,7 +35,7 @@ use Rattle.kbd_model.specs.Keyboard.{Keyboard, at_power_on}
 use Rattle.kbd_model.specs.Layers.{no_layers}
 use Rattle.layout_reader.specs.Layouts.{KeyLayout}
 use Rattle.link_model.specs.Machine.{keyboard}
-use Rattle.pc_wires.specs.Wires.{pc_at_start}
+use Rattle.ctl_wire.specs.Wires.{pc_at_start}
 use Rattle.wires_agree.proofs.Between.{between}
 use Rattle.wires_agree.proofs.Pending.{flips_stay}
 use Rattle.wires_agree.proofs.Start.{waits_for_stamp_0}

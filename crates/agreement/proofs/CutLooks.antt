@@ -13,7 +13,7 @@ use Rattle.fw_link.proofs.Outside.{sent_lines}
 use Rattle.fw_link.proofs.TickLatch.{lines_by}
 use Rattle.fw_link.proofs.Wired.{IsReleased}
 use Rattle.fw_link.specs.Latch.{SentFrame, IsLook, frame_bit}
-use Rattle.pc_wires.specs.Wires.{Pc}
+use Rattle.ctl_wire.specs.Wires.{Pc}
 use Rattle.wires_agree.proofs.CellByCell.{cycles_more}
 use Rattle.wires_agree.proofs.Meetings.{free_at, free_between, free_or_pulls}
 use Rattle.wires_agree.proofs.Off.{is_off, since_first, since_second}

@@ -18,7 +18,7 @@ use Rattle.fw_link.proofs.Wired.{IsReleased}
 use Rattle.fw_link.specs.Latch.{Frame, NoFrame, SentFrame, CutFrame, ReceivedFrame, IsLook, tick_latch}
 use Rattle.joint_run.specs.Joint.{Beside, joint_board, lights_of}
 use Rattle.joint_run.specs.Run.{World}
-use Rattle.pc_wires.specs.Wires.{Pc}
+use Rattle.ctl_wire.specs.Wires.{Pc}
 use Rattle.wires_agree.specs.Cycles.{board_cycles}
 use Rattle.agreement.proofs.CutLooks.{since}
 use Rattle.agreement.proofs.Frames.{FirstLow, first_low, frame_offered, frame_free, frame_ended, frame_in}

@@ -44,7 +44,7 @@ use Rattle.layout_reader.specs.Layouts.{KeyLayout}
 use Rattle.link_model.specs.Expected.{Whole}
 use Rattle.link_model.specs.Machine.{LayeredKeyboard, met_as}
 use Rattle.link_model.specs.TickEdges.{shown}
-use Rattle.pc_wires.specs.Wires.{Pc}
+use Rattle.ctl_wire.specs.Wires.{Pc}
 use Rattle.wires_agree.proofs.Pending.{flips_stay}
 use Rattle.wires_agree.specs.Flips.{IsFlip}
 use Rattle.wires_agree.specs.Ticks.{Ticked, IsNone, at_meeting, leaves_cycle}

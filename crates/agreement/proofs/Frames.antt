@@ -12,7 +12,7 @@ use Rattle.ctl_wire.specs.declared.wire.Wire.{Wire}
 use Rattle.bits.proofs.Every.{both}
 use Rattle.fw_link.proofs.Lets.{lets_at}
 use Rattle.fw_link.specs.Latch.{Frame, NoFrame, SentFrame, CutFrame, ReceivedFrame, IsLook}
-use Rattle.pc_wires.specs.Wires.{Pc}
+use Rattle.ctl_wire.specs.Wires.{Pc}
 
 -- free, or not
 pub free_or_not : (l : Link Wire) → (l ≡ Free) ⊎ (l ≡ Free → ⊥)

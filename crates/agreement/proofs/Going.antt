@@ -180,13 +180,13 @@ module _ (edges : List Edge) (events : List HostEvent) (d : Board) (to : d.State
               (ticked (keys_of layout) (met_as (meeting_from (keyboard layout) events w.cycle m)) (layered (is_fn_place layout) es l) k0))
               own_after
               (subst (λ v. Sound b (all_layers_after b.is_fn es l) v) own_tick (tick_sound b codes meeting es l k0 low wide tie.sound));
-          side = ap (λ (b : Rattle.pc_wires.specs.Wires.Pc). seen_in_bytes b.side) pc
+          side = ap (λ (b : Rattle.ctl_wire.specs.Wires.Pc). seen_in_bytes b.side) pc
               ∙ side_is edges events u tie.released released tie.idle LayeredKeyboard (keyboard layout) m tie.side tie.shown
               lamps (lines frame) rest k met law;
           idle =
-              ap (λ (b : Rattle.pc_wires.specs.Wires.Pc). Rattle.ctl_link.specs.Link.is_busy b.side.port.link) pc
+              ap (λ (b : Rattle.ctl_wire.specs.Wires.Pc). Rattle.ctl_link.specs.Link.is_busy b.side.port.link) pc
               ∙ law.idle_again;
-          flip = subst (λ (b : Rattle.pc_wires.specs.Wires.Pc). IsFlip b.side.port.flip) (sym pc)
+          flip = subst (λ (b : Rattle.ctl_wire.specs.Wires.Pc). IsFlip b.side.port.flip) (sym pc)
               (flips_stay events (lines frame) k (256 + w.cycle) (at_look edges events u) noise flip_at_look);
           shown = there.shown ∙ sym lamps;
           lit = ap lights_of h.latch ∙ sym there.shown;

@@ -15,7 +15,7 @@ use Rattle.joint_run.specs.Run.{Board, World}
 use Rattle.kbd_model.specs.Layers.{layered, all_layers_after}
 use Rattle.kbd_model.specs.Tick.{ticked}
 use Rattle.kbd_model.specs.declared.meeting.Meeting.{Meeting}
-use Rattle.pc_wires.specs.Wires.{Pc}
+use Rattle.ctl_wire.specs.Wires.{Pc}
 use Rattle.wires_agree.specs.Cycles.{board_cycles}
 
 -- the latch of port 2 from the lights on, where no frame drives it

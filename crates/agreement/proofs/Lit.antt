@@ -22,7 +22,7 @@ use Rattle.fw_logic.specs.Scan.{in_tick}
 use Rattle.mcs48_ranges.specs.Sizes.{IsByte}
 use Rattle.joint_run.specs.Joint.{Beside, joint_board, latch_of, lights_of}
 use Rattle.joint_run.specs.Run.{Board, World, after_cycles}
-use Rattle.pc_wires.specs.Wires.{Pc}
+use Rattle.ctl_wire.specs.Wires.{Pc}
 use Rattle.wires_agree.specs.Cycles.{board_cycles}
 use Rattle.agreement.proofs.Happened.{at_lights, at_look}
 

@@ -15,7 +15,7 @@ use Rattle.fw_logic.proofs.Blocks.{ticks_add}
 use Rattle.joint_run.specs.Joint.{Beside, joint_board, latch_of, lights_of}
 use Rattle.joint_run.specs.Run.{Board, World, after_cycles}
 use Rattle.kbd_model.specs.declared.meeting.Meeting.{Meeting}
-use Rattle.pc_wires.specs.Wires.{Pc}
+use Rattle.ctl_wire.specs.Wires.{Pc}
 use Rattle.wires_agree.proofs.CellByCell.{cycles_more}
 use Rattle.wires_agree.specs.Cycles.{board_cycles}
 use Rattle.wires_agree.specs.Ticks.{at_meeting}

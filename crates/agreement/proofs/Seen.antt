@@ -8,7 +8,7 @@ use Rattle.ctl_wire.specs.declared.wire.Wire.{Wire}
 use Rattle.ctl_wire.specs.Wire.{drive}
 use Rattle.fw_link.proofs.Wired.{IsReleased}
 use Rattle.joint_run.specs.Joint.{latch_of}
-use Rattle.pc_wires.specs.Wires.{Pc}
+use Rattle.ctl_wire.specs.Wires.{Pc}
 use Rattle.wires_agree.proofs.Meetings.{free_or_pulls, requests}
 use Rattle.wires_agree.specs.Cycles.{board_cycles}
 

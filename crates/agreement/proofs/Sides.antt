@@ -13,7 +13,7 @@ use Rattle.joint_run.specs.Joint.{Beside, latch_of, lights_of}
 use Rattle.joint_run.specs.Run.{World}
 use Rattle.link_model.specs.Expected.{Whole, to_look, to_meeting, from_meeting, begins_from, meeting_from}
 use Rattle.link_model.specs.Machine.{KeyboardMachine}
-use Rattle.pc_wires.specs.Wires.{Pc}
+use Rattle.ctl_wire.specs.Wires.{Pc}
 use Rattle.wires_agree.proofs.Between.{between}
 use Rattle.wires_agree.specs.Cycles.{board_cycles}
 use Rattle.wires_agree.specs.Ticks.{Ticked, from_look}

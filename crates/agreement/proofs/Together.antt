@@ -21,7 +21,7 @@ use Rattle.fw_link.proofs.Wired.{IsReleased}
 use Rattle.fw_link.specs.Latch.{Frame, NoFrame, SentFrame, CutFrame, ReceivedFrame, IsLook, tick_latch}
 use Rattle.joint_run.specs.Joint.{Beside, joint_board, lights_of}
 use Rattle.joint_run.specs.Run.{World}
-use Rattle.pc_wires.specs.Wires.{Pc}
+use Rattle.ctl_wire.specs.Wires.{Pc}
 use Rattle.wires_agree.proofs.Meetings.{free_at, request_at}
 use Rattle.wires_agree.proofs.Spans.{IsAt}
 use Rattle.wires_agree.specs.Ticks.{at_meeting}

@@ -31,7 +31,7 @@ use Rattle.kbd_model.proofs.CodesAreWhole.{IsWhole}
 use Rattle.kbd_model.specs.Keyboard.{Keyboard, offer}
 use Rattle.kbd_model.specs.declared.meeting.Meeting.{Meeting}
 use Rattle.kbd_model.specs.declared.meeting.Meeting.TheVariants.{Idle, Inhibited, Sent, Cut, Got}
-use Rattle.pc_wires.specs.Wires.{Pc}
+use Rattle.ctl_wire.specs.Wires.{Pc}
 use Rattle.wires_agree.proofs.Got.{frame_shown}
 use Rattle.wires_agree.proofs.Meetings.{request_at, requests}
 use Rattle.wires_agree.proofs.Spans.{IsAt}

@@ -28,7 +28,7 @@ use Rattle.link_model.specs.Expected.{meeting_from, whole_at}
 use Rattle.link_model.specs.Machine.{KeyboardMachine, keyboard}
 use Rattle.mcs48_core.specs.Cpu.{Cpu}
 use Rattle.mcs48_ranges.specs.Sizes.{IsFine}
-use Rattle.pc_wires.specs.Wires.{Pc}
+use Rattle.ctl_wire.specs.Wires.{Pc}
 use Rattle.agreement.specs.Agreement.{switched_on}
 
 -- the frame of a tick with this meeting, if the keyboard offers this byte: the byte that is sent; the byte offered,

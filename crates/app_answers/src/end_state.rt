@@ -5,9 +5,9 @@ ghost use Rattle.io_edge.specs.Said.{IsBrokenOff, IsSaid};
 ghost use Rattle.mcs48_core.specs.StateText.{state_text_of};
 
 use arrayvec::ArrayVec;
+use hex_text::append;
 use io_edge::{Sink, SinkFault, say};
 use mcs48_core::{Mcu, state_line};
-use short_text::append;
 
 /// The five lines of the state at a run's end.
 fn end_lines(end: &Mcu, steps: u64, cycles: u64) -> ArrayVec<u8, 320>

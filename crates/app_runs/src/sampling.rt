@@ -18,10 +18,10 @@ use app_words::Refusal;
 use arrayvec::ArrayVec;
 use board_probes::Probe;
 use board_terms::{Edge, HostAct, HostEvent, Place};
+use hex_text::{append, begun};
 use io_edge::{DropSink, Sink, say};
 use key_file::{Feed, History, ListFeed};
 use layout_reader::us84_layout;
-use short_text::{append, begun};
 use std::alloc::{AllocError, Global};
 use subsystem::{Counts, Ended, Engine, runs_are_expected};
 

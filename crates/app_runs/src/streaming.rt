@@ -18,10 +18,10 @@ use app_answers::{Spoken, events_in, put_end};
 use app_words::Refusal;
 use arrayvec::ArrayVec;
 use board_probes::Probe;
+use hex_text::{append, begun};
 use io_edge::{Sink, SinkFault, say};
 use key_file::Feed;
 use layout_reader::Layout;
-use short_text::{append, begun};
 use std::alloc::Global;
 use subsystem::{Engine, runs_are_expected};
 

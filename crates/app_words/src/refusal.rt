@@ -8,9 +8,9 @@ ghost use Rattle.app_words.specs.Refusals.{exit_of, fault_line, line_of, timing_
 use crate::exit::Exit;
 use crate::kind::Kind;
 use arrayvec::ArrayVec;
+use hex_text::{append, begun};
 use hexfile::HexFault;
 use mcs48_core::Stuck;
-use short_text::{append, begun};
 
 /// Why a call printed one line in place of its text.
 #[derive(Clone, Copy, Debug, Drop)]

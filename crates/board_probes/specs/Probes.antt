@@ -9,7 +9,7 @@ use Rattle.joint_run.specs.Run.{World}
 use Rattle.joint_run.specs.declared.machine.Machine.{Machine}
 use Rattle.mcs48_core.specs.Cpu.{Cpu}
 use Rattle.mcs48_core.specs.Registers.{register}
-use Rattle.pc_wires.specs.Wires.{wires}
+use Rattle.ctl_wire.specs.Wires.{wires}
 use Rattle.board_probes.specs.declared.heard.Transfer.{Transfer}
 use Rattle.board_probes.specs.declared.tally.Arms.{Arms}
 use Rattle.board_probes.specs.Tallies.{Counted, noted}

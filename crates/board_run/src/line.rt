@@ -6,10 +6,10 @@ ghost use Rattle.io_edge.specs.Said.{IsBrokenOff, IsSaid};
 ghost use Rattle.story_run.specs.Running.{AreIn};
 
 use arrayvec::ArrayVec;
+use hex_text::{append, begun};
 use host_turn::Stamped;
 use io_edge::{Sink, SinkFault, say};
 use pc_tables::item_line;
-use short_text::{append, begun};
 
 /// The cycle of stamp 0.
 const FIRST_STAMP: u64 = 4_096;

@@ -1,3 +1,4 @@
 pub mod Cycles
 pub mod Pulls
 pub mod Wire
+pub mod Wires

@@ -13,7 +13,7 @@ use Rattle.host_turn.specs.Run.{lights_said}
 use Rattle.joint_run.specs.Joint.{Beside, latch_of, lights_of, joint_cycle, joint_pins, joint_board}
 use Rattle.joint_run.specs.Run.{Board}
 use Rattle.mcs48_core.specs.declared.levels.Pins.{Pins}
-use Rattle.pc_wires.specs.Wires.{board_cycle}
+use Rattle.ctl_wire.specs.Wires.{board_cycle}
 use Rattle.wires_agree.specs.Cycles.{board_cycles}
 
 none_said : (now shown lights : ℕ) → lights ≡ shown → lights_said now shown lights ≡ []

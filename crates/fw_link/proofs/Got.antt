@@ -29,7 +29,7 @@ use Rattle.fw_link.proofs.Wires.{Drives}
 use Rattle.fw_link.proofs.WiresGot.{received_lights, received_is_frame, received_bit}
 use Rattle.joint_run.specs.Joint.{Beside, lights_of}
 use Rattle.joint_run.specs.Run.{Board}
-use Rattle.pc_wires.specs.Wires.{Pc}
+use Rattle.ctl_wire.specs.Wires.{Pc}
 use Rattle.wires_agree.proofs.Got.{frame_shown}
 use Rattle.wires_agree.proofs.CellByCell.{cycles_more}
 use Rattle.wires_agree.specs.Cycles.{board_cycles}

@@ -9,7 +9,7 @@ use Rattle.ctl_link.specs.declared.link.Link.{Link}
 use Rattle.ctl_link.specs.declared.link.Link.TheVariants.{Free, Hold, Ask, Request, Busy}
 use Rattle.ctl_wire.specs.declared.wire.Wire.{Wire}
 use Rattle.ctl_wire.specs.Wire.{drive}
-use Rattle.pc_wires.specs.Wires.{Pc}
+use Rattle.ctl_wire.specs.Wires.{Pc}
 use Rattle.wires_agree.proofs.Meetings.{request_at, free_or_pulls}
 use Rattle.wires_agree.proofs.Pulls.{pulled_span}
 use Rattle.wires_agree.proofs.Spans.{IsAt}

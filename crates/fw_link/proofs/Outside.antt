@@ -15,7 +15,7 @@ use Rattle.fw_link.proofs.WiresGot.{received_is_frame, received_before, received
 use Rattle.host_turn.specs.Run.{says_lights}
 use Rattle.joint_run.specs.Joint.{Beside, latch_of, lights_of, joint_cycle, joint_board}
 use Rattle.joint_run.specs.Run.{after_cycles}
-use Rattle.pc_wires.specs.Wires.{Pc, board_cycle}
+use Rattle.ctl_wire.specs.Wires.{Pc, board_cycle}
 use Rattle.wires_agree.specs.Cells.{IsUp, IsFrame}
 use Rattle.wires_agree.specs.Cycles.{board_cycles}
 use Rattle.wires_agree.specs.Ticks.{EndsFrame}

@@ -25,7 +25,7 @@ use Rattle.fw_link.proofs.Wires.{Drives, look_up, look_within}
 use Rattle.fw_link.proofs.WiresGot.{sent_lights, cut_lights}
 use Rattle.joint_run.specs.Joint.{Beside, latch_of, lights_of}
 use Rattle.joint_run.specs.Run.{Board}
-use Rattle.pc_wires.specs.Wires.{Pc}
+use Rattle.ctl_wire.specs.Wires.{Pc}
 use Rattle.wires_agree.specs.Cycles.{board_cycles}
 
 module _ (edges : List Edge) (events : List HostEvent) (d : Board) (to : d.State → Beside)

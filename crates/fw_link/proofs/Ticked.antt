@@ -19,7 +19,7 @@ use Rattle.fw_link.proofs.Wires.{look_within}
 use Rattle.fw_link.proofs.Lets.{lets_at}
 use Rattle.fw_link.proofs.WiresGot.{received_bit}
 use Rattle.joint_run.specs.Joint.{latch_of}
-use Rattle.pc_wires.specs.Wires.{Pc}
+use Rattle.ctl_wire.specs.Wires.{Pc}
 use Rattle.wires_agree.proofs.Looked.{all_sent, all_got, all_cut, all_still}
 use Rattle.wires_agree.proofs.Start.{byte_of_bits}
 use Rattle.wires_agree.specs.Cells.{IsUp}

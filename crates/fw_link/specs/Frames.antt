@@ -13,7 +13,7 @@ use Rattle.joint_run.specs.Joint.{Beside, latch_of, lights_of, joint_board}
 use Rattle.joint_run.specs.Run.{World}
 use Rattle.fw_link.specs.Drives.{Drives}
 use Rattle.bits.specs.Bits.{bit}
-use Rattle.pc_wires.specs.Wires.{Pc}
+use Rattle.ctl_wire.specs.Wires.{Pc}
 use Rattle.wires_agree.specs.Cycles.{board_cycles}
 use Rattle.fw_link.specs.Latch.{IsLook, sent_latch, cut_latch, cut_after, received_latch}
 

@@ -1,11 +1,16 @@
 //! Numbers as upper-case hexadecimal digits, as every text of the program writes them, and the value of a digit of
 //! either case, if one is read. Our own.
 //!
-//! This layer knows digits. It knows no line, no format and no file.
+//! Texts of bounded length, which take no memory, are made of pieces (`pieces`). This layer knows digits and bytes. It knows
+//! no line, no format and no file.
 #![tactic(auto)]
 
 ghost use Rattle.std.specs.Prelude.{◌≡◌, ◌<◌, Some, IfSome};
 ghost use Rattle.hex_text.specs.Digits.{hex_digit, digit_value, hex_byte, hex_address, hex_word};
+
+mod pieces;
+
+pub use pieces::{append, begun};
 
 /// The character of a digit below 16: `0` to `9`, then `A` to `F`. Its value is the number again.
 pub fn digit(value: u8) -> u8

@@ -9,9 +9,9 @@ ghost use Rattle.joint_bytes.specs.Lists.{item_bytes, item_in, items_bytes, item
 
 use crate::numbers::{number_at, word_at};
 use arrayvec::ArrayVec;
+use hex_text::append;
 use host_turn::Stamped;
 use pc_tables::Item;
-use short_text::append;
 
 /// The kind of an item, as a number.
 pub fn item_kind(item: Item) -> u8

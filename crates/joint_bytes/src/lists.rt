@@ -7,7 +7,7 @@ ghost use Rattle.joint_bytes.specs.Lists.{edge_bytes, edge_in, edges_bytes, edge
 use crate::numbers::{number_at, truth_at, word_at};
 use arrayvec::ArrayVec;
 use board_terms::{Edge, Place};
-use short_text::append;
+use hex_text::append;
 
 /// Appends the places for words.
 pub fn push_words(bytes: &mut ArrayVec<u8, 3077>, words: &[u16], places: usize)

@@ -14,7 +14,7 @@ use Rattle.joint_run.specs.declared.machine.Machine.{Machine}
 use Rattle.joint_run.specs.Due.{due_board, due_step, world_of}
 use Rattle.joint_run.specs.Joint.{Beside, joint_cycle, latch_of, lights_of}
 use Rattle.joint_run.specs.Run.{World, after_step, seen, after_cycles}
-use Rattle.pc_wires.specs.Wires.{Pc, board_cycle, looked, wires}
+use Rattle.ctl_wire.specs.Wires.{Pc, board_cycle, looked, wires}
 use Rattle.joint_run.specs.Due.{made_first}
 
 pub made_few : (cycle : ℕ) (edges : List Edge) → length (made_first cycle edges) ≤ length edges

@@ -9,7 +9,7 @@ use Rattle.board_terms.specs.Matrix.{turned_by}
 use Rattle.mcs48_core.specs.Cpu.{Cpu}
 use Rattle.mcs48_core.specs.Step.{Stepped, stepped, IsStep}
 use Rattle.mcs48_core.specs.declared.stepping.Stuck.{Stuck}
-use Rattle.pc_wires.specs.Wires.{wires}
+use Rattle.ctl_wire.specs.Wires.{wires}
 use Rattle.joint_run.specs.Run.{after_step}
 use Rattle.joint_run.specs.Joint.{Beside, joint_cycle, latch_of, pins_by}
 use Rattle.joint_run.specs.Cycle.{Passed, outside_wires}

@@ -12,7 +12,7 @@ use Rattle.host_turn.specs.declared.stamped.Stamped.{Stamped}
 use Rattle.host_turn.specs.Cycle.{Cycled, cycled}
 use Rattle.host_turn.specs.Run.{Side, desk_of, goes_on, lights_said, stamped, with_cycled}
 use Rattle.joint_run.specs.declared.outside.Outside.{Outside}
-use Rattle.pc_wires.specs.Wires.{board_cycle}
+use Rattle.ctl_wire.specs.Wires.{board_cycle}
 use Rattle.joint_run.specs.Joint.{lights_of, joint_cycle}
 use Rattle.joint_run.specs.Due.{beside, passed}
 use mir.Val.{bool_byte}

@@ -20,7 +20,7 @@ use Rattle.host_turn.specs.Run.{lights_said, stamped}
 use Rattle.host_turn.proofs.Rest.{rests}
 use Rattle.pc_tables.specs.declared.item.Item.TheVariants.{Lights}
 use Rattle.joint_run.specs.declared.outside.Outside.{Outside}
-use Rattle.pc_wires.specs.Wires.{joined}
+use Rattle.ctl_wire.specs.Wires.{joined}
 use Rattle.joint_run.specs.Joint.{Beside, latch_of, lights_of, joint_cycle}
 use Rattle.joint_run.specs.Due.{beside, passed}
 use Rattle.joint_run.specs.Cycle.{Passed, is_quiet, looked_outside, outside_cycle}

@@ -11,7 +11,7 @@ use Rattle.host_turn.specs.Cycle.{Cycled, cycled}
 use Rattle.host_turn.specs.Rest.{is_at_rest, is_due, is_free}
 use Rattle.host_turn.specs.Run.{lights_said, stamped}
 use Rattle.joint_run.specs.declared.outside.Outside.{Outside}
-use Rattle.pc_wires.specs.Wires.{joined}
+use Rattle.ctl_wire.specs.Wires.{joined}
 use Rattle.joint_run.specs.Joint.{latch_of, lights_of}
 
 -- the wires, with what port 2 drives

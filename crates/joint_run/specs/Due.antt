@@ -19,7 +19,7 @@ use Rattle.joint_run.specs.declared.due.Due.{Due}
 use Rattle.joint_run.specs.declared.due.Seen.{Seen}
 use Rattle.joint_run.specs.declared.machine.Machine.{Machine}
 use Rattle.joint_run.specs.declared.outside.Outside.{Outside}
-use Rattle.pc_wires.specs.Wires.{wires}
+use Rattle.ctl_wire.specs.Wires.{wires}
 use Rattle.joint_run.specs.Run.{Board, World, after_cycles, joint_step}
 use Rattle.joint_run.specs.Joint.{Beside, latch_of, pins_by, joint_cycle}
 

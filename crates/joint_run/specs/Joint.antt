@@ -12,7 +12,7 @@ use Rattle.mcs48_core.specs.declared.levels.Pins.{Pins}
 use Rattle.mcs48_core.specs.Cpu.{Cpu}
 use Rattle.mcs48_core.specs.Reset.{reset_cpu, reset_in}
 use Rattle.bits.specs.Bits.{bit}
-use Rattle.pc_wires.specs.Wires.{Pc, pc_at_start, wires, board_cycle}
+use Rattle.ctl_wire.specs.Wires.{Pc, pc_at_start, wires, board_cycle}
 use Rattle.joint_run.specs.Run.{Board, World}
 
 -- what is beside the processor: the PC's side of the wires, and the lights that the keyboard shows

@@ -8,7 +8,7 @@ ghost use Rattle.host_turn.specs.Cycle.{cycled};
 ghost use Rattle.host_turn.specs.Run.{lights_said, stamped};
 ghost use Rattle.joint_run.specs.Due.{HasPassed, outside_at_start};
 ghost use Rattle.joint_run.specs.Joint.{lights_of, latch_of};
-ghost use Rattle.pc_wires.specs.Wires.{joined};
+ghost use Rattle.ctl_wire.specs.Wires.{joined};
 ghost use Rattle.joint_run.specs.Cycle.{is_let_go, is_quiet, looked_outside, outside_cycle, outside_wires};
 
 use arrayvec::ArrayVec;

@@ -4,7 +4,7 @@ use Rattle.std.specs.declared.result.Result.{Result}
 use Rattle.board_terms.specs.declared.event.HostAct.{HostAct}
 use Rattle.board_terms.specs.declared.event.HostAct.TheVariants.{Take, Write60, Write64}
 use Rattle.joint_run.specs.Joint.{latch_of}
-use Rattle.pc_wires.specs.Wires.{wires}
+use Rattle.ctl_wire.specs.Wires.{wires}
 use Rattle.live_board.specs.Answers.{ItemAnswer}
 use Rattle.live_board.specs.Calls.{IsActed, IsKeyed, GivesFirst}
 use Rattle.live_board.specs.Heard.{HasKeptAll, IsKeptLog}

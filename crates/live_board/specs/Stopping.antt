@@ -8,7 +8,7 @@ use Rattle.joint_feed.specs.Stories.{state_at}
 use Rattle.joint_run.specs.Cycle.{outside_wires}
 use Rattle.joint_run.specs.Joint.{Beside, latch_of, log_of}
 use Rattle.joint_run.specs.Run.{World}
-use Rattle.pc_wires.specs.Wires.{wires}
+use Rattle.ctl_wire.specs.Wires.{wires}
 use Rattle.live_board.specs.Calls.{place_of}
 use Rattle.live_board.specs.Pasts.{Past, gone_on, state_of, story_of}
 use Rattle.live_board.specs.Rising.{irq_of, rose}

@@ -3,7 +3,7 @@
 ghost use Rattle.std.specs.Prelude.{◌≡◌, ◌≤◌, length};
 ghost use Rattle.board_terms.specs.Matrix.{rows_of};
 ghost use Rattle.joint_run.specs.Joint.{latch_of};
-ghost use Rattle.pc_wires.specs.Wires.{wires};
+ghost use Rattle.ctl_wire.specs.Wires.{wires};
 ghost use Rattle.live_board.specs.Answers.{line_in, raises};
 ghost use Rattle.live_board.specs.Calls.{place_of};
 ghost use Rattle.live_board.specs.Looks.{registers_of};

@@ -7,7 +7,7 @@ ghost use Rattle.mcs48_core.specs.StateText.{latch_line, register_line, count_li
 
 use crate::processor::{Count, Mcu};
 use arrayvec::ArrayVec;
-use short_text::append;
+use hex_text::append;
 use std::alloc::{AllocError, Global};
 
 /// A flag as a digit.

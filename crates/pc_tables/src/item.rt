@@ -4,7 +4,7 @@ ghost use Rattle.std.specs.Prelude.{◌≡◌, ◌+◌, ◌≤◌, ◌++◌, len
 ghost use Rattle.pc_tables.specs.Items.{line_of, text_of};
 
 use arrayvec::ArrayVec;
-use short_text::{append, begun};
+use hex_text::{append, begun};
 use std::alloc::{AllocError, Global};
 
 /// One thing that the log says.

@@ -95,7 +95,7 @@ fn probes_ride_on_run_and_expect_alone(rt: HostRuntime) -> Result<(), Fail> {
         assert_eq!(rt; outcome.exit, case.exit);
         assert!(rt; probes.len() == 1);
         for probe in &probes {
-            assert!(rt; case.has(&probe.report()));
+            assert!(rt; case.has(&probe.tell()));
         }
     }
     Ok(())

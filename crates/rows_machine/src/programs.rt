@@ -170,7 +170,7 @@ fn it_ends_before_the_step_at_the_end_stamp(rt: HostRuntime) -> Result<(), Fail>
     // 1,365 turns of two steps and three cycles, and one cycle more
     assert!(rt; ended.cycles() == 4096 && ended.steps() == 2731);
     for probe in probes.iter() {
-        assert!(rt; probe.report().count == 1366);
+        assert!(rt; probe.tell().count == 1366);
     }
     Ok(())
 }

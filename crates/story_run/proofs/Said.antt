@@ -13,7 +13,7 @@ use Rattle.host_turn.specs.Cycle.{Cycled, cycled}
 use Rattle.host_turn.specs.Run.{desk_of, goes_on, lights_said, says_lights, stamped}
 use Rattle.pc_tables.specs.declared.item.Item.{Item}
 use Rattle.mcs48_core.specs.Step.{Stepped, stepped}
-use Rattle.pc_wires.specs.Wires.{Pc, board_cycle, looked, wires}
+use Rattle.ctl_wire.specs.Wires.{Pc, board_cycle, looked, wires}
 use Rattle.joint_run.specs.Joint.{Beside, joint_board, joint_cycle, latch_of, lights_of, log_of}
 use Rattle.joint_run.specs.Run.{World, after_step, joint_step, seen, after_cycles}
 use Rattle.story_run.specs.Running.{AreIn}

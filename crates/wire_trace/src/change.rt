@@ -7,7 +7,7 @@ ghost use Rattle.wire_trace.specs.Text.{change_text, comment, differ, level_text
 use arrayvec::ArrayVec;
 use board_probes::Transfer;
 use board_terms::Lines;
-use short_text::{append, begun};
+use hex_text::{append, begun};
 
 /// The lines of one sample. None has more.
 pub(crate) type ChangeText = ArrayVec<u8, 80>;

@@ -16,7 +16,7 @@ use Rattle.board_terms.specs.Frame.{byte_of}
 use Rattle.ctl_wire.specs.declared.wire.Wire.{Wire}
 use Rattle.ctl_wire.specs.declared.wire.Wire.TheVariants.{Recv}
 use Rattle.ctl_wire.specs.Wire.{edge_at, turned, is_breakable}
-use Rattle.pc_wires.specs.Wires.{Pc, board_cycle}
+use Rattle.ctl_wire.specs.Wires.{Pc, board_cycle}
 use Rattle.byte_time.specs.declared.UnderWay.{UnderWay}
 use Rattle.byte_time.specs.ByteTime.{quietly, byte_cycle, happened_at, closed, Quiet, Begins, Closes}
 use Rattle.byte_time.specs.ByteTime.{Arrives, arrived_in, arriving, sends, is_open}

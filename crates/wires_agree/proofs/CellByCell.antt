@@ -13,7 +13,7 @@ use Rattle.host_turn.specs.Run.{Side}
 use Rattle.board_terms.specs.declared.lines.Lines.{Lines}
 use Rattle.ctl_wire.specs.declared.wire.Wire.{Wire}
 use Rattle.ctl_wire.specs.Wire.{edge_at, drive, is_breakable}
-use Rattle.pc_wires.specs.Wires.{Pc, board_cycle}
+use Rattle.ctl_wire.specs.Wires.{Pc, board_cycle}
 use Rattle.byte_time.specs.declared.UnderWay.{UnderWay}
 use Rattle.byte_time.specs.ByteTime.{quietly, byte_cycle, happened_at, Begins}
 use Rattle.byte_time.proofs.Quiet.{quiet_more}

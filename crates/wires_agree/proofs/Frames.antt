@@ -9,7 +9,7 @@ use Rattle.host_turn.specs.Run.{Side, goes_on}
 use Rattle.board_terms.specs.declared.lines.Lines.{Lines}
 use Rattle.ctl_wire.specs.declared.wire.Wire.{Wire}
 use Rattle.ctl_wire.specs.Wire.{edge_at, drive, is_breakable}
-use Rattle.pc_wires.specs.Wires.{Pc, board_cycle, looked, wires}
+use Rattle.ctl_wire.specs.Wires.{Pc, board_cycle, looked, wires}
 use Rattle.byte_time.specs.declared.UnderWay.{UnderWay}
 use Rattle.byte_time.specs.ByteTime.{quietly, byte_cycle, happened_at, Event, is_open}
 use Rattle.wires_agree.specs.Without.{seen_in_bytes, without_bits, port_by}

@@ -12,7 +12,7 @@ use Rattle.ctl_link.specs.declared.port.LinkEnd.{LinkEnd}
 use Rattle.ctl_wire.specs.declared.wire.Wire.{Wire}
 use Rattle.ctl_wire.specs.declared.wire.Wire.TheVariants.{Recv}
 use Rattle.ctl_wire.proofs.Pulls.{pulled_is_low}
-use Rattle.pc_wires.specs.Wires.{Pc}
+use Rattle.ctl_wire.specs.Wires.{Pc}
 use Rattle.wires_agree.specs.Cells.{IsFrame, IsDown, bits_to}
 use Rattle.wires_agree.specs.Cycles.{board_cycles}
 use Rattle.wires_agree.specs.InFrame.{up_to, lets_look, SentInBytes, GotInBytes, SentEndsInBytes, GotEndsInBytes}

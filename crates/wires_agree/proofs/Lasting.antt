@@ -9,7 +9,7 @@ use Rattle.ctl_wire.proofs.Pulls.{OrNow, look_begins, breaks_once, high_is_none,
 use Rattle.host_turn.specs.Run.{Side, goes_on}
 use Rattle.host_turn.specs.Cycle.{port_by}
 use Rattle.host_turn.proofs.Turns.{turn_of}
-use Rattle.pc_wires.specs.Wires.{Pc, board_cycle, looked, wires}
+use Rattle.ctl_wire.specs.Wires.{Pc, board_cycle, looked, wires}
 use Rattle.wires_agree.specs.Cycles.{board_cycles}
 use Rattle.wires_agree.specs.Laws.{PullsLast}
 use Rattle.wires_agree.proofs.Pulls.{pulled_span}

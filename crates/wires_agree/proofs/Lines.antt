@@ -2,7 +2,7 @@
 use Rattle.std.proofs.Common.{◌≡◌, ℕ, suc, zero, ◌+◌, ◌≤◌, ◌<◌, List, refl, ap, ◌∙◌, arith}
 use Rattle.board_terms.specs.declared.event.HostEvent.{HostEvent}
 use Rattle.board_terms.specs.declared.lines.Lines.{Lines}
-use Rattle.pc_wires.specs.Wires.{Pc, board_cycle}
+use Rattle.ctl_wire.specs.Wires.{Pc, board_cycle}
 use Rattle.wires_agree.specs.Cycles.{board_cycles}
 
 pub same_lines : (events : List HostEvent) (one other : ℕ → Lines) (n now : ℕ) (b : Pc)

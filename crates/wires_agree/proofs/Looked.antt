@@ -8,7 +8,7 @@ use Rattle.host_turn.specs.Run.{Side}
 use Rattle.board_terms.specs.declared.lines.Lines.{Lines}
 use Rattle.board_terms.specs.Frame.{byte_of}
 use Rattle.ctl_wire.specs.declared.wire.Wire.TheVariants.{Recv}
-use Rattle.pc_wires.specs.Wires.{Pc}
+use Rattle.ctl_wire.specs.Wires.{Pc}
 use Rattle.byte_time.specs.declared.UnderWay.{UnderWay}
 use Rattle.byte_time.specs.ByteTime.{quietly, carried, meeting_in, meeting_of, ended_as, sent_or_cut}
 use Rattle.byte_time.specs.declared.meeting.Meeting.{Meeting}

@@ -14,7 +14,7 @@ use Rattle.host_turn.proofs.Turns.{turn_of}
 use Rattle.board_terms.specs.declared.lines.Lines.{Lines}
 use Rattle.ctl_wire.specs.declared.wire.Wire.{Wire}
 use Rattle.ctl_wire.specs.Wire.{drive, is_breakable}
-use Rattle.pc_wires.specs.Wires.{Pc, board_cycle}
+use Rattle.ctl_wire.specs.Wires.{Pc, board_cycle}
 use Rattle.byte_time.specs.declared.UnderWay.{UnderWay}
 use Rattle.byte_time.specs.ByteTime.{quietly, carried, ended_as, meeting_of}
 use Rattle.byte_time.specs.declared.meeting.Meeting.{Meeting}

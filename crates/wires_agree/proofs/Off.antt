@@ -13,7 +13,7 @@ use Rattle.ctl_wire.specs.declared.wire.Wire.{Wire}
 use Rattle.ctl_wire.specs.declared.wire.Wire.TheVariants.{Recv}
 use Rattle.ctl_wire.specs.Wire.{drive}
 use Rattle.ctl_wire.proofs.Pulls.{pulled_is_low}
-use Rattle.pc_wires.specs.Wires.{Pc}
+use Rattle.ctl_wire.specs.Wires.{Pc}
 use Rattle.byte_time.specs.declared.UnderWay.{UnderWay}
 use Rattle.byte_time.specs.declared.meeting.Meeting.TheVariants.{Sent, Cut}
 use Rattle.byte_time.specs.ByteTime.{sent_or_cut}

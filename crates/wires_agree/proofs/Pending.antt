@@ -21,7 +21,7 @@ use Rattle.host_turn.specs.Cycle.{port_by, host_of}
 use Rattle.host_turn.specs.Host.{Host, turn, acted, acted_where, event_turn, interrupts, read_by_bios, in_silence, is_done}
 use Rattle.host_turn.specs.Run.{Side, goes_on, desk_of}
 use Rattle.host_turn.proofs.Turns.{turn_of}
-use Rattle.pc_wires.specs.Wires.{Pc, board_cycle, looked, wires}
+use Rattle.ctl_wire.specs.Wires.{Pc, board_cycle, looked, wires}
 use Rattle.wires_agree.specs.Flips.{IsFlip, FlipsStay}
 
 -- either way

@@ -13,7 +13,7 @@ use Rattle.ctl_wire.proofs.Pulls.{look_keeps}
 use Rattle.host_turn.specs.Run.{Side, goes_on}
 use Rattle.host_turn.proofs.Turns.{turn_of}
 use Rattle.host_turn.specs.Cycle.{port_by}
-use Rattle.pc_wires.specs.Wires.{Pc, board_cycle, looked, wires}
+use Rattle.ctl_wire.specs.Wires.{Pc, board_cycle, looked, wires}
 use Rattle.ctl_wire.specs.Wire.{is_breakable}
 use Rattle.byte_time.specs.ByteTime.{quietly}
 use Rattle.wires_agree.specs.Without.{seen_in_bytes}

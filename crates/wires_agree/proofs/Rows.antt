@@ -10,7 +10,7 @@ use Rattle.ctl_link.specs.declared.link.Link.TheVariants.{Hold, Request}
 use Rattle.host_turn.specs.Run.{Side, side_at_start, goes_on}
 use Rattle.board_terms.specs.declared.lines.Lines.{Lines}
 use Rattle.board_terms.specs.Frame.{frame_bits, byte_of}
-use Rattle.pc_wires.specs.Wires.{board_cycle, pc_at_start}
+use Rattle.ctl_wire.specs.Wires.{board_cycle, pc_at_start}
 use Rattle.byte_time.specs.ByteTime.{byte_cycle, quietly, carried, meeting_in}
 use Rattle.byte_time.specs.declared.UnderWay.{UnderWay}
 use Rattle.ctl_core.specs.ScanCodes.{scan_codes, translated}

@@ -13,7 +13,7 @@ use Rattle.board_terms.specs.declared.lines.Lines.{Lines}
 use Rattle.board_terms.specs.Frame.{frame_bits, byte_of}
 use Rattle.board_terms.proofs.Frames.{read_back}
 use Rattle.ctl_wire.specs.declared.wire.Wire.{Wire}
-use Rattle.pc_wires.specs.Wires.{board_cycle, pc_at_start}
+use Rattle.ctl_wire.specs.Wires.{board_cycle, pc_at_start}
 use Rattle.ctl_wire.specs.Wire.{is_breakable}
 use Rattle.wires_agree.specs.Cycles.{board_cycles}
 use Rattle.wires_agree.proofs.Spans.{board_by, clock_by}

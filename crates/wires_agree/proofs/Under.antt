@@ -4,7 +4,7 @@ use Rattle.ctl_link.specs.declared.link.Link.TheVariants.{Busy}
 use Rattle.board_terms.specs.declared.event.HostEvent.{HostEvent}
 use Rattle.board_terms.specs.declared.lines.Lines.{Lines}
 use Rattle.ctl_wire.specs.declared.wire.Wire.{Wire}
-use Rattle.pc_wires.specs.Wires.{Pc, board_cycle}
+use Rattle.ctl_wire.specs.Wires.{Pc, board_cycle}
 use Rattle.byte_time.specs.ByteTime.{quietly}
 use Rattle.wires_agree.specs.Without.{seen_in_bytes}
 use Rattle.wires_agree.specs.Cycles.{board_cycles}

@@ -3,7 +3,7 @@ use Rattle.std.specs.Prelude.{ℕ, List}
 use Rattle.std.proofs.Common.{zero, suc}
 use Rattle.board_terms.specs.declared.event.HostEvent.{HostEvent}
 use Rattle.board_terms.specs.declared.lines.Lines.{Lines}
-use Rattle.pc_wires.specs.Wires.{Pc, board_cycle}
+use Rattle.ctl_wire.specs.Wires.{Pc, board_cycle}
 
 -- n cycles from this one on, with what the keyboard drives in each
 abbrev pub board_cycles : List HostEvent → (ℕ → Lines) → ℕ → ℕ → Pc → Pc

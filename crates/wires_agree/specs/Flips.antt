@@ -7,7 +7,7 @@ use Rattle.board_terms.specs.Flips.{IsDataOrParity, AreFlips}
 use Rattle.board_terms.specs.Frame.{byte_of}
 use Rattle.ctl_wire.specs.Wire.{turned}
 use Rattle.byte_time.specs.ByteTime.{arriving}
-use Rattle.pc_wires.specs.Wires.{Pc}
+use Rattle.ctl_wire.specs.Wires.{Pc}
 use Rattle.wires_agree.specs.Cells.{bits_to}
 use Rattle.wires_agree.specs.Cycles.{board_cycles}
 

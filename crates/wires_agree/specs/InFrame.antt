@@ -10,7 +10,7 @@ use Rattle.byte_time.specs.declared.meeting.Meeting.TheVariants.{Got, Sent}
 use Rattle.ctl_link.specs.declared.link.Link.TheVariants.{Free, Request}
 use Rattle.ctl_wire.specs.Wire.{drive}
 use Rattle.host_turn.specs.Run.{Side}
-use Rattle.pc_wires.specs.Wires.{Pc}
+use Rattle.ctl_wire.specs.Wires.{Pc}
 use Rattle.wires_agree.specs.Cells.{IsFrame, IsDown, bits_to}
 use Rattle.wires_agree.specs.Cycles.{board_cycles}
 use Rattle.wires_agree.specs.Flips.{IsFlip}

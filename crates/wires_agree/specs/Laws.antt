@@ -10,7 +10,7 @@ use Rattle.ctl_link.specs.declared.link.Link.TheVariants.{Request}
 use Rattle.ctl_wire.specs.declared.wire.Wire.{Wire}
 use Rattle.ctl_wire.specs.Wire.{drive, is_breakable}
 use Rattle.host_turn.specs.Run.{Side, goes_on}
-use Rattle.pc_wires.specs.Wires.{Pc, pc_at_start, board_cycle}
+use Rattle.ctl_wire.specs.Wires.{Pc, pc_at_start, board_cycle}
 use Rattle.byte_time.specs.ByteTime.{quietly, is_open}
 use Rattle.wires_agree.specs.Cells.{IsFrame}
 use Rattle.wires_agree.specs.Cycles.{board_cycles}

@@ -8,7 +8,7 @@ use Rattle.ctl_link.specs.Link.{is_busy}
 use Rattle.ctl_link.specs.declared.link.Link.TheVariants.{Free, Request}
 use Rattle.ctl_wire.specs.Wire.{drive}
 use Rattle.host_turn.specs.Run.{Side}
-use Rattle.pc_wires.specs.Wires.{Pc}
+use Rattle.ctl_wire.specs.Wires.{Pc}
 use Rattle.byte_time.specs.declared.UnderWay.{UnderWay}
 use Rattle.byte_time.specs.ByteTime.{quietly, carried, meeting_in, ended_as}
 use Rattle.byte_time.specs.declared.meeting.Meeting.{Meeting}

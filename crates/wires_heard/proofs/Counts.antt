@@ -16,7 +16,7 @@ use Rattle.ctl_wire.specs.declared.wire.Wire.{Wire}
 use Rattle.ctl_wire.specs.declared.wire.Wire.TheVariants.{Recv, Send}
 use Rattle.host_turn.specs.Run.{Side, goes_on, says_lights}
 use Rattle.joint_run.specs.Joint.{Beside, joint_cycle, latch_of, lights_of}
-use Rattle.pc_wires.specs.Wires.{Pc, board_cycle, looked, wires}
+use Rattle.ctl_wire.specs.Wires.{Pc, board_cycle, looked, wires}
 use Rattle.wires_agree.proofs.Between.{stays_free}
 use Rattle.wires_agree.proofs.Breaks.{busy_or_breaks}
 use Rattle.wires_heard.proofs.Pulls.{link_of}

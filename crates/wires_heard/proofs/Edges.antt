@@ -19,7 +19,7 @@ use Rattle.host_turn.proofs.Turns.{turn_of}
 use Rattle.host_turn.specs.Cycle.{port_by}
 use Rattle.host_turn.specs.Run.{Side, goes_on, says_lights}
 use Rattle.joint_run.specs.Joint.{Beside, joint_cycle, latch_of, lights_of}
-use Rattle.pc_wires.specs.Wires.{Pc, board_cycle, looked, wires}
+use Rattle.ctl_wire.specs.Wires.{Pc, board_cycle, looked, wires}
 use Rattle.wires_agree.proofs.Pulls.{stays_pulled}
 use Rattle.wires_agree.proofs.Spans.{and-true, board_by}
 

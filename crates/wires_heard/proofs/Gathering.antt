@@ -17,7 +17,7 @@ use Rattle.fw_link.specs.Latch.{Frame}
 use Rattle.joint_feed.specs.Stories.{Story, state_at}
 use Rattle.joint_run.specs.Joint.{Beside, latch_of}
 use Rattle.joint_run.specs.Run.{World}
-use Rattle.pc_wires.specs.Wires.{wires}
+use Rattle.ctl_wire.specs.Wires.{wires}
 use Rattle.wires_heard.proofs.CellFalls.{cell_falls, eleven_of, transfer_is, with_cell}
 use Rattle.wires_heard.proofs.Clock.{cells, clock_in, cell_begins, Fits, IsEdge}
 use Rattle.wires_heard.proofs.Ears.{last_is, high_low}

@@ -6,7 +6,7 @@ use Rattle.board_probes.specs.Transfers.{transfer_in}
 use Rattle.fw_link.proofs.Wired.{IsReleased}
 use Rattle.fw_link.specs.Latch.{Frame, NoFrame, SentFrame, CutFrame, ReceivedFrame, IsLook}
 use Rattle.joint_run.specs.Joint.{Beside, latch_of}
-use Rattle.pc_wires.specs.Wires.{wires}
+use Rattle.ctl_wire.specs.Wires.{wires}
 use Rattle.agreement.specs.Wires.{GoesWith}
 use Rattle.wires_heard.proofs.Clock.{cells, Fits}
 use Rattle.wires_heard.proofs.CellFalls.{eleven_of}

@@ -16,7 +16,7 @@ use Rattle.host_turn.specs.Run.{Side, goes_on, says_lights}
 use Rattle.joint_feed.specs.Stories.{Story, state_at}
 use Rattle.joint_run.specs.Joint.{Beside, joint_board, joint_cycle, latch_of, lights_of}
 use Rattle.joint_run.specs.Run.{World, after_cycles, step_on}
-use Rattle.pc_wires.specs.Wires.{Pc, board_cycle, looked, wires}
+use Rattle.ctl_wire.specs.Wires.{Pc, board_cycle, looked, wires}
 use Rattle.wires_agree.proofs.Pulls.{pulled_span}
 use Rattle.wires_heard.proofs.Steps.{StepOf, step_of}
 

@@ -19,7 +19,7 @@ use Rattle.fw_link.proofs.Wires.{data_of_latch}
 use Rattle.fw_link.proofs.WiresGot.{received_is_frame, received_bit}
 use Rattle.fw_link.specs.Latch.{ReceivedFrame, frame_bit, received_latch}
 use Rattle.joint_run.specs.Joint.{Beside, latch_of}
-use Rattle.pc_wires.specs.Wires.{Pc, board_cycle, wires}
+use Rattle.ctl_wire.specs.Wires.{Pc, board_cycle, wires}
 use Rattle.wires_agree.proofs.Got.{through, frame_shown}
 use Rattle.wires_agree.proofs.Spans.{IsAt}
 use Rattle.wires_agree.proofs.CellByCell.{cycles_more}

@@ -27,7 +27,7 @@ use Rattle.fw_link.proofs.Wires.{data_of_latch, sent_is_frame}
 use Rattle.fw_link.specs.Latch.{SentFrame, frame_bit, sent_latch}
 use Rattle.host_turn.specs.Run.{goes_on}
 use Rattle.joint_run.specs.Joint.{Beside, latch_of}
-use Rattle.pc_wires.specs.Wires.{Pc, board_cycle, wires}
+use Rattle.ctl_wire.specs.Wires.{Pc, board_cycle, wires}
 use Rattle.wires_agree.proofs.Frames.{cell}
 use Rattle.wires_agree.proofs.Spans.{IsAt, On, and-true}
 use Rattle.wires_agree.proofs.Ways.{IsWay, sent_way, afterwards_first}

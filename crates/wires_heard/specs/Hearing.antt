@@ -11,7 +11,7 @@ use Rattle.joint_run.specs.Run.{World}
 use Rattle.key_file.specs.Accepted.{IsLawfulFor}
 use Rattle.key_file.specs.Histories.{KeyHistory}
 use Rattle.layout_reader.specs.Layouts.{KeyLayout, IsKeyLayout}
-use Rattle.pc_wires.specs.Wires.{wires}
+use Rattle.ctl_wire.specs.Wires.{wires}
 use Rattle.wires_heard.specs.Passing.{passed_at, passed_to}
 
 -- the sample that a state is: the cycles that are done, and the wires after the last of them

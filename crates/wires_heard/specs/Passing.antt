@@ -13,7 +13,7 @@ use Rattle.board_probes.specs.declared.heard.Transfer.{Transfer}
 use Rattle.joint_feed.specs.Stories.{Story, state_at}
 use Rattle.joint_run.specs.Joint.{Beside, joint_cycle, latch_of}
 use Rattle.joint_run.specs.Run.{World}
-use Rattle.pc_wires.specs.Wires.{Pc, wires}
+use Rattle.ctl_wire.specs.Wires.{Pc, wires}
 
 -- the byte that a falling edge ends, with this level of data: it is the eleventh of its frame. The keyboard's byte is
 -- that of bits 1 to 8 as they were on the wires, whatever noise turns round; the controller's is the one that it sends

@@ -1,6 +1,6 @@
 use Rattle.std.proofs.Common.{◌≡◌, refl, subst, pos}
 use Rattle.joint_run.specs.Joint.{latch_of}
-use Rattle.pc_wires.specs.Wires.{wires}
+use Rattle.ctl_wire.specs.Wires.{wires}
 use Rattle.live_board.specs.Pasts.{Past}
 use Rattle.live_board.specs.States.{HasPast}
 use Rattle.kbd48_c.specs.Exports.{HasShownWires}

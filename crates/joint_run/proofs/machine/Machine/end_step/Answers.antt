@@ -1,5 +1,5 @@
 use Rattle.std.proofs.Common.{◌∷◌, [], refl, ap, ◌∙◌}
-use Rattle.pc_wires.specs.Wires.{wires}
+use Rattle.ctl_wire.specs.Wires.{wires}
 use Rattle.joint_run.specs.Due.{ended, machine_after, passed}
 use Rattle.joint_run.specs.Edgeless.{without_edges}
 use Rattle.joint_run.specs.Joint.{latch_of}

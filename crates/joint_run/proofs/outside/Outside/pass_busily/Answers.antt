@@ -1,7 +1,7 @@
 use Rattle.std.proofs.Common.{◌≡◌, ap, sym, ◌∙◌, arith}
 use Rattle.joint_run.specs.Due.{outside_of, passed}
 use Rattle.joint_run.specs.Joint.{latch_of, Beside}
-use Rattle.pc_wires.specs.Wires.{wires}
+use Rattle.ctl_wire.specs.Wires.{wires}
 use Rattle.joint_run.proofs.Passing.{pass_one, pass_two}
 use Rattle.joint_run.proofs.outside.Outside.pass_busily.Goals as goal
 

@@ -3,7 +3,7 @@ use Rattle.std.specs.Prelude.{slice_get}
 use Rattle.board_terms.specs.declared.lines.Lines.{Lines}
 use Rattle.joint_run.specs.Due.{beside, outside_of}
 use Rattle.joint_run.specs.Joint.{Beside, latch_of}
-use Rattle.pc_wires.specs.Wires.{wires}
+use Rattle.ctl_wire.specs.Wires.{wires}
 use Rattle.joint_run.proofs.Quiet.{IsQuiet, noted, quiet_parts, quiet_before, link_free, quiet_one, quiet_step, wires_free}
 use Rattle.joint_run.proofs.outside.Outside.pass_in_frame.Goals as goal
 

@@ -1,7 +1,4 @@
 //! Texts of bounded length, which take no memory: pieces that are appended to a list with room for them.
-//!
-//! This layer knows bytes. It knows no line and no format. Our own.
-#![tactic(auto)]
 
 ghost use Rattle.std.specs.Prelude.{◌≡◌, ◌+◌, ◌≤◌, ◌++◌, length};
 ghost use Rattle.arrayvec.specs.ArrayVec.{array_vec_len};
