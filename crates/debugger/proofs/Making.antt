@@ -144,7 +144,7 @@ advanced s left most rest old new r h thin order open_now room few alone g befor
           let none = alone f in
           let zero_steps : g.count ≡ 0 = omega (arith, cycle, within, none) in
           let still : g.last ≡ old.joint =
-          subst (λ k. Rattle.joint_glide.specs.Uneventful.AreQuiet old.ahead.due _ k old.joint g.last) zero_steps g.quiet in
+          subst (λ k. Rattle.joint_glide.specs.Uneventful.AreUneventful old.ahead.due _ k old.joint g.last) zero_steps g.quiet in
           subst (λ k. HasPassed s old before k g.last) (sym zero_steps) (not_yet s old before h open_now g.last still)
     ] refl in
     strode s left old new before g.count g.last (omega (arith, cycle, within, few)) counts.1 so_far r g.step g.later
