@@ -6,7 +6,7 @@
 #include <stdlib.h>
 #include <string.h>
 
-enum { SECOND = 400000, STROKE = 4000, KEPT = 64 };
+enum { SECOND = 400000, STROKE = 4000, SLICE = 64, EDGE = 4480, KEPT = 64 };
 
 static kbd48 keyboard = KBD48_EMPTY, other = KBD48_EMPTY;
 
@@ -39,6 +39,35 @@ static uint64_t strokes(uint64_t seconds, bool one_by_one) {
     return steps;
 }
 
+/* So many calls of 64 cycles. */
+static uint64_t slices(uint64_t count) {
+    for (uint64_t i = 0; i < count; i++) run(SLICE, false);
+    return count;
+}
+
+/* Runs with a queue, each for so many cycles, and before each an edge is pushed, if there are to be any. */
+static uint64_t keyed(uint64_t count, uint64_t cycles, bool pushed) {
+    static kbd48_keys keys = KBD48_NO_KEYS;
+    for (uint64_t i = 0; i < count; i++) {
+        uint64_t passed, now;
+        kbd48_spot spot;
+        need(kbd48_cycle(&keyboard, &now));
+        if (pushed) need(kbd48_queue_key(&keys, now, 34, i % 2 == 0));
+        need(kbd48_run_keys(&keyboard, &keys, cycles, false, &passed, &spot));
+    }
+    return count;
+}
+
+/* The same without a queue. */
+static uint64_t unkeyed(uint64_t count) {
+    for (uint64_t i = 0; i < count; i++) {
+        uint64_t now;
+        need(kbd48_cycle(&keyboard, &now));
+        run(1, false);
+    }
+    return count;
+}
+
 /* So many steps, up to which nothing happens that the mask asks for. */
 static uint64_t steps_to(uint64_t steps, uint8_t mask) {
     uint64_t passed;
@@ -52,6 +81,12 @@ static uint64_t steps_to(uint64_t steps, uint8_t mask) {
 static uint64_t looks(uint64_t count) {
     kbd48_registers registers;
     for (uint64_t i = 0; i < count; i++) need(kbd48_look(&keyboard, &registers));
+    return count;
+}
+
+static uint64_t insides(uint64_t count) {
+    kbd48_processor inside;
+    for (uint64_t i = 0; i < count; i++) need(kbd48_inside(&keyboard, &inside));
     return count;
 }
 
@@ -74,9 +109,16 @@ static uint64_t made(const char *row, uint64_t count) {
     if (!strcmp(row, "keys")) return strokes(count, false);
     if (!strcmp(row, "keys_steps")) return strokes(count, true);
     if (!strcmp(row, "one")) return run(count, true);
+    if (!strcmp(row, "slices")) return slices(count);
+    if (!strcmp(row, "slices_steps")) return run(count * SLICE, true);
+    if (!strcmp(row, "keyed")) return keyed(count, 1, false);
+    if (!strcmp(row, "unkeyed")) return unkeyed(count);
+    if (!strcmp(row, "edges")) return keyed(count, EDGE, true);
+    if (!strcmp(row, "no_edges")) return keyed(count, EDGE, false);
     if (!strcmp(row, "to_item")) return steps_to(count, KBD48_STOP_ITEM | KBD48_STOP_RISE | KBD48_STOP_WIRES);
     if (!strcmp(row, "to_place")) return steps_to(count, KBD48_STOP_COUNTER);
     if (!strcmp(row, "look")) return looks(count);
+    if (!strcmp(row, "inside")) return insides(count);
     if (!strcmp(row, "copy")) return copies(count, 0);
     if (!strcmp(row, "drain")) return copies(count, KEPT);
     fprintf(stderr, "calls: no such row: %s\n", row);
@@ -92,7 +134,7 @@ int main(int argc, char **argv) {
     size_t length = fread(text, 1, sizeof text, file);
     fclose(file);
     need(kbd48_open_ready_hex(text, length, &keyboard, &fault));
-    need(kbd48_read60(&keyboard, &byte));
+    need(kbd48_read60(&keyboard, &byte)); /* a program without a keyboard puts out nothing, and 00 is read */
     need(kbd48_bios(&keyboard, true));
     run(SECOND, false);
     printf("%" PRIu64 "\n", made(argv[2], strtoull(argv[3], NULL, 10)));

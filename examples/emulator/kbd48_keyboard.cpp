@@ -16,7 +16,6 @@
 #include <cstdio>
 #include <cstdlib>
 #include <cstring>
-#include <deque>
 #include <fstream>
 #include <map>
 #include <memory>
@@ -29,10 +28,8 @@ void TIMER_SetGate2(bool in); // DOSBox has it in no header
 namespace {
 
 const unsigned CYCLES_PER_MS = 400;
-// The keyboard sends a byte each 5.12 ms: one for a key that goes down, and two, F0 and its code, for one that goes up.
-const uint64_t AFTER_DOWN = 6 * CYCLES_PER_MS, AFTER_UP = 12 * CYCLES_PER_MS;
-const uint64_t WRITE_AGAIN = 64;                // cycles until a byte that found no room is written again
-const int WRITES = 256;                         // 41 ms, longer than a byte to the keyboard takes
+const uint64_t WRITE_AGAIN = 64; // cycles until a byte that found no room is written again
+const int WRITES = 256;          // 41 ms, longer than a byte to the keyboard takes
 const unsigned IRQ = 1, ADDRESS_LINE_20 = 0x02, RESET_LINE = 0x01;
 
 // A key's name in DOSBox and in a layout file. The board of 84 keys has no grey keys: those of its keypad send the same.
@@ -71,33 +68,27 @@ std::string text_of(const char *path) {
     return text.str();
 }
 
-// The place of each key that a layout names: eight times its column, and its row. The library has judged the text.
-std::map<std::string, uint8_t> places_of(const std::string &layout) {
-    std::map<std::string, uint8_t> places;
-    std::istringstream lines(layout);
-    std::string line, name;
-    unsigned number = 0;
-    while (std::getline(lines, line)) {
-        char key[32];
-        if (std::sscanf(line.c_str(), "key = \"%31[^\"]", key) == 1) name = key;
-        if (std::sscanf(line.c_str(), "column = %u", &number) == 1) places[name] = uint8_t(8 * number);
-        if (std::sscanf(line.c_str(), "row = %u", &number) == 1) places[name] += uint8_t(number);
+// The place of each of DOSBox's keys that this layout has.
+std::map<KBD_KEYS, uint8_t> places_of(const std::string &layout) {
+    std::map<KBD_KEYS, uint8_t> places;
+    for (const Name &name : NAMES) {
+        try {
+            places[name.key] = Kbd48::place_of(layout, name.name);
+        } catch (const Kbd48::Error &fault) {
+            if (fault.status != KBD48_NO_SUCH_KEY) throw;
+        }
     }
     return places;
 }
 
 class Keyboard {
 public:
+    // DOSBox has no power-on: the guest gets a keyboard that has tested itself, and whose AA was read.
     Keyboard(const std::string &layout, bool level, std::FILE *log)
-        : board(Kbd48::of_layout(layout)), level(level), log(log) {
-        std::map<std::string, uint8_t> places = places_of(layout);
-        for (const Name &name : NAMES)
-            if (places.count(name.name)) place_of[name.key] = places[name.name];
-        // DOSBox has no power-on: the guest gets a keyboard that has tested itself, and whose AA was read.
-        board.run(CYCLES_PER_MS * 1000, true);
+        : board(Kbd48::ready_of_layout(layout)), level(level), log(log), place_of(places_of(layout)) {
         board.read60();
         for (kbd48_item item; board.next(item);) {}
-        start = next_edge = board.cycle();
+        start = board.cycle();
     }
 
     uint8_t in64() {
@@ -110,7 +101,7 @@ public:
         kbd48_registers registers = board.registers();
         if (registers.status & 1) {
             registers.output = board.read60();
-            stepped();
+            stepped(board.rises());
         }
         return registers.output;
     }
@@ -121,21 +112,23 @@ public:
         say("out", port, byte);
         for (int i = 0; i < WRITES; i++) {
             bool done = board.write(port, byte);
-            if (!done) board.run(WRITE_AGAIN);
-            stepped();
+            stepped(done ? board.rises() : board.run_keys(WRITE_AGAIN).rises);
             if (done) return;
         }
         say("lost", port, byte);
     }
 
+    // The queue of edges sees to order and time, and leaves out the repeats of the window system.
     void key(KBD_KEYS key, bool down) {
         auto found = place_of.find(key);
-        if (found != place_of.end()) edge(found->second, down);
+        if (found == place_of.end()) return;
+        advance();
+        if (!board.queue_key(found->second, down)) say("no room", 0, found->second);
     }
 
     void release_all() {
-        for (unsigned place = 0; place < sizeof is_down; place++)
-            if (is_down[place]) edge(uint8_t(place), false);
+        advance();
+        board.release_all();
     }
 
     // Once in a millisecond. DOSBox has no reset: it ends, as it does at its own key for that.
@@ -145,46 +138,25 @@ public:
     }
 
 private:
-    struct Edge {
-        uint8_t place;
-        bool down;
-    };
-
     Kbd48 board;
     bool level;
     std::FILE *log;
     std::map<KBD_KEYS, uint8_t> place_of;
-    bool is_down[96] = {}; // as the host's keys are
-    std::deque<Edge> edges; // that the keyboard hasn't got yet
-    uint64_t start;         // the keyboard's cycle at DOSBox's time 0
-    uint64_t next_edge;     // the first cycle in which it may get another
+    uint64_t start; // the keyboard's cycle at DOSBox's time 0
     bool was_reset = false;
 
-    void edge(uint8_t place, bool down) {
-        if (is_down[place] == down) return;
-        is_down[place] = down;
-        edges.push_back({place, down});
-    }
-
-    // The keyboard goes on to DOSBox's time. What a call runs too far is taken off the next one.
+    // The keyboard goes on to DOSBox's time, and gets each edge that is due. What a call runs too far is taken off the next.
     void advance() {
         uint64_t now = board.cycle();
         uint64_t goal = start + uint64_t(PIC_FullIndex() * CYCLES_PER_MS);
-        if (now >= goal) return;
-        if (!edges.empty() && now >= next_edge) {
-            board.key(edges.front().place, edges.front().down);
-            next_edge = now + (edges.front().down ? AFTER_DOWN : AFTER_UP);
-            edges.pop_front();
-        }
-        board.run(goal - now);
-        stepped();
+        if (now < goal) stepped(board.run_keys(goal - now).rises);
     }
 
-    // After each call that makes a step: the interrupt line, and what happened.
-    void stepped() {
+    // After each call that makes a step: the interrupt line, which rose so often in it, and what happened.
+    void stepped(uint64_t rises) {
         if (!board.interrupt()) {
             PIC_DeActivateIRQ(IRQ);
-        } else if (level || board.rises() > 0) {
+        } else if (level || rises > 0) {
             PIC_ActivateIRQ(IRQ);
             CPU_CycleLeft += CPU_Cycles; // the processor looks at its interrupts after this instruction
             CPU_Cycles = 0;
