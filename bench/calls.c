@@ -45,25 +45,16 @@ static uint64_t slices(uint64_t count) {
     return count;
 }
 
-/* Runs with a queue, each for so many cycles, and before each an edge is pushed, if there are to be any. */
-static uint64_t keyed(uint64_t count, uint64_t cycles, bool pushed) {
+/* Runs of so many cycles, without a queue or with one, and before each an edge of a key, if there are to be any. */
+static uint64_t keyed(uint64_t count, uint64_t cycles, bool queue, bool edges) {
     static kbd48_keys keys = KBD48_NO_KEYS;
     for (uint64_t i = 0; i < count; i++) {
         uint64_t passed, now;
         kbd48_spot spot;
+        bool down = i % 2 == 0;
         need(kbd48_cycle(&keyboard, &now));
-        if (pushed) need(kbd48_queue_key(&keys, now, 34, i % 2 == 0));
-        need(kbd48_run_keys(&keyboard, &keys, cycles, false, &passed, &spot));
-    }
-    return count;
-}
-
-/* The same without a queue. */
-static uint64_t unkeyed(uint64_t count) {
-    for (uint64_t i = 0; i < count; i++) {
-        uint64_t now;
-        need(kbd48_cycle(&keyboard, &now));
-        run(1, false);
+        if (edges) need(queue ? kbd48_queue_key(&keys, now, 34, down) : kbd48_key(&keyboard, 34, down));
+        need(queue ? kbd48_run_keys(&keyboard, &keys, cycles, false, &passed, &spot) : kbd48_run(&keyboard, cycles, false, &passed, &spot));
     }
     return count;
 }
@@ -111,10 +102,12 @@ static uint64_t made(const char *row, uint64_t count) {
     if (!strcmp(row, "one")) return run(count, true);
     if (!strcmp(row, "slices")) return slices(count);
     if (!strcmp(row, "slices_steps")) return run(count * SLICE, true);
-    if (!strcmp(row, "keyed")) return keyed(count, 1, false);
-    if (!strcmp(row, "unkeyed")) return unkeyed(count);
-    if (!strcmp(row, "edges")) return keyed(count, EDGE, true);
-    if (!strcmp(row, "no_edges")) return keyed(count, EDGE, false);
+    if (!strcmp(row, "queue")) return keyed(count, 1, true, false);
+    if (!strcmp(row, "no_queue")) return keyed(count, 1, false, false);
+    if (!strcmp(row, "edges")) return keyed(count, EDGE, false, true);
+    if (!strcmp(row, "no_edges")) return keyed(count, EDGE, false, false);
+    if (!strcmp(row, "queue_edges")) return keyed(count, EDGE, true, true);
+    if (!strcmp(row, "queue_no_edges")) return keyed(count, EDGE, true, false);
     if (!strcmp(row, "to_item")) return steps_to(count, KBD48_STOP_ITEM | KBD48_STOP_RISE | KBD48_STOP_WIRES);
     if (!strcmp(row, "to_place")) return steps_to(count, KBD48_STOP_COUNTER);
     if (!strcmp(row, "look")) return looks(count);
