@@ -81,9 +81,10 @@ struct Pushed {
     down: bool,
 }
 
+/// The edges that wait in a keyboard's queue, and the keys that are down after them.
 #[repr(C)]
 #[derive(Clone, Copy)]
-struct Keys {
+pub struct Keys {
     ready: u64,
     edges: [Pushed; 160],
     down: [bool; 96],
@@ -115,6 +116,7 @@ struct Spot {
 type Open = unsafe extern "C" fn(*const u8, usize, *mut Handle, *mut Fault) -> i32;
 
 unsafe extern "C" {
+    fn kbd48_version() -> i32;
     fn kbd48_open_layout(text: *const u8, length: usize, handle: *mut Handle, fault: *mut Fault) -> i32;
     fn kbd48_open_hex(text: *const u8, length: usize, handle: *mut Handle, fault: *mut Fault) -> i32;
     fn kbd48_open_ready_layout(text: *const u8, length: usize, handle: *mut Handle, fault: *mut Fault) -> i32;
@@ -134,6 +136,7 @@ unsafe extern "C" {
         passed: *mut u64, spot: *mut Spot) -> i32;
     fn kbd48_write(handle: *mut Handle, port: u8, byte: u8) -> i32;
     fn kbd48_read60(handle: *mut Handle, byte: *mut u8) -> i32;
+    fn kbd48_status(handle: *mut Handle, byte: *mut u8) -> i32;
     fn kbd48_bios(handle: *mut Handle, on: bool) -> i32;
     fn kbd48_flip(handle: *mut Handle, bit: u8) -> i32;
     fn kbd48_take(handle: *mut Handle, word: *mut u16) -> i32;
@@ -143,6 +146,9 @@ unsafe extern "C" {
     fn kbd48_lost(handle: *mut Handle, lost: *mut u64) -> i32;
     fn kbd48_rises(handle: *mut Handle, rises: *mut u64) -> i32;
     fn kbd48_lights(handle: *mut Handle, lights: *mut u8) -> i32;
+    fn kbd48_wires(handle: *mut Handle, clock: *mut bool, data: *mut bool) -> i32;
+    fn kbd48_waiting(handle: *mut Handle, edges: *mut u8, words: *mut u8) -> i32;
+    fn kbd48_column(handle: *mut Handle, number: u8, rows: *mut u8) -> i32;
     fn kbd48_pulls(handle: *mut Handle, keyboard: *mut u8, controller: *mut u8) -> i32;
     fn kbd48_cycle(handle: *mut Handle, cycle: *mut u64) -> i32;
 }
@@ -185,6 +191,11 @@ impl Drop for Keyboard {
     fn drop(&mut self) {
         unsafe { kbd48_close(self.handle.get()) };
     }
+}
+
+/// 10,000 times the first part of the library's version, 100 times the second, and the third.
+pub fn version() -> i32 {
+    unsafe { kbd48_version() }
 }
 
 impl Keyboard {
@@ -246,6 +257,16 @@ impl Keyboard {
         count
     }
 
+    /// The queue, to be kept beside what is kept of the keyboard: an empty one takes all keys for up.
+    pub fn queue(&self) -> Keys {
+        unsafe { *self.keys.get() }
+    }
+
+    /// Puts a queue that was kept in the place of this keyboard's.
+    pub fn set_queue(&mut self, keys: Keys) {
+        *self.keys.get_mut() = keys;
+    }
+
     /// Runs as `run` does, and hands over each edge of the queue when it is due.
     pub fn run_keys(&mut self, cycles: u64, watched: bool) -> Result<KeysRan, Error> {
         let mut ran = KeysRan { passed: 0, rises: 0, rose: false };
@@ -301,6 +322,12 @@ impl Keyboard {
         done(unsafe { kbd48_read60(self.handle.get(), &mut byte) }).map(|()| byte)
     }
 
+    /// The host reads the status, in one step; `registers` shows it without one.
+    pub fn status(&mut self) -> Result<u8, Error> {
+        let mut byte = 0;
+        done(unsafe { kbd48_status(self.handle.get(), &mut byte) }).map(|()| byte)
+    }
+
     pub fn bios(&mut self, on: bool) -> Result<(), Error> {
         done(unsafe { kbd48_bios(self.handle.get(), on) })
     }
@@ -349,12 +376,25 @@ impl Keyboard {
         self.look(kbd48_lights)
     }
 
+    /// The levels of the clock and of data, true for high.
+    pub fn wires(&self) -> (bool, bool) {
+        self.look_at_two(kbd48_wires)
+    }
+
+    /// How many edges wait for a step, and how many words in the buffer of INT 09h.
+    pub fn waiting(&self) -> (u8, u8) {
+        self.look_at_two(kbd48_waiting)
+    }
+
+    /// The keys of a column, 0 to 11: bit k is row k, 0 for down.
+    pub fn column(&self, number: u8) -> Result<u8, Error> {
+        let mut rows = 0;
+        done(unsafe { kbd48_column(self.handle.get(), number, &mut rows) }).map(|()| rows)
+    }
+
     /// The wires that the keyboard pulls, and those that the controller pulls: 1 the clock, 2 data.
     pub fn pulls(&self) -> (u8, u8) {
-        let (mut keyboard, mut controller) = (0, 0);
-        let status = unsafe { kbd48_pulls(self.handle.get(), &mut keyboard, &mut controller) };
-        debug_assert_eq!(status, 0);
-        (keyboard, controller)
+        self.look_at_two(kbd48_pulls)
     }
 
     pub fn cycle(&self) -> u64 {
@@ -369,6 +409,14 @@ impl Keyboard {
         let (keyboard, mut fault) = (Keyboard::none(), Fault::default());
         let status = unsafe { open(text.as_ptr(), text.len(), keyboard.handle.get(), &mut fault) };
         judged(status, fault).map(|()| keyboard)
+    }
+
+    /// A look that shows two values.
+    fn look_at_two<T: Default>(&self, call: unsafe extern "C" fn(*mut Handle, *mut T, *mut T) -> i32) -> (T, T) {
+        let mut shown = (T::default(), T::default());
+        let status = unsafe { call(self.handle.get(), &mut shown.0, &mut shown.1) };
+        debug_assert_eq!(status, 0);
+        shown
     }
 
     /// A look at an open keyboard, which is always done.

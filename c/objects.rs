@@ -27,6 +27,8 @@ fn main() -> Result<(), Box<dyn std::error::Error>> {
     sample.queue_key(h, true)?;
     sample.release_all();
     assert_eq!(sample.copied()?.queued(), 4);
+    first.set_queue(sample.queue());
+    assert_eq!(first.queued(), 4);
     for byte in [0x2a, 0x23, 0xa3, 0xaa] {
         assert!(sample.run_keys(400_000, true)?.rose);
         assert_eq!(sample.read60()?, byte);
@@ -37,6 +39,8 @@ fn main() -> Result<(), Box<dyn std::error::Error>> {
     assert_eq!((ready.flip(10), ready.flip(9), ready.pulls().1), (Err(Error::NoSuchBit), Ok(()), 1));
     assert_eq!(ready.run_to(0, 0, 400_000, 1)?.1, 0);
     assert_eq!(ready.run_to(8, 7, 4096, u64::MAX)?.1, 8);
+    assert_eq!((first.wires(), first.waiting(), first.column(0), first.status()?), ((false, true), (0, 0), Ok(0xff), 0x14));
+    assert_eq!((first.column(12), kbd48::version()), (Err(Error::NoSuchPlace), 10000));
     assert_eq!(first.key(96, true), Err(Error::NoSuchPlace));
     assert_eq!(Keyboard::of_layout(b"format = ").err(), Some(Error::BadText { position: 0, number: 1 }));
     Ok(())

@@ -111,6 +111,7 @@ export declare class Keyboard {
   queueKey(place: number, down: boolean, cycle?: number): StatusNumber;
   releaseAll(cycle?: number): void;
   queued(): number;
+  queue: Uint8Array;
   runKeys(cycles: number, watched?: boolean): KeysRan;
   readonly passed: number;
   readonly stuck: { counter: number; byte: number };

@@ -262,6 +262,15 @@ export class Keyboard {
     return this.#byte(PLACES.byte);
   }
 
+  /** The queue as 2,672 bytes, to be kept beside what is kept of the keyboard: an empty one takes all keys for up. Set it to what it
+      was. */
+  get queue() { return this.#queue().slice(); }
+
+  set queue(bytes) {
+    if (bytes.length !== QUEUE_SIZE) throw new RangeError(`a queue has ${QUEUE_SIZE} bytes`);
+    this.#queue().set(bytes);
+  }
+
   /** Runs as `run` does, and hands over each edge of the queue when it is due. Returns the status, DONE, ROSE or STUCK; how
       many cycles passed; and how often the interrupt line rose. */
   runKeys(cycles, watched = false) {

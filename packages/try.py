@@ -58,6 +58,11 @@ def check_queue(layout):
         for byte in (0x2A, 0x23, 0xA3, 0xAA):
             assert twin.run_keys(400_000, watched=True).rose and twin.read60() == byte
         assert twin.queued == 0 and keyboard.queued == 4 and keyboard.run_keys(40_000).rises == 1
+        kept = keyboard.queue
+        keyboard.queue = twin.queue
+        assert keyboard.queued == 0 and isinstance(refusal(setattr, keyboard, "queue", kept[1:]), ValueError)
+        keyboard.queue = kept
+        assert keyboard.queue == kept
 
 
 def check_docs():

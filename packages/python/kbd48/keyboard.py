@@ -317,6 +317,18 @@ class Keyboard:
         LIBRARY.kbd48_queued(self._keys, count)
         return count.value
 
+    @property
+    def queue(self) -> bytes:
+        """The queue as 2,672 bytes, to be kept beside what is kept of the keyboard: an empty one takes all keys for up. Set it
+        to what it was."""
+        return bytes(self._keys)
+
+    @queue.setter
+    def queue(self, data: bytes) -> None:
+        if len(data) != c.sizeof(library.Keys):
+            raise ValueError(f"a queue has {c.sizeof(library.Keys)} bytes")
+        self._keys = library.Keys.from_buffer_copy(data)
+
     def run_keys(self, cycles: int, watched: bool = False) -> KeysRan:
         """Runs as `run` does, and hands over each edge of the queue when it is due."""
         made, rises, status = 0, 0, Status.KEY_DUE
