@@ -7,6 +7,9 @@ use std::cell::UnsafeCell;
 use std::ffi::c_void;
 use std::{fmt, ptr};
 
+/// How many bytes a saved keyboard has.
+pub const SAVED: usize = 3077;
+
 /// Why a call did nothing, or why a run ended early.
 #[derive(Clone, Copy, Debug, PartialEq, Eq)]
 pub enum Error {
@@ -29,6 +32,13 @@ pub enum Error {
     NoSuchKey,
     /// Noise turns round the bits 1 to 9 of a frame.
     NoSuchBit,
+    /// A saved keyboard has `SAVED` bytes.
+    BadSize,
+    /// The bytes don't begin as those of a saved keyboard.
+    NotSaved,
+    OtherVersion,
+    /// A number in the bytes is out of range.
+    BadState,
 }
 
 impl fmt::Display for Error {
@@ -127,6 +137,8 @@ unsafe extern "C" {
     fn kbd48_queued(queue: *mut Keys, count: *mut u8) -> i32;
     fn kbd48_run_keys(handle: *mut Handle, queue: *mut Keys, cycles: u64, watched: bool, passed: *mut u64, spot: *mut Spot) -> i32;
     fn kbd48_copy(from: *mut Handle, to: *mut Handle) -> i32;
+    fn kbd48_save(handle: *mut Handle, buffer: *mut u8, length: usize) -> i32;
+    fn kbd48_load(handle: *mut Handle, bytes: *const u8, length: usize) -> i32;
     fn kbd48_close(handle: *mut Handle) -> i32;
     fn kbd48_key(handle: *mut Handle, place: u8, down: bool) -> i32;
     fn kbd48_run(handle: *mut Handle, cycles: u64, watched: bool, passed: *mut u64, spot: *mut Spot) -> i32;
@@ -164,6 +176,10 @@ fn judged(status: i32, fault: Fault) -> Result<(), Error> {
         15 => Error::Lost,
         18 => Error::NoSuchKey,
         19 => Error::NoSuchBit,
+        20 => Error::BadSize,
+        21 => Error::NotSaved,
+        22 => Error::OtherVersion,
+        23 => Error::BadState,
         other => unreachable!("status {other} of an open keyboard"),
     })
 }
@@ -269,6 +285,19 @@ impl Keyboard {
         let copy = Keyboard::none();
         unsafe { *copy.keys.get() = *self.keys.get() };
         done(unsafe { kbd48_copy(self.handle.get(), copy.handle.get()) }).map(|()| copy)
+    }
+
+    /// The state as bytes, without the edges in the queue.
+    pub fn save(&self) -> [u8; SAVED] {
+        let mut bytes = [0; SAVED];
+        unsafe { kbd48_save(self.handle.get(), bytes.as_mut_ptr(), SAVED) };
+        bytes
+    }
+
+    /// The keyboard in the state that these bytes mean, with no edge in its queue.
+    pub fn of_saved(bytes: &[u8]) -> Result<Keyboard, Error> {
+        let keyboard = Keyboard::none();
+        done(unsafe { kbd48_load(keyboard.handle.get(), bytes.as_ptr(), bytes.len()) }).map(|()| keyboard)
     }
 
     pub fn key(&mut self, place: u8, down: bool) -> Result<(), Error> {
