@@ -51,11 +51,11 @@ def tick():
 def run_to(ms):
     end = 4096 + 400 * ms
     while now() < end:
-        if lib.kbd48_run(keyboard, end - cycle.value, True, passed, place) != ROSE:
+        if lib.kbd48_run(keyboard, end - cycle.value, True, passed, spot) != ROSE:
             continue
         up.value = True
         while up.value:
-            lib.kbd48_run(keyboard, 1, False, passed, place)
+            lib.kbd48_run(keyboard, 1, False, passed, spot)
             lib.kbd48_interrupt(keyboard, up)
         print(tick(), "port ", end="")
         lib.kbd48_read60(keyboard, byte)

@@ -15,7 +15,7 @@ use crate::saving::SAVED;
 use crate::unloaded::Unloaded;
 use arrayvec::ArrayVec;
 use board_terms::{Edge, Matrix};
-use ctl_link::{Link, Port as LinkPort};
+use ctl_link::{Link, LinkEnd};
 use ctl_wire::Wire;
 use int09::Bios;
 use joint_bytes::{
@@ -157,7 +157,7 @@ fn is_held(link: &Link<Wire>) -> bool
 }
 
 /// Whether the output buffer is empty or the keyboard is held off.
-fn is_empty_unless_held(port: &LinkPort<Wire>) -> bool
+fn is_empty_unless_held(port: &LinkEnd<Wire>) -> bool
     ensures { result ≡ fits port.now.core.output_full port.now.link }
 {
     !port.core.output_full() || is_held(&port.link)
