@@ -59,6 +59,33 @@ pub struct Registers {
     pub output_port: u8,
 }
 
+/// The keyboard's processor, an 8049. `counts` is 0 if the timer is off, 1 for machine cycles, 2 for falls of T1.
+#[repr(C)]
+#[derive(Clone, Copy, Debug, Default, PartialEq, Eq)]
+pub struct Processor {
+    pub counter: u16,
+    pub byte: u8,
+    pub a: u8,
+    pub carry: bool,
+    pub half_carry: bool,
+    pub f0: bool,
+    pub f1: bool,
+    pub register_bank: bool,
+    pub memory_bank: bool,
+    pub stack: u8,
+    pub t: u8,
+    pub prescaler: u8,
+    pub counts: u8,
+    pub timer_flag: bool,
+    pub external_on: bool,
+    pub timer_on: bool,
+    pub request: bool,
+    pub service: bool,
+    pub p1: u8,
+    pub p2: u8,
+    pub bus: u8,
+}
+
 /// What was said, with its cycle. The kinds are those of `kbd48.h`.
 #[repr(C)]
 #[derive(Clone, Copy, Debug, Default, PartialEq, Eq)]
@@ -157,6 +184,8 @@ unsafe extern "C" {
     fn kbd48_lights(handle: *mut Handle, lights: *mut u8) -> i32;
     fn kbd48_pulls(handle: *mut Handle, keyboard: *mut u8, controller: *mut u8) -> i32;
     fn kbd48_cycle(handle: *mut Handle, cycle: *mut u64) -> i32;
+    fn kbd48_inside(handle: *mut Handle, shown: *mut Processor) -> i32;
+    fn kbd48_cell(handle: *mut Handle, number: u8, byte: *mut u8) -> i32;
 }
 
 /// An answer by its status. Statuses that a call takes for an answer never come here.
@@ -388,6 +417,16 @@ impl Keyboard {
 
     pub fn cycle(&self) -> u64 {
         self.look(kbd48_cycle)
+    }
+
+    pub fn processor(&self) -> Processor {
+        self.look(kbd48_inside)
+    }
+
+    /// A byte of the processor's data memory, 0 to 127.
+    pub fn cell(&self, number: u8) -> Result<u8, Error> {
+        let mut byte = 0;
+        done(unsafe { kbd48_cell(self.handle.get(), number, &mut byte) }).map(|()| byte)
     }
 
     fn none() -> Keyboard {

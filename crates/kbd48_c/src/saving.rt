@@ -1,9 +1,7 @@
 //! A keyboard as bytes in a buffer of the caller's, and back.
 
-ghost use Rattle.std.specs.Prelude.{◌≡◌, ◌≤◌, ◌⊎◌, ◌++◌, drop, length, None};
-ghost use Rattle.kbd48_c.specs.Exports.{Through};
-ghost use Rattle.kbd48_c.specs.Saving.{HasLoaded, HasSaved, IsFilled, IsNotLoaded, unloaded_status};
-ghost use Rattle.kbd48_c.specs.Statuses.{done, no_memory};
+ghost use Rattle.std.specs.Prelude.{◌≡◌, ◌≤◌, ◌<◌, ◌++◌, drop, length};
+ghost use Rattle.kbd48_c.specs.Saving.{HasFilled, HasLoaded, HasSaved, bad_size, unloaded_status};
 
 use crate::handle::Handle;
 use crate::status::{BAD_SIZE, BAD_STATE, DONE, NO_MEMORY, NOT_OPEN, NOT_SAVED, OTHER_VERSION};
@@ -27,17 +25,19 @@ fn unloaded_status(fault: Unloaded) -> i32
     }
 }
 
-/// Writes these bytes at the beginning of a buffer that has room for them.
+/// Writes a keyboard's bytes at the beginning of a buffer that has room for them.
 fn put(bytes: &[u8], buffer: &mut [u8])
-    requires { length bytes.now ≤ length buffer.old }
-    ensures { buffer.new ≡ bytes.now ++ drop (length bytes.now) buffer.old }
+    requires count { length bytes.now ≡ 3077 }
+    requires room { 3077 ≤ length buffer.old }
+    ensures { buffer.new ≡ bytes.now ++ drop 3077 buffer.old }
 {
     buffer[..bytes.len()].copy_from_slice(bytes);
 }
 
 /// Writes the keyboard's bytes at the beginning of the buffer, if it is long enough.
 fn save(keyboard: &Keyboard, buffer: &mut [u8]) -> i32
-    ensures saved { IsFilled buffer.old buffer.new keyboard.now result }
+    ensures filled { 3077 ≤ length buffer.old → HasFilled keyboard.now buffer.old result buffer.new }
+    ensures short { length buffer.old < 3077 → (result ≡ bad_size) × (buffer.new ≡ buffer.old) }
 {
     if buffer.len() < SAVED {
         return BAD_SIZE;
@@ -48,9 +48,7 @@ fn save(keyboard: &Keyboard, buffer: &mut [u8]) -> i32
 
 /// Puts the keyboard of these bytes at the handle, and closes the one that was there.
 fn load(alloc: Global, handle: &mut Handle, bytes: &[u8]) -> i32
-    ensures loaded { result ≡ done → HasLoaded bytes.now handle.new.keyboard }
-    ensures refused { (result ≡ done → ⊥) → handle.new.keyboard ≡ handle.old.keyboard }
-    ensures status { (result ≡ done) ⊎ (result ≡ no_memory) ⊎ IsNotLoaded bytes.now result }
+    ensures loaded { HasLoaded bytes.now handle.old.keyboard result handle.new.keyboard }
 {
     match Keyboard::load(alloc, bytes) {
         Ok(keyboard) => match Box::new(alloc, keyboard) {
@@ -67,8 +65,8 @@ fn load(alloc: Global, handle: &mut Handle, bytes: &[u8]) -> i32
 /// Writes the keyboard's 3,077 bytes at the beginning of the buffer. A shorter buffer stays as it is.
 #[unsafe(no_mangle)]
 pub extern "C" fn kbd48_save(alloc: Global, handle: &mut Handle, buffer: &mut [u8]) -> i32
-    ensures saved { Through (HasSaved buffer.old buffer.new) handle.old.keyboard result handle.new.keyboard }
-    ensures none { handle.old.keyboard ≡ None → buffer.new ≡ buffer.old }
+    ensures saved { HasSaved handle.old.keyboard buffer.old result buffer.new }
+    ensures unchanged { handle.new.keyboard ≡ handle.old.keyboard }
 {
     match handle.take(alloc) {
         Some(keyboard) => {
@@ -84,9 +82,7 @@ pub extern "C" fn kbd48_save(alloc: Global, handle: &mut Handle, buffer: &mut [u
 /// handle is as it was.
 #[unsafe(no_mangle)]
 pub extern "C" fn kbd48_load(alloc: Global, handle: &mut Handle, bytes: &[u8]) -> i32
-    ensures loaded { result ≡ done → HasLoaded bytes.now handle.new.keyboard }
-    ensures refused { (result ≡ done → ⊥) → handle.new.keyboard ≡ handle.old.keyboard }
-    ensures status { (result ≡ done) ⊎ (result ≡ no_memory) ⊎ IsNotLoaded bytes.now result }
+    ensures loaded { HasLoaded bytes.now handle.old.keyboard result handle.new.keyboard }
 {
     load(alloc, handle, bytes)
 }
