@@ -94,6 +94,16 @@ static uint64_t copies(uint64_t count, int drained) {
     return drained ? count * (uint64_t)drained : count;
 }
 
+/* Saves of the keyboard, of each of which a keyboard is loaded, if asked for. */
+static uint64_t saves(uint64_t count, bool loaded) {
+    static uint8_t bytes[KBD48_SAVED];
+    for (uint64_t i = 0; i < count; i++) {
+        need(kbd48_save(&keyboard, bytes, sizeof bytes));
+        if (loaded) need(kbd48_load(&other, bytes, sizeof bytes));
+    }
+    return count;
+}
+
 static uint64_t made(const char *row, uint64_t count) {
     if (!strcmp(row, "idle")) return run(count * SECOND, false);
     if (!strcmp(row, "idle_steps")) return run(count * SECOND, true);
@@ -113,6 +123,8 @@ static uint64_t made(const char *row, uint64_t count) {
     if (!strcmp(row, "look")) return looks(count);
     if (!strcmp(row, "inside")) return insides(count);
     if (!strcmp(row, "copy")) return copies(count, 0);
+    if (!strcmp(row, "save")) return saves(count, false);
+    if (!strcmp(row, "load")) return saves(count, true);
     if (!strcmp(row, "drain")) return copies(count, KEPT);
     fprintf(stderr, "calls: no such row: %s\n", row);
     exit(2);

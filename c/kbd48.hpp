@@ -7,6 +7,7 @@
 #include <stdexcept>
 #include <string>
 #include <utility>
+#include <vector>
 
 class Kbd48 {
 public:
@@ -30,6 +31,20 @@ public:
         need(kbd48_open_sample(&keyboard.handle));
         return keyboard;
     }
+
+    // The state as bytes, and a keyboard in that state. Its queue of edges is not among them: `queue` has that.
+    std::vector<uint8_t> save() const {
+        std::vector<uint8_t> bytes(KBD48_SAVED);
+        need(kbd48_save(&handle, bytes.data(), bytes.size()));
+        return bytes;
+    }
+    static Kbd48 of_saved(const std::vector<uint8_t> &bytes) {
+        Kbd48 keyboard;
+        need(kbd48_load(&keyboard.handle, bytes.data(), bytes.size()));
+        return keyboard;
+    }
+    const kbd48_keys &queue() const { return keys; }
+    void set_queue(const kbd48_keys &other) { keys = other; }
 
     // The place of a key by its name, in a layout's text or in the sample layout.
     static uint8_t place_of(const std::string &layout, const std::string &name) {

@@ -7,6 +7,9 @@ use std::cell::UnsafeCell;
 use std::ffi::c_void;
 use std::{fmt, ptr};
 
+/// How many bytes a saved keyboard has.
+pub const SAVED: usize = 3077;
+
 /// Why a call did nothing, or why a run ended early.
 #[derive(Clone, Copy, Debug, PartialEq, Eq)]
 pub enum Error {
@@ -29,6 +32,13 @@ pub enum Error {
     NoSuchKey,
     /// Noise turns round the bits 1 to 9 of a frame.
     NoSuchBit,
+    /// A saved keyboard has `SAVED` bytes.
+    BadSize,
+    /// The bytes don't begin as those of a saved keyboard.
+    NotSaved,
+    OtherVersion,
+    /// A number in the bytes is out of range.
+    BadState,
 }
 
 impl fmt::Display for Error {
@@ -47,6 +57,33 @@ pub struct Registers {
     pub output: u8,
     pub command_byte: u8,
     pub output_port: u8,
+}
+
+/// The keyboard's processor, an 8049. `counts` is 0 if the timer is off, 1 for machine cycles, 2 for falls of T1.
+#[repr(C)]
+#[derive(Clone, Copy, Debug, Default, PartialEq, Eq)]
+pub struct Processor {
+    pub counter: u16,
+    pub byte: u8,
+    pub a: u8,
+    pub carry: bool,
+    pub half_carry: bool,
+    pub f0: bool,
+    pub f1: bool,
+    pub register_bank: bool,
+    pub memory_bank: bool,
+    pub stack: u8,
+    pub t: u8,
+    pub prescaler: u8,
+    pub counts: u8,
+    pub timer_flag: bool,
+    pub external_on: bool,
+    pub timer_on: bool,
+    pub request: bool,
+    pub service: bool,
+    pub p1: u8,
+    pub p2: u8,
+    pub bus: u8,
 }
 
 /// What was said, with its cycle. The kinds are those of `kbd48.h`.
@@ -129,6 +166,8 @@ unsafe extern "C" {
     fn kbd48_queued(queue: *mut Keys, count: *mut u8) -> i32;
     fn kbd48_run_keys(handle: *mut Handle, queue: *mut Keys, cycles: u64, watched: bool, passed: *mut u64, spot: *mut Spot) -> i32;
     fn kbd48_copy(from: *mut Handle, to: *mut Handle) -> i32;
+    fn kbd48_save(handle: *mut Handle, buffer: *mut u8, length: usize) -> i32;
+    fn kbd48_load(handle: *mut Handle, bytes: *const u8, length: usize) -> i32;
     fn kbd48_close(handle: *mut Handle) -> i32;
     fn kbd48_key(handle: *mut Handle, place: u8, down: bool) -> i32;
     fn kbd48_run(handle: *mut Handle, cycles: u64, watched: bool, passed: *mut u64, spot: *mut Spot) -> i32;
@@ -151,6 +190,8 @@ unsafe extern "C" {
     fn kbd48_column(handle: *mut Handle, number: u8, rows: *mut u8) -> i32;
     fn kbd48_pulls(handle: *mut Handle, keyboard: *mut u8, controller: *mut u8) -> i32;
     fn kbd48_cycle(handle: *mut Handle, cycle: *mut u64) -> i32;
+    fn kbd48_inside(handle: *mut Handle, shown: *mut Processor) -> i32;
+    fn kbd48_cell(handle: *mut Handle, number: u8, byte: *mut u8) -> i32;
 }
 
 /// An answer by its status. Statuses that a call takes for an answer never come here.
@@ -170,6 +211,10 @@ fn judged(status: i32, fault: Fault) -> Result<(), Error> {
         15 => Error::Lost,
         18 => Error::NoSuchKey,
         19 => Error::NoSuchBit,
+        20 => Error::BadSize,
+        21 => Error::NotSaved,
+        22 => Error::OtherVersion,
+        23 => Error::BadState,
         other => unreachable!("status {other} of an open keyboard"),
     })
 }
@@ -292,6 +337,19 @@ impl Keyboard {
         done(unsafe { kbd48_copy(self.handle.get(), copy.handle.get()) }).map(|()| copy)
     }
 
+    /// The state as bytes, without the edges in the queue.
+    pub fn save(&self) -> [u8; SAVED] {
+        let mut bytes = [0; SAVED];
+        unsafe { kbd48_save(self.handle.get(), bytes.as_mut_ptr(), SAVED) };
+        bytes
+    }
+
+    /// The keyboard in the state that these bytes mean, with no edge in its queue.
+    pub fn of_saved(bytes: &[u8]) -> Result<Keyboard, Error> {
+        let keyboard = Keyboard::none();
+        done(unsafe { kbd48_load(keyboard.handle.get(), bytes.as_ptr(), bytes.len()) }).map(|()| keyboard)
+    }
+
     pub fn key(&mut self, place: u8, down: bool) -> Result<(), Error> {
         done(unsafe { kbd48_key(self.handle.get(), place, down) })
     }
@@ -399,6 +457,16 @@ impl Keyboard {
 
     pub fn cycle(&self) -> u64 {
         self.look(kbd48_cycle)
+    }
+
+    pub fn processor(&self) -> Processor {
+        self.look(kbd48_inside)
+    }
+
+    /// A byte of the processor's data memory, 0 to 127.
+    pub fn cell(&self, number: u8) -> Result<u8, Error> {
+        let mut byte = 0;
+        done(unsafe { kbd48_cell(self.handle.get(), number, &mut byte) }).map(|()| byte)
     }
 
     fn none() -> Keyboard {

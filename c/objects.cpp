@@ -25,6 +25,16 @@ int main() {
     Kbd48 moved = std::move(copy);
     copy = first;
     CHECK(moved.read60() == 0xaa && moved.cycle() == first.cycle());
+    std::vector<uint8_t> saved = moved.save();
+    Kbd48 loaded = Kbd48::of_saved(saved);
+    CHECK(saved.size() == KBD48_SAVED && loaded.save() == saved && loaded.cycle() == moved.cycle());
+    saved[7]++;
+    try {
+        Kbd48::of_saved(saved);
+        return failed(__LINE__);
+    } catch (const Kbd48::Error &thrown) {
+        CHECK(thrown.status == KBD48_OTHER_VERSION);
+    }
     kbd48_item item;
     CHECK(moved.next(item) && item.kind == KBD48_ITEM_SENT && item.value == 0xaa);
     CHECK(moved.next(item) && item.kind == KBD48_ITEM_READ && item.value == 0xaa && !moved.next(item));

@@ -13,6 +13,12 @@ fn main() -> Result<(), Box<dyn std::error::Error>> {
     assert_eq!(copy.read60()?, 0xaa);
     assert_eq!(copy.cycle(), first.cycle());
     assert_eq!(copy.next_said()?.map(|it| (it.kind, it.value)), Some((18, 0xaa)));
+    let mut saved = copy.save();
+    let loaded = Keyboard::of_saved(&saved)?;
+    assert!(loaded.save() == saved && loaded.cycle() == copy.cycle());
+    saved[0] = 0;
+    assert_eq!(Keyboard::of_saved(&saved).err(), Some(Error::NotSaved));
+    assert_eq!(Keyboard::of_saved(&saved[1..]).err(), Some(Error::BadSize));
     let said = copy.next_said()?.expect("the read was said");
     assert_eq!((said.kind, said.value, copy.next_said()?), (1, 0xaa, None));
     copy.key(34, true)?;

@@ -36,6 +36,11 @@ def check_refusals(layout, stuck):
         assert keyboard.take() is None and keyboard.run(400).cycles >= 400
         twin = keyboard.copy()
         assert twin.run(100_000) == keyboard.run(100_000) and twin.processor == keyboard.processor
+        saved = keyboard.save()
+        with Keyboard.of_saved(saved) as loaded:
+            assert loaded.save() == saved and loaded.run(1000) == twin.run(1000)
+        assert refusal(Keyboard.of_saved, saved[1:]).status == Status.BAD_SIZE
+        assert refusal(Keyboard.of_saved, bytes(3077)).status == Status.NOT_SAVED
     with Keyboard.of_layout(layout, ready=True) as ready:
         assert ready.interrupt and ready.lost == 0 and ready.run_to(Stop(0), 400_000, steps=1).met == Stop(0)
         assert ready.run_to(Stop.COUNTER | Stop.RISE, 4096, at=7).met == Stop.COUNTER and ready.processor.counter == 7

@@ -106,6 +106,14 @@ async function looks() {
   kept.run(200);
   assert.deepEqual(seen(kept), seen(keyboard));
   assert.deepEqual([...kept.items()], [sent, said]);
+  const bytes = keyboard.save();
+  kept.load(bytes);
+  assert.equal(bytes.length, 3077);
+  assert.deepEqual(kept.save(), bytes);
+  assert.deepEqual(seen(kept), seen(keyboard));
+  refused(() => kept.load(bytes.subarray(1)), Status.BAD_SIZE);
+  refused(() => kept.load(new Uint8Array(3077)), Status.NOT_SAVED);
+  assert.deepEqual(kept.save(), bytes, 'what is refused changes nothing');
   assert.equal(keyboard.key(29, true), Status.DONE);
   assert.deepEqual(keyboard.waiting(), { edges: 1, words: 0 });
   assert.equal(keyboard.column(3), 0xFF);

@@ -34,6 +34,8 @@ export async function everyCall(keyboardModule: Uint8Array, layout: Uint8Array, 
     keyboard.lights(), keyboard.wires(), keyboard.rises(), keyboard.lost(), keyboard.column(3), keyboard.cell(0x20)].join());
   const copy: Keyboard = keyboard.copy();
   keyboard.copyTo(copy);
+  const saved: Uint8Array = keyboard.save();
+  copy.load(saved);
   copy.free();
   keyboard.close();
   return lines;

@@ -18,7 +18,7 @@ ghost use Rattle.joint_bytes.specs.Sides.{
 
 use crate::numbers::{maybe_at, number_at, truth_at};
 use ctl_core::{Buffers, Controller, Input, Parameter, Port};
-use ctl_link::{Link, Port as LinkPort};
+use ctl_link::{Link, LinkEnd};
 use ctl_wire::Wire;
 use host_turn::Desk;
 use int09::{Bios, Flags9};
@@ -191,7 +191,7 @@ pub fn side_in(controller: &[u8], bytes: &[u8], link: Link<Wire>, bios: Bios) ->
 {
     Outside {
         desk: Desk {
-            port: LinkPort {
+            port: LinkEnd {
                 core: controller_in(controller),
                 filled: number_at(bytes, 0),
                 link,
