@@ -45,25 +45,16 @@ static uint64_t slices(uint64_t count) {
     return count;
 }
 
-/* Runs with a queue, each for so many cycles, and before each an edge is pushed, if there are to be any. */
-static uint64_t keyed(uint64_t count, uint64_t cycles, bool pushed) {
+/* Runs of so many cycles, without a queue or with one, and before each an edge of a key, if there are to be any. */
+static uint64_t keyed(uint64_t count, uint64_t cycles, bool queue, bool edges) {
     static kbd48_keys keys = KBD48_NO_KEYS;
     for (uint64_t i = 0; i < count; i++) {
         uint64_t passed, now;
         kbd48_spot spot;
+        bool down = i % 2 == 0;
         need(kbd48_cycle(&keyboard, &now));
-        if (pushed) need(kbd48_queue_key(&keys, now, 34, i % 2 == 0));
-        need(kbd48_run_keys(&keyboard, &keys, cycles, false, &passed, &spot));
-    }
-    return count;
-}
-
-/* The same without a queue. */
-static uint64_t unkeyed(uint64_t count) {
-    for (uint64_t i = 0; i < count; i++) {
-        uint64_t now;
-        need(kbd48_cycle(&keyboard, &now));
-        run(1, false);
+        if (edges) need(queue ? kbd48_queue_key(&keys, now, 34, down) : kbd48_key(&keyboard, 34, down));
+        need(queue ? kbd48_run_keys(&keyboard, &keys, cycles, false, &passed, &spot) : kbd48_run(&keyboard, cycles, false, &passed, &spot));
     }
     return count;
 }
@@ -103,6 +94,16 @@ static uint64_t copies(uint64_t count, int drained) {
     return drained ? count * (uint64_t)drained : count;
 }
 
+/* Saves of the keyboard, of each of which a keyboard is loaded, if asked for. */
+static uint64_t saves(uint64_t count, bool loaded) {
+    static uint8_t bytes[KBD48_SAVED];
+    for (uint64_t i = 0; i < count; i++) {
+        need(kbd48_save(&keyboard, bytes, sizeof bytes));
+        if (loaded) need(kbd48_load(&other, bytes, sizeof bytes));
+    }
+    return count;
+}
+
 static uint64_t made(const char *row, uint64_t count) {
     if (!strcmp(row, "idle")) return run(count * SECOND, false);
     if (!strcmp(row, "idle_steps")) return run(count * SECOND, true);
@@ -111,15 +112,19 @@ static uint64_t made(const char *row, uint64_t count) {
     if (!strcmp(row, "one")) return run(count, true);
     if (!strcmp(row, "slices")) return slices(count);
     if (!strcmp(row, "slices_steps")) return run(count * SLICE, true);
-    if (!strcmp(row, "keyed")) return keyed(count, 1, false);
-    if (!strcmp(row, "unkeyed")) return unkeyed(count);
-    if (!strcmp(row, "edges")) return keyed(count, EDGE, true);
-    if (!strcmp(row, "no_edges")) return keyed(count, EDGE, false);
+    if (!strcmp(row, "queue")) return keyed(count, 1, true, false);
+    if (!strcmp(row, "no_queue")) return keyed(count, 1, false, false);
+    if (!strcmp(row, "edges")) return keyed(count, EDGE, false, true);
+    if (!strcmp(row, "no_edges")) return keyed(count, EDGE, false, false);
+    if (!strcmp(row, "queue_edges")) return keyed(count, EDGE, true, true);
+    if (!strcmp(row, "queue_no_edges")) return keyed(count, EDGE, true, false);
     if (!strcmp(row, "to_item")) return steps_to(count, KBD48_STOP_ITEM | KBD48_STOP_RISE | KBD48_STOP_WIRES);
     if (!strcmp(row, "to_place")) return steps_to(count, KBD48_STOP_COUNTER);
     if (!strcmp(row, "look")) return looks(count);
     if (!strcmp(row, "inside")) return insides(count);
     if (!strcmp(row, "copy")) return copies(count, 0);
+    if (!strcmp(row, "save")) return saves(count, false);
+    if (!strcmp(row, "load")) return saves(count, true);
     if (!strcmp(row, "drain")) return copies(count, KEPT);
     fprintf(stderr, "calls: no such row: %s\n", row);
     exit(2);

@@ -56,6 +56,7 @@ static void empty_handle(void) {
     CHECK(kbd48_run_to(&k, 15, 0, 9, 9, &byte, &number, &spot) == KBD48_NOT_OPEN && byte == 0 && number == 0);
     byte = 7;
     CHECK(kbd48_copy(&k, &other) == KBD48_NOT_OPEN && !other.at);
+    CHECK(kbd48_save(&k, &byte, 1) == KBD48_NOT_OPEN && byte == 7);
     CHECK(kbd48_look(&k, &registers) == KBD48_NOT_OPEN && registers.status == 7 && registers.output_port == 7);
     CHECK(kbd48_inside(&k, &inside) == KBD48_NOT_OPEN && inside.counter == 7);
     CHECK(kbd48_waiting(&k, &edges, &byte) == KBD48_NOT_OPEN && edges == 7 && byte == 7);
@@ -259,6 +260,21 @@ static int32_t a_copy(kbd48 *k) {
     return status;
 }
 
+/* What is saved is loaded as it was; or there is no memory for it, and the handle is as it was. */
+static int32_t a_load(kbd48 *k) {
+    static uint8_t bytes[KBD48_SAVED], again[KBD48_SAVED];
+    kbd48 loaded = KBD48_EMPTY;
+    CHECK(kbd48_save(k, bytes, sizeof bytes) == KBD48_DONE);
+    int32_t status = kbd48_load(&loaded, bytes, sizeof bytes);
+    if (status != KBD48_DONE) {
+        CHECK(status == KBD48_NO_MEMORY && !loaded.at);
+        return status;
+    }
+    CHECK(kbd48_save(&loaded, again, sizeof again) == KBD48_DONE && !memcmp(bytes, again, sizeof bytes));
+    CHECK(kbd48_close(&loaded) == KBD48_DONE);
+    return KBD48_DONE;
+}
+
 static int32_t a_session(void) {
     kbd48 k = KBD48_EMPTY;
     kbd48_fault fault;
@@ -279,7 +295,7 @@ static int32_t a_session(void) {
     CHECK(kbd48_run(&k, 400000, true, &passed, &spot) == KBD48_ROSE && passed < 140000);
     CHECK(kbd48_interrupt(&k, &up) == KBD48_DONE && up);
     looks(&k);
-    int32_t copied = a_copy(&k);
+    int32_t copied = a_copy(&k), loaded = a_load(&k);
     CHECK(kbd48_status(&k, &byte) == KBD48_DONE && (byte & 1));
     CHECK(kbd48_read60(&k, &byte) == KBD48_DONE && byte == 0xaa);
     CHECK(kbd48_interrupt(&k, &up) == KBD48_DONE && !up);
@@ -304,7 +320,8 @@ static int32_t a_session(void) {
     CHECK(kbd48_run(&k, 400000, false, &passed, &spot) == KBD48_DONE);
     CHECK(kbd48_take(&k, &word) == KBD48_DONE || kbd48_take(&k, &word) == KBD48_NO_WORD);
     CHECK(kbd48_close(&k) == KBD48_DONE && !k.at && kbd48_close(&k) == KBD48_NOT_OPEN);
-    return status == KBD48_DONE ? copied : status;
+    if (status != KBD48_DONE) return status;
+    return copied == KBD48_DONE ? loaded : copied;
 }
 
 static void a_stuck_one(void) {

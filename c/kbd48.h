@@ -55,7 +55,11 @@ enum {
     KBD48_REPEATED = 16,      /* the key is already down, or already up, after the edges that wait */
     KBD48_KEY_DUE = 17,       /* the next edge of the queue is due: call again with the cycles that are left */
     KBD48_NO_SUCH_KEY = 18,   /* no key has the name, or the layout has no such key */
-    KBD48_NO_SUCH_BIT = 19    /* noise turns round the bits 1 to 9 of a frame */
+    KBD48_NO_SUCH_BIT = 19,   /* noise turns round the bits 1 to 9 of a frame */
+    KBD48_BAD_SIZE = 20,      /* a saved keyboard has KBD48_SAVED bytes: the buffer is too short, or these are more or fewer */
+    KBD48_NOT_SAVED = 21,     /* the bytes don't begin as those of a saved keyboard */
+    KBD48_OTHER_VERSION = 22, /* the bytes are of another version of the format */
+    KBD48_BAD_STATE = 23      /* a number in the bytes is out of range: no keyboard is in such a state */
 };
 
 /* The status in words; there is a text for every number. */
@@ -65,7 +69,8 @@ static inline const char *kbd48_text(int32_t status) {
         "no such place", "no such port", "no room", "the processor is stuck", "stuck before stamp 0",
         "the count of cycles is at its end", "no word", "the interrupt line rose", "no such cell",
         "nothing was said", "more was said than is kept", "the key is so already", "the next edge is due",
-        "no such key", "no such bit",
+        "no such key", "no such bit", "not the size of a saved keyboard", "no saved keyboard", "saved in another version",
+        "no keyboard is in such a state",
     };
     return status >= 0 && (size_t)status < sizeof texts / sizeof *texts ? texts[status] : "no such status";
 }
@@ -88,8 +93,8 @@ typedef struct {
 
 /* Opens a keyboard of this layout (TOML, at most 65,536 bytes) at `handle`, and closes the one that was there. Its
    firmware is compiled, the board is powered on, 4,096 cycles pass, which is stamp 0, and INT 09h is masked. Takes all
-   memory that the keyboard takes: only kbd48_copy and the calls that open take any. On KBD48_BAD_TEXT `fault` is the
-   first fault; with any other status `fault` is as it was. On any failure the handle is as it was. */
+   memory that the keyboard takes: only kbd48_copy, kbd48_load and the calls that open take any. On KBD48_BAD_TEXT
+   `fault` is the first fault; with any other status `fault` is as it was. On any failure the handle is as it was. */
 int32_t kbd48_open_layout(const uint8_t *text, size_t length, kbd48 *handle, kbd48_fault *fault);
 
 /* The same with the sample layout, us84: 84 keys, each at the place of its number. No text is read. */
@@ -118,6 +123,18 @@ int32_t kbd48_close(kbd48 *handle);
    has memory of its own: the same calls return the same. On any failure `to` is as it was. Keep a copy to go back to,
    or open one board up to its AA and copy it for each machine. */
 int32_t kbd48_copy(kbd48 *from, kbd48 *to);
+
+/* Writes the keyboard's state at the beginning of a buffer of at least KBD48_SAVED bytes; the bytes after these stay as
+   they were. `docs/EMBEDDING.md` has the format byte by byte. It has no pointer and no memory of this machine, so it can
+   be stored and loaded elsewhere. A queue of edges (below) is a struct of yours: store it beside these bytes. Returns
+   KBD48_BAD_SIZE if the buffer is too short, and writes nothing then. */
+#define KBD48_SAVED 3077
+int32_t kbd48_save(kbd48 *handle, uint8_t *buffer, size_t length);
+
+/* Opens the keyboard that KBD48_SAVED bytes mean at `handle`, and closes the one that was there. It is in the state in
+   which the saved one was: the same calls return the same. Any bytes may be given: those that mean no keyboard return
+   KBD48_BAD_SIZE, KBD48_NOT_SAVED, KBD48_OTHER_VERSION or KBD48_BAD_STATE. On any failure the handle is as it was. */
+int32_t kbd48_load(kbd48 *handle, const uint8_t *bytes, size_t length);
 
 /* The key at a place, 0 to 95 (eight times its column plus its row), goes down or up. The edge is made before the next
    step; no step is made yet. Returns KBD48_FULL if four edges wait already: run a step first. */

@@ -7,6 +7,7 @@
 #include <stdexcept>
 #include <string>
 #include <utility>
+#include <vector>
 
 class Kbd48 {
 public:
@@ -31,6 +32,20 @@ public:
         return keyboard;
     }
 
+    // The state as bytes, and a keyboard in that state. Its queue of edges is not among them: `queue` has that.
+    std::vector<uint8_t> save() const {
+        std::vector<uint8_t> bytes(KBD48_SAVED);
+        need(kbd48_save(&handle, bytes.data(), bytes.size()));
+        return bytes;
+    }
+    static Kbd48 of_saved(const std::vector<uint8_t> &bytes) {
+        Kbd48 keyboard;
+        need(kbd48_load(&keyboard.handle, bytes.data(), bytes.size()));
+        return keyboard;
+    }
+    const kbd48_keys &queue() const { return keys; }
+    void set_queue(const kbd48_keys &other) { keys = other; }
+
     // The place of a key by its name, in a layout's text or in the sample layout.
     static uint8_t place_of(const std::string &layout, const std::string &name) {
         uint8_t place;
@@ -42,6 +57,9 @@ public:
         need(kbd48_sample_key(bytes(name), name.size(), &place));
         return place;
     }
+
+    // 10,000 times the first part of the library's version, 100 times the second, and the third.
+    static int32_t version() { return kbd48_version(); }
 
     // How a run with the queue ended: how many cycles passed, how often the line rose, and whether that ended it.
     struct Ran {
@@ -118,7 +136,15 @@ public:
     uint64_t lost() const { return shown<uint64_t>(kbd48_lost); }
     uint64_t cycle() const { return shown<uint64_t>(kbd48_cycle); }
     uint8_t lights() const { return shown<uint8_t>(kbd48_lights); }
-    // Which wires each side pulls: 1 the clock, 2 data.
+    // The levels of the wires, true for high; and which of them each side pulls: 1 the clock, 2 data.
+    struct Wires {
+        bool clock, data;
+    };
+    Wires wires() const {
+        Wires wires;
+        need(kbd48_wires(&handle, &wires.clock, &wires.data));
+        return wires;
+    }
     struct Pulls {
         uint8_t keyboard, controller;
     };
@@ -127,6 +153,18 @@ public:
         need(kbd48_pulls(&handle, &pulls.keyboard, &pulls.controller));
         return pulls;
     }
+    // The edges that wait for a step, and the words in the buffer of INT 09h.
+    struct Waiting {
+        uint8_t edges, words;
+    };
+    Waiting waiting() const {
+        Waiting waiting;
+        need(kbd48_waiting(&handle, &waiting.edges, &waiting.words));
+        return waiting;
+    }
+    // The keys of a column, 0 to 11, and a byte of data memory, 0 to 127.
+    uint8_t column(uint8_t number) const { return numbered(kbd48_column, number); }
+    uint8_t cell(uint8_t number) const { return numbered(kbd48_cell, number); }
     kbd48_registers registers() const { return shown<kbd48_registers>(kbd48_look); }
     kbd48_processor processor() const { return shown<kbd48_processor>(kbd48_inside); }
 
@@ -142,6 +180,12 @@ private:
     static bool is_there(int32_t status, int32_t none) { return status != none && (need(status), true); }
     static const uint8_t *bytes(const std::string &text) { return reinterpret_cast<const uint8_t *>(text.data()); }
     static bool roomy(int32_t status) { return is_there(status, KBD48_FULL); }
+
+    uint8_t numbered(int32_t (*call)(kbd48 *, uint8_t, uint8_t *), uint8_t number) const {
+        uint8_t value;
+        need(call(&handle, number, &value));
+        return value;
+    }
 
     template <class T> T shown(int32_t (*call)(kbd48 *, T *)) const {
         T value;

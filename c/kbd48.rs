@@ -7,6 +7,9 @@ use std::cell::UnsafeCell;
 use std::ffi::c_void;
 use std::{fmt, ptr};
 
+/// How many bytes a saved keyboard has.
+pub const SAVED: usize = 3077;
+
 /// Why a call did nothing, or why a run ended early.
 #[derive(Clone, Copy, Debug, PartialEq, Eq)]
 pub enum Error {
@@ -29,6 +32,13 @@ pub enum Error {
     NoSuchKey,
     /// Noise turns round the bits 1 to 9 of a frame.
     NoSuchBit,
+    /// A saved keyboard has `SAVED` bytes.
+    BadSize,
+    /// The bytes don't begin as those of a saved keyboard.
+    NotSaved,
+    OtherVersion,
+    /// A number in the bytes is out of range.
+    BadState,
 }
 
 impl fmt::Display for Error {
@@ -47,6 +57,33 @@ pub struct Registers {
     pub output: u8,
     pub command_byte: u8,
     pub output_port: u8,
+}
+
+/// The keyboard's processor, an 8049. `counts` is 0 if the timer is off, 1 for machine cycles, 2 for falls of T1.
+#[repr(C)]
+#[derive(Clone, Copy, Debug, Default, PartialEq, Eq)]
+pub struct Processor {
+    pub counter: u16,
+    pub byte: u8,
+    pub a: u8,
+    pub carry: bool,
+    pub half_carry: bool,
+    pub f0: bool,
+    pub f1: bool,
+    pub register_bank: bool,
+    pub memory_bank: bool,
+    pub stack: u8,
+    pub t: u8,
+    pub prescaler: u8,
+    pub counts: u8,
+    pub timer_flag: bool,
+    pub external_on: bool,
+    pub timer_on: bool,
+    pub request: bool,
+    pub service: bool,
+    pub p1: u8,
+    pub p2: u8,
+    pub bus: u8,
 }
 
 /// What was said, with its cycle. The kinds are those of `kbd48.h`.
@@ -81,9 +118,10 @@ struct Pushed {
     down: bool,
 }
 
+/// The edges that wait in a keyboard's queue, and the keys that are down after them.
 #[repr(C)]
 #[derive(Clone, Copy)]
-struct Keys {
+pub struct Keys {
     ready: u64,
     edges: [Pushed; 160],
     down: [bool; 96],
@@ -115,6 +153,7 @@ struct Spot {
 type Open = unsafe extern "C" fn(*const u8, usize, *mut Handle, *mut Fault) -> i32;
 
 unsafe extern "C" {
+    fn kbd48_version() -> i32;
     fn kbd48_open_layout(text: *const u8, length: usize, handle: *mut Handle, fault: *mut Fault) -> i32;
     fn kbd48_open_hex(text: *const u8, length: usize, handle: *mut Handle, fault: *mut Fault) -> i32;
     fn kbd48_open_ready_layout(text: *const u8, length: usize, handle: *mut Handle, fault: *mut Fault) -> i32;
@@ -127,6 +166,8 @@ unsafe extern "C" {
     fn kbd48_queued(queue: *mut Keys, count: *mut u8) -> i32;
     fn kbd48_run_keys(handle: *mut Handle, queue: *mut Keys, cycles: u64, watched: bool, passed: *mut u64, spot: *mut Spot) -> i32;
     fn kbd48_copy(from: *mut Handle, to: *mut Handle) -> i32;
+    fn kbd48_save(handle: *mut Handle, buffer: *mut u8, length: usize) -> i32;
+    fn kbd48_load(handle: *mut Handle, bytes: *const u8, length: usize) -> i32;
     fn kbd48_close(handle: *mut Handle) -> i32;
     fn kbd48_key(handle: *mut Handle, place: u8, down: bool) -> i32;
     fn kbd48_run(handle: *mut Handle, cycles: u64, watched: bool, passed: *mut u64, spot: *mut Spot) -> i32;
@@ -134,6 +175,7 @@ unsafe extern "C" {
         passed: *mut u64, spot: *mut Spot) -> i32;
     fn kbd48_write(handle: *mut Handle, port: u8, byte: u8) -> i32;
     fn kbd48_read60(handle: *mut Handle, byte: *mut u8) -> i32;
+    fn kbd48_status(handle: *mut Handle, byte: *mut u8) -> i32;
     fn kbd48_bios(handle: *mut Handle, on: bool) -> i32;
     fn kbd48_flip(handle: *mut Handle, bit: u8) -> i32;
     fn kbd48_take(handle: *mut Handle, word: *mut u16) -> i32;
@@ -143,8 +185,13 @@ unsafe extern "C" {
     fn kbd48_lost(handle: *mut Handle, lost: *mut u64) -> i32;
     fn kbd48_rises(handle: *mut Handle, rises: *mut u64) -> i32;
     fn kbd48_lights(handle: *mut Handle, lights: *mut u8) -> i32;
+    fn kbd48_wires(handle: *mut Handle, clock: *mut bool, data: *mut bool) -> i32;
+    fn kbd48_waiting(handle: *mut Handle, edges: *mut u8, words: *mut u8) -> i32;
+    fn kbd48_column(handle: *mut Handle, number: u8, rows: *mut u8) -> i32;
     fn kbd48_pulls(handle: *mut Handle, keyboard: *mut u8, controller: *mut u8) -> i32;
     fn kbd48_cycle(handle: *mut Handle, cycle: *mut u64) -> i32;
+    fn kbd48_inside(handle: *mut Handle, shown: *mut Processor) -> i32;
+    fn kbd48_cell(handle: *mut Handle, number: u8, byte: *mut u8) -> i32;
 }
 
 /// An answer by its status. Statuses that a call takes for an answer never come here.
@@ -164,6 +211,10 @@ fn judged(status: i32, fault: Fault) -> Result<(), Error> {
         15 => Error::Lost,
         18 => Error::NoSuchKey,
         19 => Error::NoSuchBit,
+        20 => Error::BadSize,
+        21 => Error::NotSaved,
+        22 => Error::OtherVersion,
+        23 => Error::BadState,
         other => unreachable!("status {other} of an open keyboard"),
     })
 }
@@ -185,6 +236,11 @@ impl Drop for Keyboard {
     fn drop(&mut self) {
         unsafe { kbd48_close(self.handle.get()) };
     }
+}
+
+/// 10,000 times the first part of the library's version, 100 times the second, and the third.
+pub fn version() -> i32 {
+    unsafe { kbd48_version() }
 }
 
 impl Keyboard {
@@ -246,6 +302,16 @@ impl Keyboard {
         count
     }
 
+    /// The queue, to be kept beside what is kept of the keyboard: an empty one takes all keys for up.
+    pub fn queue(&self) -> Keys {
+        unsafe { *self.keys.get() }
+    }
+
+    /// Puts a queue that was kept in the place of this keyboard's.
+    pub fn set_queue(&mut self, keys: Keys) {
+        *self.keys.get_mut() = keys;
+    }
+
     /// Runs as `run` does, and hands over each edge of the queue when it is due.
     pub fn run_keys(&mut self, cycles: u64, watched: bool) -> Result<KeysRan, Error> {
         let mut ran = KeysRan { passed: 0, rises: 0, rose: false };
@@ -269,6 +335,19 @@ impl Keyboard {
         let copy = Keyboard::none();
         unsafe { *copy.keys.get() = *self.keys.get() };
         done(unsafe { kbd48_copy(self.handle.get(), copy.handle.get()) }).map(|()| copy)
+    }
+
+    /// The state as bytes, without the edges in the queue.
+    pub fn save(&self) -> [u8; SAVED] {
+        let mut bytes = [0; SAVED];
+        unsafe { kbd48_save(self.handle.get(), bytes.as_mut_ptr(), SAVED) };
+        bytes
+    }
+
+    /// The keyboard in the state that these bytes mean, with no edge in its queue.
+    pub fn of_saved(bytes: &[u8]) -> Result<Keyboard, Error> {
+        let keyboard = Keyboard::none();
+        done(unsafe { kbd48_load(keyboard.handle.get(), bytes.as_ptr(), bytes.len()) }).map(|()| keyboard)
     }
 
     pub fn key(&mut self, place: u8, down: bool) -> Result<(), Error> {
@@ -299,6 +378,12 @@ impl Keyboard {
     pub fn read60(&mut self) -> Result<u8, Error> {
         let mut byte = 0;
         done(unsafe { kbd48_read60(self.handle.get(), &mut byte) }).map(|()| byte)
+    }
+
+    /// The host reads the status, in one step; `registers` shows it without one.
+    pub fn status(&mut self) -> Result<u8, Error> {
+        let mut byte = 0;
+        done(unsafe { kbd48_status(self.handle.get(), &mut byte) }).map(|()| byte)
     }
 
     pub fn bios(&mut self, on: bool) -> Result<(), Error> {
@@ -349,16 +434,39 @@ impl Keyboard {
         self.look(kbd48_lights)
     }
 
+    /// The levels of the clock and of data, true for high.
+    pub fn wires(&self) -> (bool, bool) {
+        self.look_at_two(kbd48_wires)
+    }
+
+    /// How many edges wait for a step, and how many words in the buffer of INT 09h.
+    pub fn waiting(&self) -> (u8, u8) {
+        self.look_at_two(kbd48_waiting)
+    }
+
+    /// The keys of a column, 0 to 11: bit k is row k, 0 for down.
+    pub fn column(&self, number: u8) -> Result<u8, Error> {
+        let mut rows = 0;
+        done(unsafe { kbd48_column(self.handle.get(), number, &mut rows) }).map(|()| rows)
+    }
+
     /// The wires that the keyboard pulls, and those that the controller pulls: 1 the clock, 2 data.
     pub fn pulls(&self) -> (u8, u8) {
-        let (mut keyboard, mut controller) = (0, 0);
-        let status = unsafe { kbd48_pulls(self.handle.get(), &mut keyboard, &mut controller) };
-        debug_assert_eq!(status, 0);
-        (keyboard, controller)
+        self.look_at_two(kbd48_pulls)
     }
 
     pub fn cycle(&self) -> u64 {
         self.look(kbd48_cycle)
+    }
+
+    pub fn processor(&self) -> Processor {
+        self.look(kbd48_inside)
+    }
+
+    /// A byte of the processor's data memory, 0 to 127.
+    pub fn cell(&self, number: u8) -> Result<u8, Error> {
+        let mut byte = 0;
+        done(unsafe { kbd48_cell(self.handle.get(), number, &mut byte) }).map(|()| byte)
     }
 
     fn none() -> Keyboard {
@@ -369,6 +477,14 @@ impl Keyboard {
         let (keyboard, mut fault) = (Keyboard::none(), Fault::default());
         let status = unsafe { open(text.as_ptr(), text.len(), keyboard.handle.get(), &mut fault) };
         judged(status, fault).map(|()| keyboard)
+    }
+
+    /// A look that shows two values.
+    fn look_at_two<T: Default>(&self, call: unsafe extern "C" fn(*mut Handle, *mut T, *mut T) -> i32) -> (T, T) {
+        let mut shown = (T::default(), T::default());
+        let status = unsafe { call(self.handle.get(), &mut shown.0, &mut shown.1) };
+        debug_assert_eq!(status, 0);
+        shown
     }
 
     /// A look at an open keyboard, which is always done.

@@ -25,6 +25,16 @@ int main() {
     Kbd48 moved = std::move(copy);
     copy = first;
     CHECK(moved.read60() == 0xaa && moved.cycle() == first.cycle());
+    std::vector<uint8_t> saved = moved.save();
+    Kbd48 loaded = Kbd48::of_saved(saved);
+    CHECK(saved.size() == KBD48_SAVED && loaded.save() == saved && loaded.cycle() == moved.cycle());
+    saved[7]++;
+    try {
+        Kbd48::of_saved(saved);
+        return failed(__LINE__);
+    } catch (const Kbd48::Error &thrown) {
+        CHECK(thrown.status == KBD48_OTHER_VERSION);
+    }
     kbd48_item item;
     CHECK(moved.next(item) && item.kind == KBD48_ITEM_SENT && item.value == 0xaa);
     CHECK(moved.next(item) && item.kind == KBD48_ITEM_READ && item.value == 0xaa && !moved.next(item));
@@ -41,7 +51,15 @@ int main() {
     CHECK(copy.queued() == 0 && sample.queued() == 4 && sample.run_keys(40000).rises == 1);
     Kbd48 ready = Kbd48::ready_of_layout(text);
     ready.flip(9);
-    CHECK(ready.pulls().controller == 1);
+    CHECK(ready.pulls().controller == 1 && !ready.wires().clock && ready.wires().data);
+    CHECK(Kbd48::version() == KBD48_VERSION_NUMBER && ready.waiting().edges == 0 && ready.waiting().words == 0);
+    CHECK(ready.column(11) == 0xff && ready.cell(127) == 0);
+    try {
+        ready.cell(128);
+        return failed(__LINE__);
+    } catch (const Kbd48::Error &thrown) {
+        CHECK(thrown.status == KBD48_NO_SUCH_CELL);
+    }
     CHECK(ready.interrupt() && ready.lost() == 0 && ready.run_to(0, 400000, 1) == 0);
     CHECK(ready.run_to(KBD48_STOP_COUNTER, 4096, UINT64_MAX, KBD48_TICK) == KBD48_STOP_COUNTER);
     CHECK(ready.processor().counter == KBD48_TICK);

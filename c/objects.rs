@@ -13,6 +13,12 @@ fn main() -> Result<(), Box<dyn std::error::Error>> {
     assert_eq!(copy.read60()?, 0xaa);
     assert_eq!(copy.cycle(), first.cycle());
     assert_eq!(copy.next_said()?.map(|it| (it.kind, it.value)), Some((18, 0xaa)));
+    let mut saved = copy.save();
+    let loaded = Keyboard::of_saved(&saved)?;
+    assert!(loaded.save() == saved && loaded.cycle() == copy.cycle());
+    saved[0] = 0;
+    assert_eq!(Keyboard::of_saved(&saved).err(), Some(Error::NotSaved));
+    assert_eq!(Keyboard::of_saved(&saved[1..]).err(), Some(Error::BadSize));
     let said = copy.next_said()?.expect("the read was said");
     assert_eq!((said.kind, said.value, copy.next_said()?), (1, 0xaa, None));
     copy.key(34, true)?;
@@ -27,6 +33,8 @@ fn main() -> Result<(), Box<dyn std::error::Error>> {
     sample.queue_key(h, true)?;
     sample.release_all();
     assert_eq!(sample.copied()?.queued(), 4);
+    first.set_queue(sample.queue());
+    assert_eq!(first.queued(), 4);
     for byte in [0x2a, 0x23, 0xa3, 0xaa] {
         assert!(sample.run_keys(400_000, true)?.rose);
         assert_eq!(sample.read60()?, byte);
@@ -37,6 +45,8 @@ fn main() -> Result<(), Box<dyn std::error::Error>> {
     assert_eq!((ready.flip(10), ready.flip(9), ready.pulls().1), (Err(Error::NoSuchBit), Ok(()), 1));
     assert_eq!(ready.run_to(0, 0, 400_000, 1)?.1, 0);
     assert_eq!(ready.run_to(8, 7, 4096, u64::MAX)?.1, 8);
+    assert_eq!((first.wires(), first.waiting(), first.column(0), first.status()?), ((false, true), (0, 0), Ok(0xff), 0x14));
+    assert_eq!((first.column(12), kbd48::version()), (Err(Error::NoSuchPlace), 10000));
     assert_eq!(first.key(96, true), Err(Error::NoSuchPlace));
     assert_eq!(Keyboard::of_layout(b"format = ").err(), Some(Error::BadText { position: 0, number: 1 }));
     Ok(())

@@ -1,5 +1,6 @@
 /* Random calls: a keyboard and its copy give the same answers and the same log, whatever was called, and looks change
-   nothing. Every so often the copy is made anew. Each call's rises are those of the interrupt line.
+   nothing. Every so often the copy is made anew, by kbd48_copy or of what kbd48_save wrote; and the keyboard itself is
+   then loaded of it. Each call's rises are those of the interrupt line.
    twins HEX COUNT SEED */
 #include "kbd48.h"
 #include <stdio.h>
@@ -61,6 +62,20 @@ static void act(kbd48 *k, seen *s, uint32_t what, uint32_t a, uint32_t b) {
     }
 }
 
+static bool is_saved_alike(kbd48 *k, kbd48 *other) {
+    static uint8_t one[KBD48_SAVED], two[KBD48_SAVED];
+    return kbd48_save(k, one, sizeof one) == KBD48_DONE && kbd48_save(other, two, sizeof two) == KBD48_DONE &&
+           !memcmp(one, two, sizeof one);
+}
+
+/* Makes the copy anew: one time by kbd48_copy, the next of a save, and the next of a save into both. */
+static bool copied(kbd48 *k, kbd48 *copy, unsigned long time) {
+    static uint8_t bytes[KBD48_SAVED];
+    if (time % 3 == 0) return kbd48_copy(k, copy) == KBD48_DONE;
+    return kbd48_save(k, bytes, sizeof bytes) == KBD48_DONE && kbd48_load(copy, bytes, sizeof bytes) == KBD48_DONE &&
+           (time % 3 == 1 || kbd48_load(k, bytes, sizeof bytes) == KBD48_DONE);
+}
+
 static void drain(kbd48 *k, seen *s) {
     while ((s->last = kbd48_next(k, &s->items[s->count])) == KBD48_DONE) s->count++;
 }
@@ -79,7 +94,7 @@ int main(int argc, char **argv) {
     for (call = 0; call < count; call++) {
         uint32_t what = random_below(10), a = random_below(65536), b = random_below(65536);
         uint8_t column = (uint8_t)random_below(12), cell = (uint8_t)random_below(128);
-        if (call % 97 == 0) CHECK(kbd48_copy(&k, &copy) == KBD48_DONE);
+        if (call % 97 == 0) CHECK(copied(&k, &copy, call / 97) && is_saved_alike(&k, &copy));
         if (call % 89 == 0) drain(&k, &one), drain(&copy, &other), items += one.count;
         bool was;
         CHECK(kbd48_interrupt(&k, &was) == KBD48_DONE);
@@ -99,5 +114,5 @@ int main(int argc, char **argv) {
     }
     CHECK(kbd48_close(&k) == KBD48_DONE && kbd48_close(&copy) == KBD48_DONE);
     CHECK(rises > 0 && items > 0);
-    printf("twins: %lu random calls of a keyboard and its copies, %lu rises and %lu items, differ nowhere\n", call, rises, items);
+    printf("twins: %lu random calls of a keyboard and its copies and saves, %lu rises and %lu items, differ nowhere\n", call, rises, items);
 }

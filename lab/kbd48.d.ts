@@ -2,7 +2,7 @@
 export declare const Status: Readonly<{
   DONE: 0; NOT_OPEN: 1; NO_MEMORY: 2; BAD_TEXT: 3; TOO_LONG: 4; NO_SUCH_PLACE: 5; NO_SUCH_PORT: 6; FULL: 7; STUCK: 8;
   EARLY: 9; OVER: 10; NO_WORD: 11; ROSE: 12; NO_SUCH_CELL: 13; NOTHING_SAID: 14; LOST: 15; REPEATED: 16; KEY_DUE: 17;
-  NO_SUCH_KEY: 18; NO_SUCH_BIT: 19;
+  NO_SUCH_KEY: 18; NO_SUCH_BIT: 19; BAD_SIZE: 20; NOT_SAVED: 21; OTHER_VERSION: 22; BAD_STATE: 23;
 }>;
 export type StatusNumber = (typeof Status)[keyof typeof Status];
 
@@ -103,6 +103,8 @@ export declare class Keyboard {
   free(): void;
   copy(): Keyboard;
   copyTo(other: Keyboard): void;
+  save(): Uint8Array;
+  load(bytes: Uint8Array): void;
   key(place: number, down: boolean): StatusNumber;
   run(cycles: number, watched?: boolean): StatusNumber;
   step(): StatusNumber;
@@ -111,6 +113,7 @@ export declare class Keyboard {
   queueKey(place: number, down: boolean, cycle?: number): StatusNumber;
   releaseAll(cycle?: number): void;
   queued(): number;
+  queue: Uint8Array;
   runKeys(cycles: number, watched?: boolean): KeysRan;
   readonly passed: number;
   readonly stuck: { counter: number; byte: number };

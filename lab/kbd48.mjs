@@ -4,7 +4,7 @@
 export const Status = Object.freeze({
   DONE: 0, NOT_OPEN: 1, NO_MEMORY: 2, BAD_TEXT: 3, TOO_LONG: 4, NO_SUCH_PLACE: 5, NO_SUCH_PORT: 6, FULL: 7, STUCK: 8, EARLY: 9,
   OVER: 10, NO_WORD: 11, ROSE: 12, NO_SUCH_CELL: 13, NOTHING_SAID: 14, LOST: 15, REPEATED: 16, KEY_DUE: 17, NO_SUCH_KEY: 18,
-  NO_SUCH_BIT: 19,
+  NO_SUCH_BIT: 19, BAD_SIZE: 20, NOT_SAVED: 21, OTHER_VERSION: 22, BAD_STATE: 23,
 });
 
 /** What `runTo` may be asked to stop for: a rise of the interrupt line, something said, a wire that changed, a value of the program counter. */
@@ -22,7 +22,9 @@ export const Item = Object.freeze({
 const STATUS_TEXTS = ['done', 'the handle is empty', 'there is no memory left', 'the text has a fault', 'the text is too long',
   'there is no such place', 'there is no such port', 'there is no room', 'the processor is stuck',
   'the processor stuck before stamp 0', 'the count of cycles is at its end', 'there is no word', 'the interrupt line rose', 'there is no such cell', 'nothing was said',
-  'more was said than is kept', 'the key is so already', 'the next edge is due', 'there is no such key', 'there is no such bit'];
+  'more was said than is kept', 'the key is so already', 'the next edge is due', 'there is no such key',
+  'there is no such bit', 'that is not the size of a saved keyboard', 'these bytes are no saved keyboard',
+  'the keyboard was saved in another version', 'no keyboard is in such a state'];
 
 /** A call that was refused. `position` and `number` say which rule a text breaks, and at which entry or line. */
 export class Kbd48Error extends Error {
@@ -92,7 +94,7 @@ async function started(bytes) {
 const PLACES = {
   handle: 0, fault: 8, passed: 16, spot: 24, byte: 28, word: 30, one: 32, two: 33, cycle: 40, item: 48, shown: 64, queue: 96,
 };
-const QUEUE_SIZE = 2672, PLACES_SIZE = PLACES.queue + QUEUE_SIZE;
+const SAVED_SIZE = 3077, QUEUE_SIZE = 2672, PLACES_SIZE = PLACES.queue + QUEUE_SIZE;
 const ONE = 1n, ANY_NUMBER = (1n << 64n) - 1n;
 const COUNTS = ['off', 'cycles', 'falls of T1'];
 
@@ -221,6 +223,28 @@ export class Keyboard {
     other.#queue().set(this.#queue());
   }
 
+  /** The state as 3,077 bytes, which `load` reads. The edges that wait in the queue are not among them. */
+  save() {
+    const { machine } = this, at = machine.take(SAVED_SIZE);
+    const status = machine.call('kbd48_save', this.to.handle, at, BigInt(SAVED_SIZE));
+    const bytes = new Uint8Array(machine.view.buffer, Number(at), SAVED_SIZE).slice();
+    machine.give(at);
+    this.#done(status);
+    return bytes;
+  }
+
+  /** Opens a keyboard in the state of these bytes, with an empty queue. Other bytes are refused, and it stays as it was. */
+  load(bytes) { this.#opened(this.#loaded(bytes)); }
+
+  // The bytes go in after the handle.
+  #loaded(bytes) {
+    const { machine } = this, at = machine.take(bytes.length + 1);
+    machine.put(bytes, Number(at));
+    const status = machine.call('kbd48_load', this.to.handle, at, BigInt(bytes.length));
+    machine.give(at);
+    return status;
+  }
+
   /** A key goes down or up. The status: DONE, or FULL where four edges wait. */
   key(place, down) { return this.machine.call('kbd48_key', this.to.handle, place, down ? 1 : 0); }
 
@@ -260,6 +284,15 @@ export class Keyboard {
   queued() {
     this.#done(this.machine.call('kbd48_queued', this.to.queue, this.to.byte));
     return this.#byte(PLACES.byte);
+  }
+
+  /** The queue as 2,672 bytes, to be kept beside what is kept of the keyboard: an empty one takes all keys for up. Set it to what it
+      was. */
+  get queue() { return this.#queue().slice(); }
+
+  set queue(bytes) {
+    if (bytes.length !== QUEUE_SIZE) throw new RangeError(`a queue has ${QUEUE_SIZE} bytes`);
+    this.#queue().set(bytes);
   }
 
   /** Runs as `run` does, and hands over each edge of the queue when it is due. Returns the status, DONE, ROSE or STUCK; how

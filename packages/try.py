@@ -36,6 +36,11 @@ def check_refusals(layout, stuck):
         assert keyboard.take() is None and keyboard.run(400).cycles >= 400
         twin = keyboard.copy()
         assert twin.run(100_000) == keyboard.run(100_000) and twin.processor == keyboard.processor
+        saved = keyboard.save()
+        with Keyboard.of_saved(saved) as loaded:
+            assert loaded.save() == saved and loaded.run(1000) == twin.run(1000)
+        assert refusal(Keyboard.of_saved, saved[1:]).status == Status.BAD_SIZE
+        assert refusal(Keyboard.of_saved, bytes(3077)).status == Status.NOT_SAVED
     with Keyboard.of_layout(layout, ready=True) as ready:
         assert ready.interrupt and ready.lost == 0 and ready.run_to(Stop(0), 400_000, steps=1).met == Stop(0)
         assert ready.run_to(Stop.COUNTER | Stop.RISE, 4096, at=7).met == Stop.COUNTER and ready.processor.counter == 7
@@ -58,6 +63,11 @@ def check_queue(layout):
         for byte in (0x2A, 0x23, 0xA3, 0xAA):
             assert twin.run_keys(400_000, watched=True).rose and twin.read60() == byte
         assert twin.queued == 0 and keyboard.queued == 4 and keyboard.run_keys(40_000).rises == 1
+        kept = keyboard.queue
+        keyboard.queue = twin.queue
+        assert keyboard.queued == 0 and isinstance(refusal(setattr, keyboard, "queue", kept[1:]), ValueError)
+        keyboard.queue = kept
+        assert keyboard.queue == kept
 
 
 def check_docs():

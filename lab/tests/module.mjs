@@ -106,6 +106,14 @@ async function looks() {
   kept.run(200);
   assert.deepEqual(seen(kept), seen(keyboard));
   assert.deepEqual([...kept.items()], [sent, said]);
+  const bytes = keyboard.save();
+  kept.load(bytes);
+  assert.equal(bytes.length, 3077);
+  assert.deepEqual(kept.save(), bytes);
+  assert.deepEqual(seen(kept), seen(keyboard));
+  refused(() => kept.load(bytes.subarray(1)), Status.BAD_SIZE);
+  refused(() => kept.load(new Uint8Array(3077)), Status.NOT_SAVED);
+  assert.deepEqual(kept.save(), bytes, 'what is refused changes nothing');
   assert.equal(keyboard.key(29, true), Status.DONE);
   assert.deepEqual(keyboard.waiting(), { edges: 1, words: 0 });
   assert.equal(keyboard.column(3), 0xFF);
@@ -184,6 +192,12 @@ async function queue() {
   assert.equal(keyboard.queued(), 0);
   assert.equal(taken(keyboard), text);
   assert.equal(copy.queued(), 32, 'the copy has a queue of its own');
+  const queue = copy.queue;
+  copy.queue = keyboard.queue;
+  assert.equal(copy.queued(), 0, 'a queue may be put in the place of another');
+  copy.queue = queue;
+  assert.equal(copy.queued(), 32);
+  assert.throws(() => { copy.queue = queue.subarray(1); }, RangeError);
   let rises = 0;
   for (let end = keyboard.cycle(); copy.cycle() < end - 100;) {
     const { status, rises: more } = copy.runKeys(1000, true);
@@ -326,7 +340,7 @@ async function checksum() {
       }
     },
     keys: (cycles, watched) => {
-      const { machine, to } = keyboard, status = machine.call('kbd48_run_keys', to.handle, to.queue, BigInt(cycles), watched, to.passed, to.place);
+      const { machine, to } = keyboard, status = machine.call('kbd48_run_keys', to.handle, to.queue, BigInt(cycles), watched, to.passed, to.spot);
       return both(status, keyboard.passed);
     },
     to: (cycles, x) => {

@@ -20,6 +20,7 @@ export async function everyCall(keyboardModule: Uint8Array, layout: Uint8Array, 
   keyboard.releaseAll();
   keyboard.releaseAll(keyboard.cycle());
   lines.push(`${version} ${ran} ${watched} ${stopped.met} ${changed} ${pushed} ${keys.rises} ${keyboard.queued()} ${keyboard.passed}`);
+  keyboard.queue = keyboard.queue.slice();
   const written: StatusNumber = keyboard.write(0x60, 0xED), byte: number = keyboard.read60(), status: number = keyboard.status();
   keyboard.bios(true);
   keyboard.flip(9);
@@ -33,6 +34,8 @@ export async function everyCall(keyboardModule: Uint8Array, layout: Uint8Array, 
     keyboard.lights(), keyboard.wires(), keyboard.rises(), keyboard.lost(), keyboard.column(3), keyboard.cell(0x20)].join());
   const copy: Keyboard = keyboard.copy();
   keyboard.copyTo(copy);
+  const saved: Uint8Array = keyboard.save();
+  copy.load(saved);
   copy.free();
   keyboard.close();
   return lines;

@@ -4,7 +4,7 @@ use Rattle.std.proofs.Common.{refl, ap, sym, subst, ◌∙◌, arith}
 use Rattle.std.specs.Prelude.{nat_lt, slice_index, slice_index_or}
 use Rattle.std.proofs.lemmas.Bool.Decides.{nat_tests}
 use Rattle.board_terms.specs.declared.event.Edge.{Edge}
-use Rattle.host_turn.specs.declared.stamped.Stamped.{Stamped}
+use Rattle.joint_bytes.specs.declared.happened.Happened.{Happened}
 use Rattle.joint_bytes.proofs.Pushed.{later_is, one_less}
 use Rattle.joint_bytes.specs.Lists.{edge_bytes, edge_in, edges_bytes, edges_in, have_places, item_bytes, item_in, items_bytes, items_in}
 use Rattle.joint_bytes.specs.Lists.{no_item}
@@ -48,13 +48,13 @@ places_all (suc n) (x ∷ es) e piece l m is p r h =
     ap (λ b. b && have_places (length es) (edges_bytes n es)) near ∙ later
 
 -- no item any more: a place of zeros
-pub items_rest : (n : ℕ) (is : List Stamped) → 0 < n → length is < 1
+pub items_rest : (n : ℕ) (is : List Happened) → 0 < n → length is < 1
     → (0 ∷ 0 ∷ 0 ∷ 0 ∷ 0 ∷ 0 ∷ 0 ∷ 0 ∷ 0 ∷ 0 ∷ 0 ∷ []) ++ items_bytes (n - 1) is ≡ items_bytes n is
 items_rest zero is l m = absurd (omega (arith, l))
 items_rest (suc n) (x ∷ is) l m = absurd (omega (arith, m))
 items_rest (suc n) [] l m = ap (λ k. (0 ∷ 0 ∷ 0 ∷ 0 ∷ 0 ∷ 0 ∷ 0 ∷ 0 ∷ 0 ∷ 0 ∷ 0 ∷ []) ++ items_bytes k []) (one_less n)
 
-pub items_more : (n : ℕ) (is : List Stamped) (piece : List ℕ) → 0 < n → 0 < length is
+pub items_more : (n : ℕ) (is : List Happened) (piece : List ℕ) → 0 < n → 0 < length is
     → piece ≡ item_bytes (slice_index_or is 0 no_item)
     → piece ++ items_bytes (n - 1) (take (length is - 1) (drop 1 is)) ≡ items_bytes n is
 items_more zero is piece l m p = absurd (omega (arith, l))
@@ -64,7 +64,7 @@ items_more (suc n) (x ∷ is) piece l m p =
     ∙ ap (λ k. piece ++ items_bytes k is) (one_less n)
     ∙ ap (λ q. q ++ items_bytes n is) p
 
-pub items_all : (n : ℕ) (is : List Stamped) (piece : List ℕ) → 0 < n → 0 < length is
+pub items_all : (n : ℕ) (is : List Happened) (piece : List ℕ) → 0 < n → 0 < length is
     → piece ≡ item_bytes (slice_index_or is 0 no_item) → item_in piece ≡ slice_index_or is 0 no_item
     → items_in (length (take (length is - 1) (drop 1 is))) (items_bytes (n - 1) (take (length is - 1) (drop 1 is)))
     ≡ take (length is - 1) (drop 1 is) → items_in (length is) (items_bytes n is) ≡ is
@@ -73,7 +73,7 @@ items_all (suc n) [] piece l m p r h = absurd (omega (arith, m))
 items_all (suc n) (x ∷ is) piece l m p r h =
     let first : item_in (item_bytes x) ≡ x = ap item_in (sym p) ∙ r in
     let most : items_in (length is) (items_bytes (suc n - 1) is) ≡ is =
-    subst (λ (s : List Stamped). items_in (length s) (items_bytes (suc n - 1) s) ≡ s) (later_is 1 (x ∷ is)) h in
+    subst (λ (s : List Happened). items_in (length s) (items_bytes (suc n - 1) s) ≡ s) (later_is 1 (x ∷ is)) h in
     let later : items_in (length is) (items_bytes n is) ≡ is =
     ap (λ k. items_in (length is) (items_bytes k is)) (sym (one_less n)) ∙ most in
     λ i. first i ∷ later i

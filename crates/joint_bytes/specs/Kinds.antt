@@ -1,5 +1,5 @@
--- The kinds of what is said, as numbers.
-use Rattle.std.specs.Prelude.{ℕ, ◌==◌, if◌then◌else◌, Some, None}
+-- The kinds of what happens, as numbers.
+use Rattle.std.specs.Prelude.{ℕ, ◌==◌, if◌then◌else◌, true, false, Some, None}
 use Rattle.pc_tables.specs.declared.item.Item.{Item}
 use Rattle.pc_tables.specs.declared.item.Item.TheVariants.{
   Port,
@@ -20,6 +20,8 @@ use Rattle.pc_tables.specs.declared.item.Item.TheVariants.{
   SysMake,
   SysBreak,
 }
+use Rattle.joint_bytes.specs.declared.happened.What.{What}
+use Rattle.joint_bytes.specs.declared.happened.What.TheVariants.{Said, Passed}
 
 -- the kind of an item as a number, and its byte or word. A taking that found the buffer empty is a kind of its own
 abbrev pub kind_of : Item → ℕ
@@ -83,3 +85,18 @@ item_by kind byte word =
     else if kind == 15 then Boot
     else if kind == 16 then SysMake
     else SysBreak
+
+-- a byte that passed over the wires is of two more kinds: the keyboard sent it, or the controller gave it to the keyboard
+abbrev pub what_kind : What → ℕ
+what_kind (Said item) = kind_of item
+what_kind (Passed byte) = if byte.from_host then 19 else 18
+
+abbrev pub what_value : What → ℕ
+what_value (Said item) = value_of item
+what_value (Passed byte) = byte.byte
+
+abbrev pub what_by : ℕ → ℕ → ℕ → What
+what_by kind byte word =
+    if kind == 18 then Passed (record { from_host = false; byte = byte })
+    else if kind == 19 then Passed (record { from_host = true; byte = byte })
+    else Said (item_by kind byte word)

@@ -2,9 +2,10 @@
 use Rattle.std.specs.Prelude.{ℕ, zero, suc, ◌&&◌, Bool, true, false, nat_lt, List, [], ◌∷◌, ◌++◌, drop, slice_index, slice_index_or}
 use Rattle.std.specs.Int.{w16, w64, to_le_bytes, from_bool}
 use Rattle.board_terms.specs.declared.event.Edge.{Edge}
-use Rattle.host_turn.specs.declared.stamped.Stamped.{Stamped}
 use Rattle.pc_tables.specs.declared.item.Item.TheVariants.{Port}
-use Rattle.joint_bytes.specs.Kinds.{item_by, kind_of, value_of}
+use Rattle.joint_bytes.specs.Kinds.{what_by, what_kind, what_value}
+use Rattle.joint_bytes.specs.declared.happened.Happened.{Happened}
+use Rattle.joint_bytes.specs.declared.happened.What.TheVariants.{Said}
 use Rattle.joint_bytes.specs.Numbers.{number_at, truth_at, word_at}
 
 -- words of 2 bytes
@@ -40,20 +41,20 @@ abbrev pub have_places : ℕ → List ℕ → Bool
 have_places zero s = true
 have_places (suc n) s = nat_lt (slice_index s 8) 96 && have_places n (drop 10 s)
 
--- what was said, in 11 bytes: its cycle (8 bytes), its kind, and its byte or word (2 bytes)
-abbrev pub item_bytes : Stamped → List ℕ
-item_bytes s = to_le_bytes w64 s.cycle ++ kind_of s.item ∷ to_le_bytes w16 (value_of s.item)
+-- what happened, in 11 bytes: its cycle (8 bytes), its kind, and its byte or word (2 bytes)
+abbrev pub item_bytes : Happened → List ℕ
+item_bytes it = to_le_bytes w64 it.cycle ++ what_kind it.what ∷ to_le_bytes w16 (what_value it.what)
 
-abbrev pub item_in : List ℕ → Stamped
-item_in s = record { cycle = number_at 0 s; item = item_by (slice_index s 8) (slice_index s 9) (word_at 9 s) }
+abbrev pub item_in : List ℕ → Happened
+item_in s = record { cycle = number_at 0 s; what = what_by (slice_index s 8) (slice_index s 9) (word_at 9 s) }
 
-abbrev pub no_item : Stamped
-no_item = record { cycle = 0; item = Port 0 }
+abbrev pub no_item : Happened
+no_item = record { cycle = 0; what = Said (Port 0) }
 
-abbrev pub items_bytes : ℕ → List Stamped → List ℕ
+abbrev pub items_bytes : ℕ → List Happened → List ℕ
 items_bytes zero items = []
 items_bytes (suc n) items = item_bytes (slice_index_or items 0 no_item) ++ items_bytes n (drop 1 items)
 
-abbrev pub items_in : ℕ → List ℕ → List Stamped
+abbrev pub items_in : ℕ → List ℕ → List Happened
 items_in zero s = []
 items_in (suc n) s = item_in s ∷ items_in n (drop 11 s)

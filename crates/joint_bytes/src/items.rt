@@ -1,20 +1,26 @@
-//! The bytes of what is said.
+//! The bytes of what happened.
 
 ghost use Rattle.std.specs.Prelude.{◌≡◌, ◌≤◌, ◌+◌, ◌*◌, ◌++◌, ◌∷◌, length, slice_index};
 ghost use Rattle.std.specs.Int.{w16, to_le_bytes};
 ghost use Rattle.arrayvec.specs.ArrayVec.{array_vec_len};
-ghost use Rattle.joint_bytes.specs.Kinds.{item_by, kind_of, value_of};
+ghost use Rattle.joint_bytes.specs.Kinds.{item_by, kind_of, value_of, what_by, what_kind, what_value};
 ghost use Rattle.joint_bytes.specs.Numbers.{word_at};
 ghost use Rattle.joint_bytes.specs.Lists.{item_bytes, item_in, items_bytes, items_in};
 
+use crate::happened::{Happened, Transfer, What};
 use crate::numbers::{number_at, word_at};
 use arrayvec::ArrayVec;
 use hex_text::append;
-use host_turn::Stamped;
 use pc_tables::Item;
 
+/// The keyboard has sent a byte over the wires, as a kind.
+const SENT: u8 = 18;
+
+/// The controller has sent the keyboard a byte, as a kind.
+const GIVEN: u8 = 19;
+
 /// The kind of an item, as a number.
-pub fn item_kind(item: Item) -> u8
+fn item_kind(item: Item) -> u8
     ensures { result ≡ kind_of item }
 {
     match item {
@@ -40,7 +46,7 @@ pub fn item_kind(item: Item) -> u8
 }
 
 /// The byte or the word of an item, or 0.
-pub fn item_value(item: Item) -> u16
+fn item_value(item: Item) -> u16
     ensures { result ≡ value_of item }
 {
     match item {
@@ -91,38 +97,75 @@ fn item_by(kind: u8, byte: u8, word: u16) -> Item
     }
 }
 
-/// An item is read from its kind and its value's two bytes.
-fn kind_and_value(item: Item) -> [u8; 3]
-    ensures bytes { result ≡ kind_of item ∷ to_le_bytes w16 (value_of item) }
-    ensures read { item_by (slice_index result 0) (slice_index result 1) (word_at 1 result) ≡ item }
+/// The kind of what happened, as a number: that of the log's item, or a byte that passed over the wires.
+pub fn what_kind(what: What) -> u8
+    ensures { result ≡ what_kind what }
 {
-    let [low, high] = item_value(item).to_le_bytes();
-    [item_kind(item), low, high]
+    match what {
+        What::Said(item) => item_kind(item),
+        What::Passed(byte) => { if byte.from_host { GIVEN } else { SENT } }
+    }
 }
 
-/// The bytes of what was said. They are read as this.
-fn item_bytes(said: &Stamped) -> [u8; 11]
-    ensures bytes { result ≡ item_bytes said.now }
-    ensures read { item_in result ≡ said.now }
+/// Its byte or word, or 0.
+pub fn what_value(what: What) -> u16
+    ensures { result ≡ what_value what }
 {
-    let [a, b, c, d, e, f, g, h] = said.cycle.to_le_bytes();
-    let [kind, low, high] = kind_and_value(said.item);
+    match what {
+        What::Said(item) => item_value(item),
+        What::Passed(byte) => u16::from(byte.byte),
+    }
+}
+
+/// What happened, by its kind.
+fn what_by(kind: u8, byte: u8, word: u16) -> What
+    ensures { result ≡ what_by kind byte word }
+{
+    match kind {
+        SENT => What::Passed(Transfer {
+            from_host: false,
+            byte,
+        }),
+        GIVEN => What::Passed(Transfer {
+            from_host: true,
+            byte,
+        }),
+        _ => What::Said(item_by(kind, byte, word)),
+    }
+}
+
+/// What happened is read from its kind and its value's two bytes.
+fn kind_and_value(what: What) -> [u8; 3]
+    ensures bytes { result ≡ what_kind what ∷ to_le_bytes w16 (what_value what) }
+    ensures read { what_by (slice_index result 0) (slice_index result 1) (word_at 1 result) ≡ what }
+{
+    let [low, high] = what_value(what).to_le_bytes();
+    [what_kind(what), low, high]
+}
+
+/// The bytes of what happened. They are read as this.
+fn item_bytes(it: &Happened) -> [u8; 11]
+    ensures bytes { result ≡ item_bytes it.now }
+    ensures read { item_in result ≡ it.now }
+{
+    let [a, b, c, d, e, f, g, h] = it.cycle.to_le_bytes();
+    let [kind, low, high] = kind_and_value(it.what);
     [a, b, c, d, e, f, g, h, kind, low, high]
 }
 
 /// What these bytes mean.
-fn item_in(bytes: &[u8]) -> Stamped
+fn item_in(bytes: &[u8]) -> Happened
     requires { 11 ≤ length bytes.now }
     ensures { result ≡ item_in bytes.now }
 {
-    Stamped {
+    Happened {
         cycle: number_at(bytes, 0),
-        item: item_by(bytes[8], bytes[9], word_at(bytes, 9)),
+        what: what_by(bytes[8], bytes[9], word_at(bytes, 9)),
     }
 }
 
 /// Appends the places for items. What is appended is read as these items.
-pub fn push_items(bytes: &mut ArrayVec<u8, 3077>, items: &[Stamped], places: usize)
+pub fn push_items(bytes: &mut ArrayVec<u8, 3077>, items: &[Happened], places: usize)
     requires room { array_vec_len bytes.old + 11 * places ≤ 3077 }
     requires few { length items.now ≤ places }
     ensures bytes { bytes.new.items ≡ bytes.old.items ++ items_bytes places items.now }
@@ -137,15 +180,15 @@ pub fn push_items(bytes: &mut ArrayVec<u8, 3077>, items: &[Stamped], places: usi
             append(bytes, &[0; 11]);
             push_items(bytes, items, places - 1);
         }
-        [said, later @ ..] => {
-            append(bytes, &item_bytes(said));
+        [it, later @ ..] => {
+            append(bytes, &item_bytes(it));
             push_items(bytes, later, places - 1);
         }
     }
 }
 
 /// Appends the first of these items to a list that has room for them.
-pub fn take_items(items: &mut ArrayVec<Stamped, 64>, bytes: &[u8], count: usize)
+pub fn take_items(items: &mut ArrayVec<Happened, 64>, bytes: &[u8], count: usize)
     requires room { array_vec_len items.old + count ≤ 64 }
     requires bytes { 11 * count ≤ length bytes.now }
     ensures items { items.new.items ≡ items.old.items ++ items_in count bytes.now }

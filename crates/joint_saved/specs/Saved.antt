@@ -29,7 +29,7 @@ use Rattle.board_terms.specs.declared.event.Edge.{Edge}
 use Rattle.ctl_link.specs.Empty.{fits}
 use Rattle.ctl_link.specs.declared.link.Link.{Link}
 use Rattle.ctl_wire.specs.declared.wire.Wire.{Wire}
-use Rattle.host_turn.specs.declared.stamped.Stamped.{Stamped}
+use Rattle.joint_bytes.specs.declared.happened.Happened.{Happened}
 use Rattle.joint_bytes.specs.Links.{link_bytes, link_in}
 use Rattle.joint_bytes.specs.Lists.{edges_bytes, edges_in, have_places, items_bytes, items_in, words_bytes, words_in}
 use Rattle.joint_bytes.specs.Numbers.{number_at}
@@ -46,11 +46,11 @@ use Rattle.joint_saved.specs.declared.unloaded.Unloaded.TheVariants as U
 pub record Kept : Type 0 where
   pub joint : Machine
   pub edges : List Edge
-  pub items : List Stamped
+  pub items : List Happened
   pub lost : ℕ
   pub rises : ℕ
 
-abbrev pub kept : Machine → List Edge → List Stamped → ℕ → ℕ → Kept
+abbrev pub kept : Machine → List Edge → List Happened → ℕ → ℕ → Kept
 kept joint edges items lost rises = record { joint = joint; edges = edges; items = items; lost = lost; rises = rises }
 
 abbrev pub kept_of : Loaded → Kept

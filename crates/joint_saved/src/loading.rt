@@ -17,11 +17,10 @@ use arrayvec::ArrayVec;
 use board_terms::{Edge, Matrix};
 use ctl_link::{Link, LinkEnd};
 use ctl_wire::Wire;
-use host_turn::Stamped;
 use int09::Bios;
 use joint_bytes::{
-    flags_in, have_places, link_in, number_at, processor_in, side_in, take_edges, take_items,
-    take_words,
+    Happened, flags_in, have_places, link_in, number_at, processor_in, side_in, take_edges,
+    take_items, take_words,
 };
 use joint_run::{Joint, Machine};
 use mcs48_core::Mcu;
@@ -34,7 +33,7 @@ use std::alloc::Global;
 pub struct Loaded {
     pub joint: Joint,
     pub edges: ArrayVec<Edge, 4>,
-    pub items: ArrayVec<Stamped, 64>,
+    pub items: ArrayVec<Happened, 64>,
     pub lost: u64,
     pub rises: u64,
 }
@@ -197,7 +196,7 @@ fn edges(bytes: &[u8]) -> ArrayVec<Edge, 4>
 }
 
 /// The items that are kept.
-fn items(bytes: &[u8]) -> ArrayVec<Stamped, 64>
+fn items(bytes: &[u8]) -> ArrayVec<Happened, 64>
     requires count { length bytes.now ≡ 3077 }
     requires few { slice_index bytes.now 126 ≤ 64 }
     ensures { result.items ≡ items_in (slice_index bytes.now 126) (slice_range bytes.now 197 901) }

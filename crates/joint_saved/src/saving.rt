@@ -10,9 +10,9 @@ ghost use Rattle.joint_saved.specs.Saved.{IsRead, columns_of, kept, loaded, mach
 
 use arrayvec::ArrayVec;
 use board_terms::Edge;
-use host_turn::Stamped;
 use joint_bytes::{
-    controller_bytes, link_bytes, processor_bytes, push_edges, push_items, push_words, side_bytes,
+    Happened, controller_bytes, link_bytes, processor_bytes, push_edges, push_items, push_words,
+    side_bytes,
 };
 use joint_run::Joint;
 
@@ -113,7 +113,7 @@ fn machine(joint: &Joint, rises: u64, lost: u64) -> Bytes
 pub fn save(
     joint: &Joint,
     edges: &[Edge],
-    items: &[Stamped],
+    items: &[Happened],
     lost: u64,
     rises: u64,
 ) -> ArrayVec<u8, 3077>

@@ -10,3 +10,4 @@ pub mod Opening
 pub mod Queueing
 pub mod Names
 pub mod Stopping
+pub mod Saving

@@ -2,13 +2,13 @@
 
 ghost use Rattle.std.specs.Prelude.{◌≡◌, None};
 ghost use Rattle.kbd48_c.specs.Exports.{Through, held_status, shown_of};
-ghost use Rattle.kbd48_c.specs.Items.{HasHandedOut, item_after, kind_of, next_status, said_of, value_of, what_kind, what_value};
+ghost use Rattle.kbd48_c.specs.Items.{HasHandedOut, item_after, next_status, said_of};
 ghost use Rattle.kbd48_c.specs.Statuses.{done};
 
 use crate::handle::Handle;
 use crate::status::{DONE, LOST, NOT_OPEN, NOTHING_SAID};
-use live_board::{Happened, Keyboard, Next, What};
-use pc_tables::Item;
+use joint_bytes::{Happened, what_kind, what_value};
+use live_board::{Keyboard, Next};
 use std::alloc::Global;
 
 /// What happened: the cycle in which it did, its kind, and its byte or word.
@@ -18,84 +18,6 @@ pub struct Said {
     pub cycle: u64,
     pub kind: u8,
     pub value: u16,
-}
-
-/// The keyboard has sent a byte over the wires, as a kind.
-const SENT: u8 = 18;
-
-/// The controller has sent the keyboard a byte, as a kind.
-const GIVEN: u8 = 19;
-
-/// The kind of an item, as a number.
-fn kind(item: Item) -> u8
-    ensures { result ≡ kind_of item }
-{
-    match item {
-        Item::Port(_) => 0,
-        Item::Read(_) => 1,
-        Item::Word(_) => 2,
-        Item::Beep => 3,
-        Item::Overrun => 4,
-        Item::Lights(_) => 5,
-        Item::Taken(Some(_)) => 6,
-        Item::Taken(None) => 7,
-        Item::Status(_) => 8,
-        Item::Output(_) => 9,
-        Item::Pulse(_) => 10,
-        Item::Broke => 11,
-        Item::Pause => 12,
-        Item::Resume => 13,
-        Item::Print => 14,
-        Item::Boot => 15,
-        Item::SysMake => 16,
-        Item::SysBreak => 17,
-    }
-}
-
-/// The byte or the word of an item, or 0.
-fn value(item: Item) -> u16
-    ensures { result ≡ value_of item }
-{
-    match item {
-        Item::Port(byte) => u16::from(byte),
-        Item::Read(byte) => u16::from(byte),
-        Item::Word(word) => word,
-        Item::Beep => 0,
-        Item::Overrun => 0,
-        Item::Lights(lights) => u16::from(lights),
-        Item::Taken(Some(word)) => word,
-        Item::Taken(None) => 0,
-        Item::Status(byte) => u16::from(byte),
-        Item::Output(byte) => u16::from(byte),
-        Item::Pulse(lines) => u16::from(lines),
-        Item::Broke => 0,
-        Item::Pause => 0,
-        Item::Resume => 0,
-        Item::Print => 0,
-        Item::Boot => 0,
-        Item::SysMake => 0,
-        Item::SysBreak => 0,
-    }
-}
-
-/// The kind of what happened, as a number: that of the log's item, or a byte that passed over the wires.
-fn what_kind(what: What) -> u8
-    ensures { result ≡ what_kind what }
-{
-    match what {
-        What::Said(item) => kind(item),
-        What::Passed(byte) => { if byte.from_host { GIVEN } else { SENT } }
-    }
-}
-
-/// Its byte or word, or 0.
-fn what_value(what: What) -> u16
-    ensures { result ≡ what_value what }
-{
-    match what {
-        What::Said(item) => value(item),
-        What::Passed(byte) => u16::from(byte.byte),
-    }
 }
 
 /// What happened, as C has it.

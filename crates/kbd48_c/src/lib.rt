@@ -22,6 +22,9 @@ mod pointer;
 mod queue_tests;
 mod queueing;
 mod ready;
+mod saving;
+#[cfg(test)]
+mod saving_tests;
 mod status;
 mod stopping;
 #[cfg(test)]

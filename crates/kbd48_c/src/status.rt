@@ -45,6 +45,14 @@ pub(crate) const NO_SUCH_KEY: i32 = 18;
 
 pub(crate) const NO_SUCH_BIT: i32 = 19;
 
+pub(crate) const BAD_SIZE: i32 = 20;
+
+pub(crate) const NOT_SAVED: i32 = 21;
+
+pub(crate) const OTHER_VERSION: i32 = 22;
+
+pub(crate) const BAD_STATE: i32 = 23;
+
 /// The status of a call that was refused.
 pub(crate) fn refused_status(refused: Refused) -> i32
     ensures { result ≡ refused_status refused }

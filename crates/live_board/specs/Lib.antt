@@ -12,3 +12,4 @@ pub mod Ready
 pub mod Stopping
 pub mod Passing
 pub mod Heard
+pub mod Saved

@@ -4,9 +4,9 @@ ghost use Rattle.std.specs.Prelude.{◌≡◌, [], map};
 ghost use Rattle.live_board.specs.Heard.{after_next, has_room, heard_all, heard_one, next_of, said_so};
 ghost use Rattle.live_board.specs.Passing.{passed_by};
 
-use crate::happened::{Happened, Transfer, What};
 use arrayvec::ArrayVec;
 use host_turn::Stamped;
+use joint_bytes::{Happened, Transfer, What};
 
 /// How much is kept.
 const MOST: usize = 64;

@@ -9,7 +9,6 @@
 mod adding;
 mod answers;
 mod going;
-mod happened;
 mod heard;
 mod irq;
 mod keyboard;
@@ -20,12 +19,14 @@ mod parts;
 mod passing;
 mod ran;
 mod refused;
+mod saving;
 mod sides;
 mod stopping;
 mod stops;
 
-pub use happened::{Happened, Transfer, What};
 pub use heard::Next;
+pub use joint_bytes::{Happened, Transfer, What};
+pub use joint_saved::{SAVED, Unloaded};
 pub use keyboard::Keyboard;
 pub use law::stories_grow_at_end;
 pub use looks::Registers;

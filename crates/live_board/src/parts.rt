@@ -13,12 +13,12 @@ ghost use Rattle.live_board.specs.Ready.{IsOpened};
 ghost use Rattle.live_board.specs.Rising.{irq_of};
 ghost use Rattle.live_board.specs.States.{HasPast};
 
-use crate::happened::Transfer;
 use crate::heard::Heard;
 use crate::irq::Irq;
 use arrayvec::ArrayVec;
 use board_terms::{Edge, HostAct};
 use int09::Bios;
+use joint_bytes::Transfer;
 use joint_run::{Due, Joint, Seen};
 use mcs48_core::Stuck;
 use mcs48_isa::Image;

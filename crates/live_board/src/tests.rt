@@ -1,11 +1,11 @@
-use crate::{Ending, Keyboard, Met, Next, Refused, RunEnd, Stops, Transfer, What};
+use crate::{Ending, Keyboard, Met, Next, Refused, RunEnd, SAVED, Stops, Transfer, Unloaded, What};
 use board_terms::Place;
 use ctl_core::Port;
 use fw_kernel::KERNEL;
 use int09::Bios;
 use mcs48_isa::Image;
 use pc_tables::Item;
-use std::alloc::AllocError;
+use std::alloc::{AllocError, Global};
 
 /// The cycles of a second.
 const SECOND: u64 = 400_000;
@@ -185,6 +185,70 @@ fn a_ready_keyboard_has_its_answer_waiting(rt: HostRuntime) -> Result<(), AllocE
     assert!(rt; opened.run(SECOND, true).end == RunEnd::Rose);
     assert!(rt; keyboard.interrupt() && keyboard.cycle() == opened.cycle());
     assert!(rt; keyboard.read60() == Ok(0xaa));
+    Ok(())
+}
+
+/// Whether these bytes are refused for this.
+fn is_refused(alloc: Global, bytes: &[u8], why: Unloaded) -> bool {
+    match Keyboard::load(alloc, bytes) {
+        Ok(_) => false,
+        Err(fault) => fault == why,
+    }
+}
+
+/// A keyboard with keys that wait, items that were lost, and a byte under way.
+fn in_use(alloc: Global) -> Result<Keyboard, AllocError> {
+    let image = Image { bytes: KERNEL };
+    let mut keyboard = Keyboard::open_ready(&image, Bios::new(alloc)?);
+    for _ in 0..70u8 {
+        let _ = keyboard.status();
+    }
+    let _ = keyboard.read60();
+    let _ = keyboard.write(Port::P60, 0xed);
+    let _ = keyboard.run(700, false);
+    let _ = keyboard.key(Place::default(), true);
+    Ok(keyboard)
+}
+
+#[test]
+fn a_loaded_keyboard_goes_on_as_the_saved_one(rt: HostRuntime) -> Result<(), AllocError> {
+    let mut keyboard = in_use(rt.alloc())?;
+    for _ in 0..200u8 {
+        let bytes = keyboard.save();
+        assert!(rt; bytes.len() == SAVED);
+        match Keyboard::load(rt.alloc(), bytes.as_slice()) {
+            Ok(mut loaded) => {
+                assert!(rt; loaded.save().as_slice() == bytes.as_slice());
+                assert!(rt; loaded.edges_waiting() == keyboard.edges_waiting());
+                assert!(rt; loaded.run(97, true) == keyboard.run(97, true));
+                assert!(rt; loaded.read60() == keyboard.read60());
+                assert!(rt; loaded.save().as_slice() == keyboard.save().as_slice());
+            }
+            Err(_) => assert!(rt; false),
+        }
+    }
+    Ok(())
+}
+
+#[test]
+fn other_bytes_are_refused_by_name(rt: HostRuntime) -> Result<(), AllocError> {
+    let alloc = rt.alloc();
+    let bytes = in_use(alloc)?.save();
+    assert!(rt; is_refused(alloc, &bytes.as_slice()[1..], Unloaded::Length));
+    let changes = [
+        (0, 0, Unloaded::Format),
+        (7, 2, Unloaded::Version),
+        (125, 5, Unloaded::Counts),
+        (165, 96, Unloaded::Keys),
+        (41, 16, Unloaded::Processor),
+        (111, 11, Unloaded::Link),
+        (23, 1, Unloaded::State),
+    ];
+    for (at, byte, why) in changes {
+        let mut other = in_use(alloc)?.save();
+        other.as_mut_slice()[at] = byte;
+        assert!(rt; is_refused(alloc, other.as_slice(), why));
+    }
     Ok(())
 }
 

@@ -10,6 +10,8 @@ from .library import LIBRARY
 
 VERSION = "@VERSION@"
 
+SAVED = 3077  # how many bytes a saved keyboard has
+
 
 class Status(IntEnum):
     """What a function of the library answers."""
@@ -34,6 +36,10 @@ class Status(IntEnum):
     KEY_DUE = 17
     NO_SUCH_KEY = 18
     NO_SUCH_BIT = 19
+    BAD_SIZE = 20
+    NOT_SAVED = 21
+    OTHER_VERSION = 22
+    BAD_STATE = 23
 
 
 TEXTS = {
@@ -50,6 +56,10 @@ TEXTS = {
     Status.LOST: "more was said than is kept",
     Status.NO_SUCH_KEY: "no key has this name",
     Status.NO_SUCH_BIT: "noise turns round the bits 1 to 9 of a frame",
+    Status.BAD_SIZE: "a saved keyboard has 3,077 bytes",
+    Status.NOT_SAVED: "these bytes are no saved keyboard",
+    Status.OTHER_VERSION: "the keyboard was saved in another version of the format",
+    Status.BAD_STATE: "no keyboard is in such a state",
 }
 
 
@@ -237,6 +247,13 @@ class Keyboard:
         keyboard._done("open_sample")
         return keyboard
 
+    @classmethod
+    def of_saved(cls, data: bytes) -> Keyboard:
+        """A keyboard in the state that these bytes mean, with no edge in its queue."""
+        keyboard = cls()
+        keyboard._done("load", data, len(data))
+        return keyboard
+
     @staticmethod
     def place_of(name: str, layout: Union[str, bytes, None] = None) -> int:
         """The place of a key by its name (`h`, `lshift`), in a layout's text or in the sample layout."""
@@ -267,6 +284,12 @@ class Keyboard:
         return other
 
     __copy__ = copy
+
+    def save(self) -> bytes:
+        """The state as 3,077 bytes, which `of_saved` reads. The edges that wait in the queue are not among them."""
+        buffer = c.create_string_buffer(SAVED)
+        self._done("save", buffer, SAVED)
+        return buffer.raw
 
     def close(self) -> None:
         """Frees the keyboard. To close it again does nothing."""
@@ -316,6 +339,18 @@ class Keyboard:
         count = c.c_uint8()
         LIBRARY.kbd48_queued(self._keys, count)
         return count.value
+
+    @property
+    def queue(self) -> bytes:
+        """The queue as 2,672 bytes, to be kept beside what is kept of the keyboard: an empty one takes all keys for up. Set it
+        to what it was."""
+        return bytes(self._keys)
+
+    @queue.setter
+    def queue(self, data: bytes) -> None:
+        if len(data) != c.sizeof(library.Keys):
+            raise ValueError(f"a queue has {c.sizeof(library.Keys)} bytes")
+        self._keys = library.Keys.from_buffer_copy(data)
 
     def run_keys(self, cycles: int, watched: bool = False) -> KeysRan:
         """Runs as `run` does, and hands over each edge of the queue when it is due."""

@@ -54,6 +54,8 @@ PARAMETERS = {
     "close": [],
     "open_sample": [],
     "copy": [_to(Handle)],
+    "save": [c.c_char_p, c.c_size_t],
+    "load": [c.c_char_p, c.c_size_t],
     "key": [c.c_uint8, c.c_bool],
     "run": [c.c_uint64, c.c_bool, _to(c.c_uint64), _to(Spot)],
     "run_keys": [_to(Keys), c.c_uint64, c.c_bool, _to(c.c_uint64), _to(Spot)],

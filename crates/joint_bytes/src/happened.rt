@@ -1,4 +1,4 @@
-//! What happens, as a caller is handed it.
+//! What happens to a keyboard: something that the log says, or a byte that passes over the two wires.
 
 use pc_tables::Item;
 

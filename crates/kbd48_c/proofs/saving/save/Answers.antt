@@ -1,0 +1,12 @@
+use Rattle.std.proofs.Common.{ℕ, List, ◌++◌, drop, refl, ap, sym, ◌∙◌}
+use Rattle.joint_saved.specs.Saved.{loaded}
+use Rattle.kbd48_c.proofs.saving.save.Goals as goal
+
+pub returns-clause-filled : goal.returns-clause-filled
+returns-clause-filled c =
+    let bytes = c.save.ensures.bytes in
+    λ long. (
+      refl,
+      c.put.ensures ∙ ap (λ (v : List ℕ). v ++ drop 3077 c.args.buffer.now) (c.as_slice.ensures.value ∙ bytes),
+      ap loaded (sym bytes) ∙ c.save.ensures.loaded,
+    )
