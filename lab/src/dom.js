@@ -15,6 +15,11 @@ export function setHidden(element, hidden) { if (element.hidden !== hidden) elem
 
 export function setText(element, text) { if (element.textContent !== text) element.textContent = text; }
 
+const FAR = 1e6; // pixels
+
+/** Scrolls to the end, without asking where that is: the browser would lay the page out for the answer. */
+export function scrollToEnd(element) { element.scrollTop = FAR; }
+
 export const hex = (number, digits = 2) => number.toString(16).toUpperCase().padStart(digits, '0');
 
 /** The options of a select; the chosen one stays, or becomes `first`. */

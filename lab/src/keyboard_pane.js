@@ -16,7 +16,7 @@ export class KeyboardPane {
   /** `open(layout, names)` begins a live keyboard; `press(place, down)` hands it an edge; `bench(words)` shows words in the
       workbench. */
   constructor({ open, press, bench }) {
-    Object.assign(this, { open, press, drawn: new Map(), held: new Map(), stuck: new Set(), hasLeft: false });
+    Object.assign(this, { open, press, drawn: new Map(), held: new Map(), moved: new Map(), stuck: new Set(), hasLeft: false });
     this.board = byId('board');
     this.select = byId('layout');
     fill(this.select, named('.toml'), 'us84.toml');
@@ -52,9 +52,24 @@ export class KeyboardPane {
     }
     byId('layout-fault').hidden = true;
     this.held.clear();
+    this.moved.clear();
     this.stuck.clear();
     this.#draw();
     this.open(text, new Map(this.keys.map(key => [key.place, key.name])));
+  }
+
+  /** Draws the keys that went down or up since the last time. A key that did both is drawn down once. Whether one is
+      drawn up. */
+  draw() {
+    let isUp = false;
+    for (const [name, wentDown] of this.moved) {
+      const isDown = this.held.get(name).size > 0;
+      this.drawn.get(name).classList.toggle('down', wentDown || isDown);
+      if (wentDown && !isDown) this.moved.set(name, false);
+      else this.moved.delete(name);
+      isUp ||= !wentDown && !isDown;
+    }
+    return isUp;
   }
 
   lamps(lights) {
@@ -138,7 +153,7 @@ export class KeyboardPane {
     else holders.delete(by);
     if (was === holders.size > 0) return;
     this.press(key.place, down);
-    this.drawn.get(name).classList.toggle('down', down);
+    this.moved.set(name, down || this.moved.get(name) === true);
     if (key.fn) this.#legends();
   }
 

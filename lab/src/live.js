@@ -22,7 +22,7 @@ const SENT_BY = { [Item.SENT]: 'keyboard', [Item.GIVEN]: 'host' };
 
 // If no wire has changed for so long, no bit is under way. A wire may be held low for seconds; a side that lets go of it, or
 // begins to pull it too, is then looked for once in so many cycles.
-const CALM = 96, STRIDE = 12, MOST_OF_A_STEP = 2;
+const CALM = 96, STRIDE = 12, MOST_OF_A_STEP = 2, CALM_AFTER = 1000 * CYCLES_OF_A_MS; // cycles
 
 // Both sides' pulls as one number: the keyboard's are its low two bits.
 const bothSides = ({ keyboard, controller }) => keyboard | controller << PC_SIDE;
@@ -33,26 +33,46 @@ export class Live {
     Object.assign(this, { keyboard, names, pushed: [], orders: [], events: [], edges: [], bytes: [], items: [] });
     this.up = false;
     this.masked = false;
+    /** It rises with all that can be seen: an edge, a byte, a line of the log. */
+    this.news = 0;
     keyboard.openLayout(new TextEncoder().encode(layout));
     keyboard.bios(true);
     this.history = new History(keyboard);
     this.cycle = keyboard.cycle();
-    Object.assign(this, { levels: BOTH, pulls: 0, changed: this.cycle });
+    Object.assign(this, { levels: BOTH, pulls: 0, changed: this.cycle, stirred: this.cycle, down: new Set() });
+    this.onStir = () => {};
     this.onByte = () => {};
     this.onWord = () => {};
   }
 
   get stamp() { return this.cycle - FIRST_STAMP; }
 
+  /** Whether nothing will be seen for a while: no key is down, and nothing was handed in for a second. */
+  get isCalm() {
+    return this.levels === BOTH && !this.up && !this.pushed.length && !this.orders.length && !this.down.size && this.cycle - this.stirred > CALM_AFTER;
+  }
+
+  // Whoever runs this keyboard hears before something is handed in.
+  #stir() {
+    this.onStir();
+    this.stirred = this.cycle;
+  }
+
   /** A key goes down or up, after all edges that wait. */
   press(place, down) {
+    this.#stir();
+    if (down) this.down.add(place);
+    else this.down.delete(place);
     const status = this.keyboard.queueKey(place, down);
     if (status === Status.DONE) this.pushed.push({ place, down });
     else if (status === Status.FULL) this.#say('so many keys wait that this one is left out');
   }
 
   /** The PC writes a byte, when the input buffer has room. */
-  order(port, byte) { this.orders.push({ port, byte }); }
+  order(port, byte) {
+    this.#stir();
+    this.orders.push({ port, byte });
+  }
 
   mask(masked) {
     this.masked = masked;
@@ -113,6 +133,7 @@ export class Live {
 
   // An event of the host is made in a step of its own.
   #told(words, call) {
+    this.#stir();
     const { stamp } = this;
     this.history.note(this.cycle, call);
     const said = call(this.keyboard);
@@ -132,6 +153,7 @@ export class Live {
       cycle = this.history.on(before, copy => bothSides(copy.pulls()) === pulls, copy => copy.cycle()) ?? cycle;
     }
     Object.assign(this, { levels, pulls, changed: this.cycle });
+    this.news++;
     this.edges.push({ cycle, levels, pulls });
     if (this.edges.length > KEPT) this.edges.splice(0, KEPT - TRIMMED);
   }
@@ -139,6 +161,7 @@ export class Live {
   // A byte has passed over the wires, in the step that ends with an edge.
   #passed(cycle, sender, byte) {
     const { edges, bytes } = this, last = edges.findLastIndex(edge => edge.cycle < cycle) + 1;
+    this.news++;
     bytes.push({ begin: beginOf(edges, last), end: edges[last]?.cycle ?? cycle, sender, byte });
     if (bytes.length > KEPT) bytes.splice(0, KEPT - TRIMMED);
   }
@@ -186,6 +209,7 @@ export class Live {
   }
 
   #say(words, cycle = this.cycle) {
+    this.news++;
     this.items.push({ cycle, words });
     if (this.items.length > KEPT) this.items.splice(0, KEPT - TRIMMED);
   }

@@ -6,15 +6,18 @@ import { files, put } from './files.js';
 import { KeyboardPane } from './keyboard_pane.js';
 import { LessonsPane } from './lessons_pane.js';
 import { CYCLES_OF_A_MS, Live } from './live.js';
-import { ProcessorPane } from './processor_pane.js';
+import { Pc } from './pc.js';
+import { ProcessorPane, isStopped } from './processor_pane.js';
 import { useProgram } from './program.js';
 import { bytesOf, filesOf, unpacked } from './share.js';
-import { Pc, WiresPane } from './wires_pane.js';
+import { WiresPane } from './wires_pane.js';
 import { WorkbenchPane } from './workbench_pane.js';
 
-const LONGEST = 100; // ms that are made up for, after a time in which the page wasn't called
-// The keyboard goes on 25 times a second, and is drawn less often: a picture costs the browser ten times what a stretch costs.
-const STRETCH = 40, BETWEEN_PICTURES = 160; // ms
+const LONGEST = 200; // ms that are made up for, after a time in which the page wasn't called
+// The keyboard goes on 25 times a second, or 10 times while nothing happens. A key is answered soon after it: its byte has
+// passed by then. A picture costs the browser ten times what a stretch costs, so there are two for a stroke: one of the key and
+// its letter, and one of the key that is up again, the wires and the logs. If it stays down these are drawn without it.
+const STRETCH = 40, CALM_STRETCH = 100, SOON = 20, BETWEEN_PICTURES = 160, LATEST = 100; // ms
 
 const moduleOf = async id => unpacked(bytesOf(byId(id).textContent));
 
@@ -30,9 +33,7 @@ addEventListener('unhandledrejection', event => trouble(event.reason));
 class Lab {
   constructor(keyboard, program) {
     this.keyboard = keyboard;
-    this.owed = 0;
-    this.drawn = -Infinity;
-    Object.assign(this, { files, fromKle, program });
+    Object.assign(this, { files, fromKle, program, owed: 0, drawn: -Infinity, news: 0, since: null, timer: null, last: performance.now(), isPassing: false });
     this.keys = new KeyboardPane({
       open: (layout, names) => this.open(layout, names), press: (place, down) => this.live.press(place, down),
       bench: words => {
@@ -61,10 +62,10 @@ class Lab {
   open(layout, names) {
     this.live?.history.free();
     this.live = new Live(this.keyboard, layout, names);
-    const pc = new Pc((port, byte) => this.live.order(port, byte));
-    this.live.onByte = byte => pc.byte(byte);
-    this.live.onWord = word => pc.word(word);
-    byId('screen').textContent = '▁';
+    this.pc = new Pc((port, byte) => this.live.order(port, byte), byId('screen'));
+    this.live.onByte = byte => this.pc.byte(byte);
+    this.live.onWord = word => this.pc.word(word);
+    this.live.onStir = () => this.stir();
     byId('masked').checked = false;
     this.wires?.begin();
     this.processor?.begin();
@@ -92,30 +93,57 @@ class Lab {
     this.keys.lamps(this.keyboard.lights());
   }
 
+  // Whether it is time for a picture of the wires and the logs. A key was drawn up again, or not.
+  #isDue(isUp) {
+    const { last, live: { news } } = this;
+    if (news === this.news) return last - this.drawn >= BETWEEN_PICTURES;
+    this.since ??= last;
+    return isUp || last - this.since >= LATEST;
+  }
+
   /** Draws what changed in the panes that are shown. */
   draw() {
+    Object.assign(this, { drawn: this.last, news: this.live.news, since: null });
     if (!byId('wires').hidden) this.wires.draw();
     if (!byId('processor').hidden) this.processor.draw();
   }
 
-  start() {
-    let last = performance.now();
-    const next = () => {
-      const now = performance.now();
-      try {
-        this.pass(now - last);
-        last = now;
-        if (now - this.drawn >= BETWEEN_PICTURES) {
-          this.drawn = now;
-          this.draw();
-        }
-      } catch (error) {
-        trouble(error);
-        return;
-      }
-      setTimeout(next, STRETCH);
-    };
-    next();
+  // The keyboard's time goes on up to now.
+  #toNow() {
+    const now = performance.now(), ms = now - this.last;
+    this.last = now;
+    this.isPassing = true;
+    try {
+      this.pass(ms);
+    } finally {
+      this.isPassing = false;
+    }
+  }
+
+  /** Something is about to be handed to the keyboard, from outside or by what it said itself. */
+  stir() {
+    if (this.isPassing || this.timer === null) return;
+    this.#toNow();
+    this.#wait(SOON);
+  }
+
+  #wait(ms) {
+    clearTimeout(this.timer);
+    this.timer = setTimeout(() => this.tick(), ms);
+  }
+
+  /** The keyboard goes on, and all that is drawn is drawn at once. */
+  tick() {
+    try {
+      this.#toNow();
+      const isUp = this.keys.draw();
+      this.pc.draw();
+      if (this.#isDue(isUp)) this.draw();
+    } catch (error) {
+      trouble(error);
+      return;
+    }
+    this.#wait(this.live.isCalm || isStopped() ? CALM_STRETCH : STRETCH);
   }
 }
 
@@ -135,7 +163,7 @@ async function begin() {
     lab.show('workbench', true);
     lab.workbench.open(Object.keys(shared)[0]);
   } else byId('board').focus({ preventScroll: true });
-  lab.start();
+  lab.tick();
 }
 
 await begin().catch(trouble);

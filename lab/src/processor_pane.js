@@ -30,6 +30,8 @@ export class ProcessorPane {
     this.timer = null;
     this.chosen = null;
     this.tables = new StateTables();
+    this.isSeen = false;
+    new IntersectionObserver(entries => { this.isSeen = entries.at(-1).isIntersecting; }).observe(byId('processor'));
     this.#fill();
     onFile(({ name, isNew }) => {
       if (isNew) this.#fill();
@@ -86,10 +88,10 @@ export class ProcessorPane {
   /** Another keyboard runs. */
   begin() { if (this.#isLive()) this.open(); }
 
-  /** A picture of the keyboard that runs, now and then. */
+  /** A picture of the keyboard that runs, now and then, if somebody can see it. */
   draw() {
     const now = performance.now();
-    if (!this.#isLive() || !this.session || isStopped() || now - this.looked < LOOKS_APART) return;
+    if (!this.isSeen || !this.#isLive() || !this.session || isStopped() || now - this.looked < LOOKS_APART) return;
     this.looked = now;
     this.#now(this.session.now());
     setText(byId('at'), RUNS);
@@ -318,4 +320,4 @@ function wordsOf({ steps, cycles }) {
 
 // The time of the keyboard that one types on.
 const STOPPED = '0';
-const isStopped = () => byId('speed').value === STOPPED;
+export const isStopped = () => byId('speed').value === STOPPED;

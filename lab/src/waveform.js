@@ -4,15 +4,20 @@ import { hex } from './dom.js';
 
 const LONG = 96; // cycles
 const TOP = { [CLOCK]: 24, [DATA]: 78 }, SWING = 30, LABELS = 132;
-const COLOURS = { wire: '#7dffb0', gap: '#4fa878', name: '#b9e8cd', keyboard: '#ffd866', host: '#8fc7ff' };
-const THIN = 1.5, THICK = 3, DASHES = [2, 4]; // pixels
+const COLOURS = { ground: '#10201a', wire: '#7dffb0', gap: '#4fa878', name: '#b9e8cd', keyboard: '#ffd866', host: '#8fc7ff' };
+const THIN = 1.5, THICK = 3, DASH = 2, DASHES_APART = 6; // pixels
 const LEAST_ZOOM = 0.125, MOST_ZOOM = 8;
 
 export class Waveform {
   /** `source()` answers { edges, bytes, cycle }: each edge has a cycle and the levels after it, and who pulls which wire, if
       that is known. */
   constructor(canvas, source) {
-    Object.assign(this, { canvas, source, zoom: 0.5, back: 0, shown: null });
+    Object.assign(this, { canvas, source, zoom: 0.5, back: 0, shown: null, size: [0, 0] });
+    // The browser says the size; it isn't asked for each picture, since it may have to lay the page out for the answer.
+    new ResizeObserver(([{ contentRect: { width, height } }]) => {
+      this.size = [width, height];
+      this.draw();
+    }).observe(canvas);
     canvas.addEventListener('wheel', event => {
       event.preventDefault();
       if (event.ctrlKey || event.shiftKey) this.zoomBy(event.deltaY < 0 ? 2 : 0.5);
@@ -54,25 +59,22 @@ export class Waveform {
   }
 
   draw() {
-    const { edges, bytes, cycle } = this.shown ?? this.source(), { canvas } = this, scale = globalThis.devicePixelRatio || 1;
-    const width = canvas.clientWidth, height = canvas.clientHeight, last = edges.at(-1)?.cycle ?? 0;
+    const { canvas, size: [width, height] } = this, scale = globalThis.devicePixelRatio || 1;
     if (!width) return;
+    const { edges, bytes, cycle } = this.shown ?? this.source(), last = edges.at(-1)?.cycle ?? 0;
     // While nothing passes the picture stays.
     const drawn = [last, Math.min(cycle - last, LONG), bytes.length, this.zoom, this.back, width, height, scale].join();
     if (drawn === this.drawn) return;
     this.drawn = drawn;
-    if (canvas.width !== width * scale) canvas.width = width * scale;
-    if (canvas.height !== height * scale) canvas.height = height * scale;
-    const pen = canvas.getContext('2d');
+    const across = Math.round(width * scale), down = Math.round(height * scale);
+    if (canvas.width !== across) canvas.width = across;
+    if (canvas.height !== down) canvas.height = down;
+    // A picture that nothing shines through costs the browser less.
+    const pen = canvas.getContext('2d', { alpha: false });
     pen.setTransform(scale, 0, 0, scale, 0, 0);
-    pen.clearRect(0, 0, width, height);
-    const paths = new Map();
-    this.#stretches(edges, cycle, width, stretch => addStretch(paths, stretch));
-    for (const { colour, wide, dash, path } of paths.values()) {
-      Object.assign(pen, { lineWidth: wide, strokeStyle: colour });
-      pen.setLineDash(dash);
-      pen.stroke(path);
-    }
+    pen.fillStyle = COLOURS.ground;
+    pen.fillRect(0, 0, width, height);
+    this.#stretches(edges, cycle, width, stretch => drawStretch(pen, stretch));
     this.#labels(pen, bytes);
     pen.fillStyle = COLOURS.name;
     pen.font = '12px system-ui, sans-serif';
@@ -111,19 +113,20 @@ export function pullersOf(wire, pulls = 0) {
   return [...(pulls & wire ? ['keyboard'] : []), ...(pulls & wire << PC_SIDE ? ['host'] : [])];
 }
 
-// Adds the lines of a stretch to the paths: one for each way of drawing, since each stroke costs as much as a hundred lines.
-function addStretch(paths, { left, right, levels, pulls, before, cut }) {
-  const line = (colour, wide, dash, ...points) => {
-    const name = [colour, wide, dash].join();
-    if (!paths.has(name)) paths.set(name, { colour, wide, dash, path: new Path2D() });
-    const { path } = paths.get(name);
-    points.forEach(([x, y], n) => (n ? path.lineTo(x, y) : path.moveTo(x, y)));
+// Draws a stretch. Its lines are level or upright, so each is a rectangle: that is much cheaper than a stroke.
+function drawStretch(pen, { left, right, levels, pulls, before, cut }) {
+  const level = (colour, wide, y) => {
+    pen.fillStyle = colour;
+    if (!cut) pen.fillRect(left, y - wide / 2, right - left, wide);
+    else for (let x = right; x > left; x -= DASHES_APART) pen.fillRect(Math.max(left, x - DASH), y - wide / 2, Math.min(DASH, x - left), wide);
   };
   for (const wire of [CLOCK, DATA]) {
-    const y = TOP[wire] + (levels & wire ? 0 : SWING), pullers = pullersOf(wire, pulls), dash = cut ? DASHES : [];
-    if (pullers.length === 0) line(cut ? COLOURS.gap : COLOURS.wire, THIN, dash, [right, y], [left, y]);
+    const y = TOP[wire] + (levels & wire ? 0 : SWING), pullers = pullersOf(wire, pulls);
+    if (pullers.length === 0) level(cut ? COLOURS.gap : COLOURS.wire, THIN, y);
     // Both sides' pulls have a line each, the PC's below the keyboard's.
-    pullers.forEach((puller, n) => line(COLOURS[puller], THICK, dash, [right, y + n * (THICK + 1)], [left, y + n * (THICK + 1)]));
-    if ((levels ^ before) & wire) line(COLOURS.wire, THIN, [], [left, TOP[wire]], [left, TOP[wire] + SWING]);
+    pullers.forEach((puller, n) => level(COLOURS[puller], THICK, y + n * (THICK + 1)));
+    if (!((levels ^ before) & wire)) continue;
+    pen.fillStyle = COLOURS.wire;
+    pen.fillRect(left - THIN / 2, TOP[wire], THIN, SWING);
   }
 }

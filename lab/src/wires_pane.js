@@ -19,9 +19,6 @@ const COMMANDS = [
   ['FF: reset', [0x60, 0xFF]], ['EE: echo', [0x60, 0xEE]], ['FE: resend', [0x60, 0xFE]], ['AD: keyboard off', [0x64, 0xAD]],
   ['AE: keyboard on', [0x64, 0xAE]], ['D1 DF: output port', [0x64, 0xD1], [0x60, 0xDF]],
 ];
-const LOCKS = { 0x46: 1, 0x45: 2, 0x3A: 4 };
-const BREAK = 0x80, SET_LIGHTS = 0xED;
-const SCREEN = 1500; // characters
 
 export class WiresPane {
   /** `live()` answers the keyboard that runs. */
@@ -114,6 +111,8 @@ export class WiresPane {
     setText(byId('pulled'), this.#pulled());
     this.bytes.show(this.still?.bytes ?? bytes);
     this.log.show(this.still?.lines ?? items);
+    this.bytes.scroll();
+    this.log.scroll();
   }
 }
 
@@ -121,31 +120,3 @@ export class WiresPane {
 const timeOf = stamp => `${(stamp / CYCLES_OF_A_MS / 1000).toFixed(byId('speed').value === '1' ? 0 : 4)} s`;
 
 const at = cycle => `${((cycle - FIRST_STAMP) / CYCLES_OF_A_MS).toFixed(2).padStart(10)} ms`;
-
-/** A program on the PC: it shows what is typed, and sets the lights after a lock key, as the AT's BIOS did. */
-export class Pc {
-  constructor(order) {
-    Object.assign(this, { order, text: '', lights: 0, lock: 0 });
-  }
-
-  byte(byte) {
-    if (byte === (this.lock | BREAK)) this.lock = 0;
-    else if (LOCKS[byte] && byte !== this.lock) {
-      this.lock = byte;
-      this.lights ^= LOCKS[byte];
-      this.order(0x60, SET_LIGHTS);
-      this.order(0x60, this.lights);
-    }
-  }
-
-  word(word) {
-    const code = word & 255;
-    if (code === 8) this.text = this.text.slice(0, -1);
-    else if (code === 13) this.text += '\n';
-    else if (code >= 32 && code < 127) this.text += String.fromCharCode(code);
-    this.text = this.text.slice(-SCREEN);
-    const screen = byId('screen');
-    screen.textContent = `${this.text}▁`;
-    screen.scrollTop = screen.scrollHeight;
-  }
-}

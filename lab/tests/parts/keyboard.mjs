@@ -5,6 +5,9 @@ import { join } from 'node:path';
 
 const COMMAND = { modifiers: 4 };
 
+/** Waits until these keys, and no others, are drawn down. */
+export const drawnDown = (browser, names) => browser.until(`[...document.querySelectorAll('#board .down')].map(it => it.dataset.key).join(' ') === '${names}'`);
+
 export async function typing(browser, shot) {
   await browser.says('log', /port AA/);
   assert.equal(await browser.evaluate('document.activeElement.id'), 'board', 'one can type at once');
@@ -33,7 +36,7 @@ export async function typing(browser, shot) {
   for (let count = 0; count < 3; count++) await browser.down('KeyZ', { autoRepeat: true });
   await browser.says('screen', /ZZZ/);
   await browser.up('KeyZ');
-  assert.equal(await browser.evaluate('document.querySelectorAll("#board .down").length'), 0);
+  await drawnDown(browser, '');
   const pressed = await browser.evaluate('lab.live.events.filter(it => it.words === "press z").length');
   assert.equal(pressed, 1, 'the keyboard alone repeats');
   // A key is known by its place, whatever letter the system says.
@@ -77,7 +80,8 @@ export async function secondLayer(browser) {
   assert.equal(await browser.evaluate('document.querySelector("[data-key=\\"1\\"]").textContent'), 'F1');
   await browser.click('[data-key="1"]');
   await browser.until('lab.live.items.some(item => item.words === "word 3B00")');
-  assert.equal(await browser.evaluate('document.querySelectorAll("#board .down").length'), 0, 'what sticks is let go after the next key');
+  // What sticks is let go after the next key.
+  await drawnDown(browser, '');
   await browser.click('#sticky');
 }
 
@@ -135,23 +139,22 @@ export async function macintosh(browser, url) {
   await browser.until('lab.live.stamp > 200000');
   assert.equal(await browser.evaluate('navigator.platform'), 'MacIntel');
   await browser.evaluate('document.getElementById("board").focus()');
-  const held = () => browser.evaluate('[...document.querySelectorAll("#board .down")].map(it => it.dataset.key).join(" ")');
   // Command goes down, then a key, whose release isn't reported.
   await browser.down('MetaLeft', { ...COMMAND, key: 'Meta' });
   await browser.down('KeyC', COMMAND);
-  await browser.until('document.querySelectorAll("#board .down").length === 0');
+  await drawnDown(browser, '');
   await browser.up('MetaLeft', { key: 'Meta' });
   await browser.says('screen', /^c▁$/);
   // A key goes down, then Command, and the key goes up while Command is down.
   await browser.down('KeyD', { key: 'd' });
-  assert.equal(await held(), 'd');
+  await drawnDown(browser, 'd');
   await browser.down('MetaLeft', { ...COMMAND, key: 'Meta' });
   await browser.up('MetaLeft', { key: 'Meta' });
-  assert.equal(await held(), '');
+  await drawnDown(browser, '');
   await browser.says('screen', /^cd+▁$/);
   await browser.down('CapsLock', { key: 'CapsLock' });
   await browser.until('document.querySelector("[data-lamp=\\"4\\"]").classList.contains("on")');
-  await browser.until('document.querySelectorAll("#board .down").length === 0');
+  await drawnDown(browser, '');
   await browser.stroke('KeyE');
   await browser.says('screen', /E▁$/);
   await browser.up('CapsLock', { key: 'CapsLock' });
@@ -164,8 +167,8 @@ export async function macintosh(browser, url) {
 export async function lostFocus(browser) {
   await browser.evaluate('document.getElementById("board").focus()');
   await browser.down('KeyG');
-  assert.equal(await browser.evaluate('document.querySelectorAll("#board .down").length'), 1);
+  await drawnDown(browser, 'g');
   await browser.evaluate('dispatchEvent(new Event("blur"))');
-  assert.equal(await browser.evaluate('document.querySelectorAll("#board .down").length'), 0);
+  await drawnDown(browser, '');
   await browser.up('KeyG');
 }

@@ -1,5 +1,6 @@
 // How the page looks and behaves whatever it shows: contrast, focus, small screens, fingers, its policy, its load, a trap.
 import assert from 'node:assert/strict';
+import { drawnDown } from './keyboard.mjs';
 
 const LEAST_CONTRAST = 4.5; // WCAG 2, AA
 // Per cent of one processor: the goal, and what fails. Machines differ, and this must not fail on a slow or busy one; a page
@@ -75,7 +76,7 @@ export async function phones(browser, shot) {
     await browser.until('lab.live.stamp > 200000');
     for (const key of ['lshift', 't', 'o', 'kp5']) await browser.tap(`[data-key=${key}]`);
     await browser.says('screen', /^To5?▁$/);
-    assert.equal(await browser.evaluate('document.querySelectorAll("#board .down").length'), 0);
+    await drawnDown(browser, '');
   }
   await browser.size(null);
 }

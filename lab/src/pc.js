@@ -1,0 +1,70 @@
+// A program on the PC: it shows what is typed, and sets the lights after a lock key, as the AT's BIOS did.
+import { make, scrollToEnd } from './dom.js';
+
+const LOCKS = { 0x46: 1, 0x45: 2, 0x3A: 4 };
+const BREAK = 0x80, SET_LIGHTS = 0xED;
+const BACKSPACE = 8, ENTER = 13, FIRST = 32, LAST = 126; // characters
+const ROW_OF_SCREEN = 80, KEPT_OF_SCREEN = 50; // characters; rows
+const CURSOR = '▁';
+
+export class Pc {
+  /** `order(port, byte)` lets the PC write a byte; its screen is drawn into an element. */
+  constructor(order, element) {
+    Object.assign(this, { order, lights: 0, lock: 0, screen: new Screen(element) });
+  }
+
+  byte(byte) {
+    if (byte === (this.lock | BREAK)) this.lock = 0;
+    else if (LOCKS[byte] && byte !== this.lock) {
+      this.lock = byte;
+      this.lights ^= LOCKS[byte];
+      this.order(0x60, SET_LIGHTS);
+      this.order(0x60, this.lights);
+    }
+  }
+
+  word(word) { this.screen.put(word & 255); }
+
+  draw() { this.screen.draw(); }
+}
+
+// Rows of text, each an element of its own: a letter more costs a picture of its row, not of the screen.
+class Screen {
+  constructor(element) {
+    Object.assign(this, { element, rows: [''], lines: [], drawn: [] });
+    element.replaceChildren();
+    this.draw();
+  }
+
+  put(code) {
+    const { rows } = this, last = rows.length - 1;
+    if (code === BACKSPACE) {
+      if (rows[last] === '' && last > 0) rows.pop();
+      rows[rows.length - 1] = rows.at(-1).slice(0, -1);
+    } else if (code === ENTER) {
+      rows[last] += '\n';
+      rows.push('');
+    } else if (code >= FIRST && code <= LAST) {
+      if (rows[last].length === ROW_OF_SCREEN) rows.push(String.fromCharCode(code));
+      else rows[last] += String.fromCharCode(code);
+    }
+    if (rows.length <= KEPT_OF_SCREEN) return;
+    rows.shift();
+    this.lines.shift()?.remove();
+    this.drawn.shift();
+  }
+
+  draw() {
+    const { element, rows, lines, drawn } = this;
+    let isNew = false;
+    for (; lines.length > rows.length; drawn.pop()) lines.pop().remove();
+    for (const [at, row] of rows.entries()) {
+      const text = at === rows.length - 1 ? row + CURSOR : row;
+      if (drawn[at] === text) continue;
+      isNew = true;
+      if (!lines[at]) element.append(lines[at] = make('div'));
+      lines[at].textContent = drawn[at] = text;
+    }
+    if (isNew) scrollToEnd(element);
+  }
+}
