@@ -5,11 +5,11 @@
    processor, and takes one cycle or two. Between two calls the machine is between two steps. If a call makes a step,
    its comment says so.
 
-   Each function but kbd48_text and kbd48_version returns a status. With an empty handle each returns KBD48_NOT_OPEN
-   and does nothing (kbd48_run then says that 0 cycles passed). A call that is refused leaves the keyboard as it was:
-   the statuses are KBD48_NO_SUCH_PLACE, KBD48_NO_SUCH_PORT, KBD48_NO_SUCH_BIT, KBD48_FULL, KBD48_EARLY, and of a call
-   that makes one step also KBD48_STUCK and KBD48_OVER. A call writes through its pointers if the status is KBD48_DONE. If it also writes
-   with another status, its comment says so.
+   Each function but kbd48_text and kbd48_version returns a status. With an empty handle each call that needs a keyboard
+   returns KBD48_NOT_OPEN and does nothing (a run then says that 0 cycles passed). A call that is refused leaves the
+   keyboard as it was: the statuses are KBD48_NO_SUCH_PLACE, KBD48_NO_SUCH_PORT, KBD48_NO_SUCH_BIT, KBD48_FULL,
+   KBD48_EARLY, and of a call that makes one step also KBD48_STUCK and KBD48_OVER. A call writes through its pointers if
+   the status is KBD48_DONE. If it also writes with another status, its comment says so.
 
    The caller ensures that
    - a handle begins as KBD48_EMPTY, is written only by these functions, and is never copied;
