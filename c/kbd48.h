@@ -5,11 +5,11 @@
    processor, and takes one cycle or two. Between two calls the machine is between two steps. If a call makes a step,
    its comment says so.
 
-   Each function but kbd48_text and kbd48_version returns a status. With an empty handle each returns KBD48_NOT_OPEN
-   and does nothing (kbd48_run then says that 0 cycles passed). A call that is refused leaves the keyboard as it was:
-   the statuses are KBD48_NO_SUCH_PLACE, KBD48_NO_SUCH_PORT, KBD48_NO_SUCH_BIT, KBD48_FULL, KBD48_EARLY, and of a call
-   that makes one step also KBD48_STUCK and KBD48_OVER. A call writes through its pointers if the status is KBD48_DONE. If it also writes
-   with another status, its comment says so.
+   Each function but kbd48_text and kbd48_version returns a status. With an empty handle each call that needs a keyboard
+   returns KBD48_NOT_OPEN and does nothing (a run then says that 0 cycles passed). A call that is refused leaves the
+   keyboard as it was: the statuses are KBD48_NO_SUCH_PLACE, KBD48_NO_SUCH_PORT, KBD48_NO_SUCH_BIT, KBD48_FULL,
+   KBD48_EARLY, and of a call that makes one step also KBD48_STUCK and KBD48_OVER. A call writes through its pointers if
+   the status is KBD48_DONE. If it also writes with another status, its comment says so.
 
    The caller ensures that
    - a handle begins as KBD48_EMPTY, is written only by these functions, and is never copied;
@@ -102,7 +102,8 @@ int32_t kbd48_open_sample(kbd48 *handle);
 
 /* The place, 0 to 95, of the key with this name in a layout's text, or in the sample layout. `examples/us84.toml` has
    the names of the 84 keys; they are compared byte by byte. Returns KBD48_NO_SUCH_KEY if there is no such key, and what
-   kbd48_open_layout returns if the text is no layout. These two calls need no handle. */
+   kbd48_open_layout returns if the text is no layout. These two calls need no handle. The first takes memory, and gives it
+   back before it returns. */
 int32_t kbd48_layout_key(const uint8_t *text, size_t length, const uint8_t *name, size_t name_length, uint8_t *place);
 int32_t kbd48_sample_key(const uint8_t *name, size_t length, uint8_t *place);
 
@@ -270,9 +271,9 @@ int32_t kbd48_lost(kbd48 *handle, uint64_t *lost);
    port 0x60 is read. */
 int32_t kbd48_interrupt(kbd48 *handle, bool *up);
 
-/* How often the line rose in the last call that made a step. It may fall and rise within one step, so that it is up
-   before and after: if you read AA while the controller has a command, its answer follows in the same cycle. An
-   interrupt controller in edge mode needs each rise. */
+/* How often the line rose in the last run, which may be of no step, or in the last call of the host's that wasn't
+   refused. It may fall and rise within one step, so that it is up before and after: if you read AA while the controller
+   has a command, its answer follows in the same cycle. An interrupt controller in edge mode needs each rise. */
 int32_t kbd48_rises(kbd48 *handle, uint64_t *rises);
 
 /* The lights: 01 Scroll Lock, 02 Num Lock, 04 Caps Lock. */

@@ -92,8 +92,8 @@ fn put_board<F: Feed, K: Sink>(
     }
 }
 
-/// `board`, of an image, a layout and the text of a key file. The text is judged in one pass, all memory is taken, and then
-/// each line is put as it arises in the run.
+/// `board`, of an image, a layout and the text of a key file. The text is judged, and then each line is put as it arises in
+/// the run. Memory is lacking only before anything is put.
 pub fn run_board<K: Sink>(
     alloc: Global,
     wanted: BoardRun,

@@ -92,7 +92,7 @@ AreLeft Expect layout history run taking probes left =
     HaveLookedAtAll (story (image_of layout) history) run.steps probes left
 AreLeft Trace layout history run taking probes left = left ≡ probes
 
--- how they are left if memory runs out: `run` and `trace` take all of it before the first step
+-- how they are left if memory runs out: in `run` and `trace` it does only before one of them has looked
 abbrev pub AreLeftWithoutMemory : RunCommand → KeyLayout → KeyHistory → List Watch → List Watch → Type 0
 AreLeftWithoutMemory (Log ticks steps) layout history probes left = left ≡ probes
 AreLeftWithoutMemory Expect layout history probes left = HaveLooked layout history probes left

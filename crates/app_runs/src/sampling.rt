@@ -150,7 +150,7 @@ fn made<T>(answer: Result<T, AllocError>) -> Result<T, Refusal>
     }
 }
 
-/// `sample`, of 1 to 10,000 strokes. All memory is taken, and then the run is made.
+/// `sample`, of 1 to 10,000 strokes. Memory is lacking only before a probe has looked and anything is put.
 pub fn sample<K: Sink>(
     alloc: Global,
     count: u32,

@@ -85,8 +85,8 @@ fn put_run<F: Feed, K: Sink>(
     put_end(out, ended.end(), ended.steps(), ended.cycles(), steps)
 }
 
-/// `run`, of a layout and the text of a key file. The text is judged in one pass, all memory is taken, and then each line
-/// is put as it arises in the run.
+/// `run`, of a layout and the text of a key file. The text is judged, and then each line is put as it arises in the run.
+/// Memory is lacking only before anything is put.
 pub fn stream<K: Sink>(
     alloc: Global,
     layout: &Layout,

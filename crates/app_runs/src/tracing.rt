@@ -17,8 +17,8 @@ use std::alloc::Global;
 use subsystem::runs_are_expected;
 use wire_trace::{TraceFault, trace};
 
-/// `trace`, of a layout and the text of a key file. The text is judged in one pass, all memory is taken, and then each
-/// change of the wires is put as it arises in the run.
+/// `trace`, of a layout and the text of a key file. The text is judged, and then each change of the wires is put as it
+/// arises in the run. Memory is lacking only before anything is put.
 pub fn trace_wires<K: Sink>(
     alloc: Global,
     layout: &Layout,

@@ -114,8 +114,8 @@ impl<F: Feed> ProgramRun<F> {
     /// whole, so that the decoder hears it, is a comment after the change that completes it.
     ///
     /// On Ok the sink has taken the whole text, its count of faults is as it was, and the probes have looked at each
-    /// state. A failure comes only if a put failed: then the sink has a prefix of the text, and the probes have
-    /// looked at the states up to the one whose sample adds the line.
+    /// state. A failure comes only if a put failed. A sink that shows what it took has a prefix of the text, and the
+    /// probes have looked at the states up to the one whose sample adds the line; in the header, at none.
     pub fn trace_to<K: Sink>(
         self,
         out: &mut K,

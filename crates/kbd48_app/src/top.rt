@@ -86,12 +86,12 @@ fn answer_and_print<F: Shelf, K: Sink>(
 /// the order of the words, each before the next is fetched; the first refusal ends the call. All that is said goes to
 /// the sink line by line: each line is offered whole in one `put`, and what that didn't take of it again. `run`, `trace`
 /// and `board` put each line as it arises. A sink that fails ends the call with `Write`; want of memory with `Memory`,
-/// which never comes for words outside the forms, and in `run`, `trace`, `board` and `sample` only before the run's
-/// first step.
+/// which never comes for words outside the forms, and in `run`, `trace`, `board` and `sample` only before anything is
+/// put and before a probe has looked.
 ///
-/// `run`, `expect`, `board` and `sample` leave each probe as one look at each state of their run does, and `run` and
-/// `board`, if a put of a line that a step said failed, as one at each state up to that step's. `debug` and `probe`
-/// obey a script with them. Nothing else is done with them.
+/// `run`, `expect`, `board` and `sample` leave each probe as one look at each state of their run does. If a put of a line
+/// that a step said failed, and the sink shows what it took, `run` and `board` leave it as one at each state up to that
+/// step's. `debug` and `probe` obey a script with them. Nothing else is done with them.
 pub fn kbd48<F: Shelf, K: Sink>(
     alloc: Global,
     words: &[String],
@@ -101,8 +101,8 @@ pub fn kbd48<F: Shelf, K: Sink>(
 ) -> Exit
     // What is printed, and how the probes are left: the text of an answer that the words, the shelf and the probes may
     // give, put line by line, after a log in `board` alone; if all of it is taken, a run's probes are as after a
-    // look at each of its states; if a put of a line of `run` or `board` failed, as after a look at the states up to
-    // the one that the step which said this line led to.
+    // look at each of its states; if a put of a line of `run` or `board` failed, of a sink that shows what it took, as
+    // after a look at the states up to the one that the step which said this line led to.
     ensures says { let before = map (λ b. watch b) probes.old.items in
         let after = map (λ b. watch b) probes.new.items in
         let first = K.shown out.old in

@@ -2,8 +2,8 @@
 use Rattle.std.specs.Prelude.{◌≡◌, ◌⊎◌, ℕ, ℤ, pos, List, Some, None, Ok, Err}
 use Rattle.std.specs.declared.option.Option.{Option}
 use Rattle.layout_reader.specs.Documents.{layout_of_document}
+use Rattle.layout_reader.specs.Faults.{Refusal}
 use Rattle.layout_reader.specs.Layouts.{KeyLayout, place_of}
-use Rattle.layout_reader.specs.declared.fault.LayoutFault.{LayoutFault}
 use Rattle.pc_tables.specs.Keys.{key_with_name}
 use Rattle.kbd48_c.specs.Statuses.{bad_text, done, no_memory, too_long}
 
@@ -28,8 +28,11 @@ abbrev pub place_status : Option ℕ → ℤ
 place_status None = no_such_key
 place_status (Some place) = done
 
--- the layout of a text has the key at this place, or has none of the name; or the text gives no layout, and what was
--- there stays
+-- a text is no layout
+abbrev pub HasFault : List ℕ → Type 0
+HasFault text = (fault : Refusal) × (layout_of_document text ≡ Err fault)
+
+-- the layout of a text has the key at this place, or has none of the name; or no layout was read, and what was there stays
 abbrev pub IsKeyAt : List ℕ → List ℕ → ℕ → ℤ → ℕ → Type 0
 IsKeyAt text name before status place =
     ((layout : KeyLayout) × (layout_of_document text ≡ Ok layout) × (status ≡ place_status (place_named name layout))

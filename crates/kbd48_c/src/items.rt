@@ -70,7 +70,7 @@ pub extern "C" fn kbd48_next(alloc: Global, handle: &mut Handle, item: &mut Said
     }
 }
 
-/// How many items were said and not kept after those that are kept, and weren't reported yet.
+/// How many items were lost after those that are kept, and weren't reported yet.
 #[unsafe(no_mangle)]
 pub extern "C" fn kbd48_lost(alloc: Global, handle: &mut Handle, lost: &mut u64) -> i32
     ensures lost { lost.new ≡ shown_of (λ k. k.heard.lost) handle.old.keyboard lost.old }
@@ -87,7 +87,8 @@ pub extern "C" fn kbd48_lost(alloc: Global, handle: &mut Handle, lost: &mut u64)
     }
 }
 
-/// How many times the interrupt line rose in the last call that made a step.
+/// How many times the interrupt line rose in the last run, which may be of no step, or in the last call of the host's that
+/// wasn't refused.
 #[unsafe(no_mangle)]
 pub extern "C" fn kbd48_rises(alloc: Global, handle: &mut Handle, rises: &mut u64) -> i32
     ensures rises { rises.new ≡ shown_of (λ k. k.rises) handle.old.keyboard rises.old }

@@ -4,7 +4,7 @@ ghost use Rattle.std.specs.Prelude.{◌≡◌, ◌<◌, ◌⊎◌, false, length
 ghost use Rattle.fw_compile.specs.Image.{image_of};
 ghost use Rattle.layout_reader.specs.Layouts.{us84};
 ghost use Rattle.pc_tables.specs.Keys.{key_with_name};
-ghost use Rattle.kbd48_c.specs.Names.{IsKeyAt, place_named, place_or, place_status};
+ghost use Rattle.kbd48_c.specs.Names.{HasFault, IsKeyAt, place_named, place_or, place_status};
 ghost use Rattle.kbd48_c.specs.Opening.{HasOpened};
 ghost use Rattle.kbd48_c.specs.Statuses.{bad_text, done, no_memory, too_long};
 
@@ -73,6 +73,7 @@ pub extern "C" fn kbd48_sample_key(name: &[u8], place: &mut u8) -> i32
 #[unsafe(no_mangle)]
 pub extern "C" fn kbd48_layout_key(alloc: Global, text: &[u8], name: &[u8], place: &mut u8) -> i32
     ensures found { IsKeyAt text.now name.now place.old result place.new }
+    ensures faulty { result ≡ bad_text → HasFault text.now }
     ensures long { 65536 < length text.now → result ≡ too_long }
     ensures only { result ≡ too_long → 65536 < length text.now }
 {

@@ -14,10 +14,11 @@ use edge_queue::edges_are_lawful;
 /// Whatever calls were made, in whatever order, however many and for however long: let a keyboard be in a past that
 /// begins with a layout's compiled image, and let the keys and host events of that past be lawful for the layout. Then
 /// what was said so far is the beginning of what the model says of them, at the run's own tick starts. How often a
-/// program uses the ports is free: without keys, events in order that write bytes are lawful. And the same calls give the
-/// same answers: two keyboards in one past are in one state of the run, and what is reported between two pasts is one byte,
-/// and one word or none; a call of the host or of a key is done of both, or refused for one cause; and a run ends for one
-/// reason, after as many steps. Nothing is done when it is called; the laws are its contract.
+/// program uses the ports is free: without keys, events in order that write bytes and invert data bits or the parity are
+/// lawful. And the same calls give the same answers: two keyboards in one past are in one state of the run, and what is
+/// reported between two pasts is one byte, and one word or none; a call of the host or of a key is done of both, or refused
+/// for one cause; and a run that ends before the count of cycles does ends for one reason, after as many steps. Nothing is
+/// done when it is called; the laws are its contract.
 pub fn calls_agree()
     ensures agrees { LogsAgree }
     ensures one_state { StatesAreAlike }

@@ -150,8 +150,9 @@ impl Keyboard {
         keyboard
     }
 
-    /// What was said next since the caller was last handed something, in the order of the log. Sixty-four items are kept;
-    /// if more are said, those after them are lost, until that was handed out too.
+    /// What happened next since the caller was last handed something, in order; of a step, the byte that passes before
+    /// what it says. Sixty-four items are kept; if there are more, those after them are lost, until that was handed out
+    /// too.
     pub fn hand_out(&mut self) -> Next
         ensures next { result ≡ next_of self.old.heard }
         ensures after { self.new ≡ record self.old { heard = after_next self.old.heard } }

@@ -108,14 +108,15 @@ impl Keyboard {
         self.parts.joint.lines()
     }
 
-    /// How many items were said and not kept after those that are kept, and weren't reported yet.
+    /// How many items were lost after those that are kept, and weren't reported yet.
     pub fn lost(&self) -> u64
         ensures lost { result ≡ self.now.heard.lost }
     {
         self.parts.heard.lost
     }
 
-    /// How many times the interrupt line rose in the last call that made a step.
+    /// How many times the interrupt line rose in the last run, which may be of no step, or in the last call of the host's that
+    /// wasn't refused.
     pub fn rises(&self) -> u64
         ensures rises { result ≡ self.now.rises }
     {

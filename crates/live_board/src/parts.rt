@@ -31,7 +31,7 @@ pub(crate) const STAMP_0: u64 = 4096;
 pub(crate) const LAST: u64 = 1 << 62;
 
 /// The joint machine, the events that its next step is handed, and what its last step did; what is kept of the log until
-/// the caller takes it, and how often the interrupt line rose in the last call that made a step.
+/// the caller takes it, and how often the interrupt line rose in the last run or call of the host's that wasn't refused.
 #[derive(Drop)]
 pub struct Parts {
     pub joint: Joint,

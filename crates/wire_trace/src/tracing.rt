@@ -73,8 +73,8 @@ fn put_trace<F: Feed, K: Sink>(
 /// of which a cycle has 25; and a byte that passes over the wires is a comment after the change that completes it.
 ///
 /// On Ok the whole text was said, and the sink's count of faults is as it was. Write comes only if that count rose: then
-/// the saying was broken off, and the sink has a prefix of the text. After Memory the sink is as it was, and the feed is given
-/// up. All memory is taken before the first step.
+/// the saying was broken off, and a sink that shows what it took has a prefix of the text. Memory comes only before
+/// anything is put: the sink is as it was, and the feed is given up.
 ///
 /// The bytes in the comments are, in order, those that the controller takes and sends: each is in the sample after the
 /// step in one of whose cycles its frame's eleventh edge ends it, and no frame that is broken off is among them.

@@ -432,7 +432,7 @@ class Keyboard:
 
     @property
     def rises(self) -> int:
-        """How often the line rose in the last call that made a step."""
+        """How often the line rose in the last run, or in the last access that wasn't refused."""
         return self._shown("rises", c.c_uint64)
 
     @property
