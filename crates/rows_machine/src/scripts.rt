@@ -1,10 +1,9 @@
-//! Scripts by hand: what they print, and each way to be wrong.
+//! Scripts by hand: what they print with and without an armed probe, and each way to be wrong for any number of probes.
 
-use board_probes::{AddressProbe, CellProbe, Probe, RegisterProbe};
+use board_probes::{AddressProbe, Probe};
 use debugger::{Debuggee, LineFault, Session, SessionFault, check_script};
 use key_file::read_history;
 use layout_reader::us84_layout;
-use mcs48_isa::Image;
 use std::alloc::{AllocError, Global};
 use std::process::Abort;
 use std::test::Fail;
@@ -39,38 +38,6 @@ fn printed(
 }
 
 #[test]
-fn a_hunt_stops_where_a_probe_hits(rt: HostRuntime) -> Result<(), Fail> {
-    let alloc = rt.alloc();
-    let mut probes: Vec<Box<dyn Probe>> = Vec::new(alloc);
-    probes.push(Box::new(alloc, AddressProbe::new())?)?;
-    probes.push(Box::new(alloc, RegisterProbe::new())?)?;
-    probes.push(Box::new(alloc, CellProbe::new())?)?;
-    let out = printed(&rt, alloc, &["arm 2 07F 00", "go 9", "tell 2"], &mut probes)?;
-    let wanted: &[u8] = b"armed 2\nhit 2 at 1\nprobe 2 count 1 first 1\n";
-    assert!(rt; out.as_slice() == wanted);
-    let out = printed(
-        &rt,
-        alloc,
-        &["arm 1 008 00", "step 5", "tell 1"],
-        &mut probes,
-    )?;
-    let wanted: &[u8] = b"armed 1\nat 5\nprobe 1 count 0 first none\n";
-    assert!(rt; out.as_slice() == wanted);
-    let out = printed(
-        &rt,
-        alloc,
-        &["step 0", "drop 1", "ram 00", "", "show"],
-        &mut probes,
-    )?;
-    let wanted: &[u8] =
-        b"at 0\ndropped 1\nram 00 00\npc 000 a 00 psw 08 f1 0 mb 0\nt 00 pre 00 tf 0 run off ext off tim off rq 0 svc 0\np1 FF p2 FF bus FF\nr 00 00 00 00 00 00 00 00\nsteps 0 cycles 0\n";
-    assert!(rt; out.as_slice() == wanted);
-    let out = printed(&rt, alloc, &["step 999999999"], &mut probes)?;
-    assert!(rt; out.as_slice().ends_with(b" end\n"));
-    Ok(())
-}
-
-#[test]
 fn steps_at_once_lead_where_single_steps_lead(rt: HostRuntime) -> Result<(), Fail> {
     let alloc = rt.alloc();
     let mut probes: Vec<Box<dyn Probe>> = Vec::new(alloc);
@@ -89,30 +56,6 @@ fn steps_at_once_lead_where_single_steps_lead(rt: HostRuntime) -> Result<(), Fai
     )?;
     assert!(rt; singly.as_slice().starts_with(b"armed 0\nat 91966\n"));
     assert!(rt; singly.as_slice().ends_with(at_once.as_slice()));
-    Ok(())
-}
-
-#[test]
-fn a_session_of_any_program_ends_at_the_end_stamp(rt: HostRuntime) -> Result<(), Fail> {
-    let alloc = rt.alloc();
-    let layout = us84_layout(alloc)?;
-    for (third, wanted) in [
-        (0x00, b"at 2\nat 244096 end\n".as_slice()),
-        (0x01, b"at 2 end\nat 2 end\n".as_slice()),
-    ] {
-        let Ok(history) = read_history(alloc, KEYS, &layout) else {
-            panic!(&rt; "no history")
-        };
-        let mut image = Image { bytes: [0; 2048] };
-        image.bytes[2] = third;
-        let mut probes: Vec<Box<dyn Probe>> = Vec::new(alloc);
-        let mut session = Session::new(alloc, Debuggee::of_program(image, history))?;
-        let mut out = Vec::new(alloc);
-        for line in [b"step 2".as_slice(), b"step 999999999".as_slice()] {
-            assert!(&rt; session.line(alloc, line, &mut probes, &mut out).is_ok());
-        }
-        assert!(&rt; out.as_slice() == wanted);
-    }
     Ok(())
 }
 

@@ -1,140 +1,229 @@
-//! Worked examples, cycle by cycle. What is known of a byte under way is a number here.
+//! Worked examples, cycle by cycle, as tables: what happens, and what is so then. What is known of a byte under way is a
+//! number here.
 
 use ctl_core::{Did, Port as HostPort};
 use ctl_link::{Link, LinkEnd, Passing};
 use std::process::Abort;
 
-/// The host writes a byte.
-fn write(rt: &impl Abort, port: &mut LinkEnd<u8>, to: HostPort, byte: u8) {
-    assert!(rt; port.core.host_write(to, byte).is_ok());
+/// A row of an example: what happens to the controller's end of the link, or what is so of it.
+#[derive(Clone, Copy, Drop)]
+enum Row {
+    /// The host writes a byte to a port, and finds room.
+    Write(HostPort, u8),
+    /// The host reads this byte from port 60h.
+    Read(u8),
+    /// A byte of the keyboard has come whole in a cycle, or wrong, while the output buffer is empty.
+    Comes(u64, Option<u8>),
+    /// A byte for the keyboard has gone whole, while the output buffer is empty.
+    HandedOver,
+    /// A cycle ends, and the input taken did this.
+    Settle(u64, Did),
+    /// The link is this.
+    Is(Link<u8>),
+    /// The output buffer was last filled in this cycle.
+    Filled(u64),
+    /// Whether the input buffer is full.
+    InputFull(bool),
+    /// Whether the output buffer is full.
+    OutputFull(bool),
+    /// How many times in a row a byte was asked for again.
+    Resends(u8),
+    /// The status byte is this.
+    Status(u8),
+}
+
+use Did::{Nothing, ToKeyboard};
+use HostPort::{P60, P64};
+use Row::{
+    Comes, Filled, HandedOver, InputFull, Is, OutputFull, Read, Resends, Settle, Status, Write,
+};
+
+/// Plays the rows of an example, from the start on.
+fn play(rt: &impl Abort, rows: &[Row]) {
+    let mut port: LinkEnd<u8> = LinkEnd::new();
+    for (at, row) in rows.iter().enumerate() {
+        match *row {
+            Write(to, byte) => assert!(rt; port.core.host_write(to, byte).is_ok(), "row {at}"),
+            Read(byte) => assert_eq!(rt; port.core.host_read60(), byte, "row {at}"),
+            Comes(now, byte) => {
+                assert!(rt; !port.core.output_full(), "row {at}");
+                port.receive(now, byte);
+            }
+            HandedOver => {
+                assert!(rt; !port.core.output_full(), "row {at}");
+                port.hand_over();
+            }
+            Settle(now, did) => assert_eq!(rt; port.settle(now), did, "row {at}"),
+            Is(link) => assert_eq!(rt; port.link, link, "row {at}"),
+            Filled(cycle) => assert_eq!(rt; port.filled, cycle, "row {at}"),
+            InputFull(full) => assert_eq!(rt; port.core.input_full(), full, "row {at}"),
+            OutputFull(full) => assert_eq!(rt; port.core.output_full(), full, "row {at}"),
+            Resends(count) => assert_eq!(rt; port.core.resends(), count, "row {at}"),
+            Status(byte) => assert_eq!(rt; port.core.status(), byte, "row {at}"),
+        }
+    }
 }
 
 #[test]
 fn a_hold_lasts_64_cycles(rt: HostRuntime) {
-    let mut port: LinkEnd<u8> = LinkEnd::new();
-    write(&rt, &mut port, HostPort::P64, 0xaa);
-    assert_eq!(rt; port.settle(10), Did::Nothing);
-    assert_eq!(rt; port.link, Link::Hold(10));
-    assert_eq!(rt; port.filled, 10);
-    assert_eq!(rt; port.core.host_read60(), 0x55);
-    assert_eq!(rt; port.settle(73), Did::Nothing);
-    assert_eq!(rt; port.link, Link::Hold(10));
-    assert_eq!(rt; port.settle(74), Did::Nothing);
-    assert_eq!(rt; port.link, Link::Free);
+    play(
+        &rt,
+        &[
+            Write(P64, 0xaa),
+            Settle(10, Nothing),
+            Is(Link::Hold(10)),
+            Filled(10),
+            Read(0x55),
+            Settle(73, Nothing),
+            Is(Link::Hold(10)),
+            Settle(74, Nothing),
+            Is(Link::Free),
+        ],
+    );
 }
 
 #[test]
 fn a_byte_for_the_keyboard_is_asked_for_and_then_requested(rt: HostRuntime) {
-    let mut port: LinkEnd<u8> = LinkEnd::new();
-    write(&rt, &mut port, HostPort::P60, 0xed);
-    assert_eq!(rt; port.settle(20), Did::ToKeyboard(0xed));
-    assert_eq!(rt; port.link, Link::Ask(0xed, 20));
-    assert_eq!(rt; port.settle(83), Did::Nothing);
-    assert_eq!(rt; port.link, Link::Ask(0xed, 20));
-    assert_eq!(rt; port.settle(84), Did::Nothing);
-    assert_eq!(rt; port.link, Link::Request(0xed));
-    assert_eq!(rt; port.settle(1000), Did::Nothing);
-    assert_eq!(rt; port.link, Link::Request(0xed));
+    play(
+        &rt,
+        &[
+            Write(P60, 0xed),
+            Settle(20, ToKeyboard(0xed)),
+            Is(Link::Ask(0xed, 20)),
+            Settle(83, Nothing),
+            Is(Link::Ask(0xed, 20)),
+            Settle(84, Nothing),
+            Is(Link::Request(0xed)),
+            Settle(1000, Nothing),
+            Is(Link::Request(0xed)),
+        ],
+    );
 }
 
 #[test]
 fn a_hold_counts_for_the_ask_after_it(rt: HostRuntime) {
-    let mut port: LinkEnd<u8> = LinkEnd::new();
-    write(&rt, &mut port, HostPort::P64, 0xab);
-    assert_eq!(rt; port.settle(10), Did::Nothing);
-    assert_eq!(rt; port.core.host_read60(), 0x00);
-    write(&rt, &mut port, HostPort::P60, 0xf4);
-    assert_eq!(rt; port.settle(40), Did::ToKeyboard(0xf4));
-    assert_eq!(rt; port.link, Link::Ask(0xf4, 10));
-    assert_eq!(rt; port.settle(73), Did::Nothing);
-    assert_eq!(rt; port.link, Link::Ask(0xf4, 10));
-    assert_eq!(rt; port.settle(74), Did::Nothing);
-    assert_eq!(rt; port.link, Link::Request(0xf4));
+    play(
+        &rt,
+        &[
+            Write(P64, 0xab),
+            Settle(10, Nothing),
+            Read(0x00),
+            Write(P60, 0xf4),
+            Settle(40, ToKeyboard(0xf4)),
+            Is(Link::Ask(0xf4, 10)),
+            Settle(73, Nothing),
+            Is(Link::Ask(0xf4, 10)),
+            Settle(74, Nothing),
+            Is(Link::Request(0xf4)),
+        ],
+    );
 }
 
 #[test]
 fn a_long_hold_becomes_a_request_at_once(rt: HostRuntime) {
-    let mut port: LinkEnd<u8> = LinkEnd::new();
-    write(&rt, &mut port, HostPort::P64, 0xab);
-    assert_eq!(rt; port.settle(10), Did::Nothing);
-    assert_eq!(rt; port.settle(90), Did::Nothing);
-    assert_eq!(rt; port.core.host_read60(), 0x00);
-    write(&rt, &mut port, HostPort::P60, 0xf4);
-    assert_eq!(rt; port.settle(91), Did::ToKeyboard(0xf4));
-    assert_eq!(rt; port.link, Link::Request(0xf4));
+    play(
+        &rt,
+        &[
+            Write(P64, 0xab),
+            Settle(10, Nothing),
+            Settle(90, Nothing),
+            Read(0x00),
+            Write(P60, 0xf4),
+            Settle(91, ToKeyboard(0xf4)),
+            Is(Link::Request(0xf4)),
+        ],
+    );
 }
 
 #[test]
 fn nothing_is_taken_while_the_output_buffer_is_full(rt: HostRuntime) {
-    let mut port: LinkEnd<u8> = LinkEnd::new();
-    write(&rt, &mut port, HostPort::P64, 0xaa);
-    assert_eq!(rt; port.settle(10), Did::Nothing);
-    write(&rt, &mut port, HostPort::P60, 0xf4);
-    assert_eq!(rt; port.settle(500), Did::Nothing);
-    assert_eq!(rt; port.link, Link::Hold(10));
-    assert!(rt; port.core.input_full());
+    play(
+        &rt,
+        &[
+            Write(P64, 0xaa),
+            Settle(10, Nothing),
+            Write(P60, 0xf4),
+            Settle(500, Nothing),
+            Is(Link::Hold(10)),
+            InputFull(true),
+        ],
+    );
 }
 
 #[test]
 fn nothing_is_taken_while_a_reply_is_awaited(rt: HostRuntime) {
-    let mut port: LinkEnd<u8> = LinkEnd::new();
-    assert!(rt; !port.core.output_full());
-    port.hand_over();
-    write(&rt, &mut port, HostPort::P60, 0xf4);
-    assert_eq!(rt; port.settle(100), Did::Nothing);
-    assert_eq!(rt; port.link, Link::Free);
-    assert!(rt; !port.core.output_full());
-    port.receive(200, Some(0xfa));
-    assert_eq!(rt; port.link, Link::Hold(200));
-    assert_eq!(rt; port.filled, 200);
-    assert_eq!(rt; port.core.host_read60(), 0xfa);
-    assert_eq!(rt; port.settle(201), Did::ToKeyboard(0xf4));
-    assert_eq!(rt; port.link, Link::Ask(0xf4, 200));
+    play(
+        &rt,
+        &[
+            HandedOver,
+            Write(P60, 0xf4),
+            Settle(100, Nothing),
+            Is(Link::Free),
+            Comes(200, Some(0xfa)),
+            Is(Link::Hold(200)),
+            Filled(200),
+            Read(0xfa),
+            Settle(201, ToKeyboard(0xf4)),
+            Is(Link::Ask(0xf4, 200)),
+        ],
+    );
 }
 
 #[test]
 fn a_disabled_keyboard_is_held_off(rt: HostRuntime) {
-    let mut port: LinkEnd<u8> = LinkEnd::new();
-    write(&rt, &mut port, HostPort::P64, 0xad);
-    assert_eq!(rt; port.settle(5), Did::Nothing);
-    assert_eq!(rt; port.link, Link::Hold(5));
-    assert_eq!(rt; port.settle(300), Did::Nothing);
-    assert_eq!(rt; port.link, Link::Hold(5));
-    write(&rt, &mut port, HostPort::P64, 0xae);
-    assert_eq!(rt; port.settle(301), Did::Nothing);
-    assert_eq!(rt; port.link, Link::Free);
+    play(
+        &rt,
+        &[
+            Write(P64, 0xad),
+            Settle(5, Nothing),
+            Is(Link::Hold(5)),
+            Settle(300, Nothing),
+            Is(Link::Hold(5)),
+            Write(P64, 0xae),
+            Settle(301, Nothing),
+            Is(Link::Free),
+        ],
+    );
 }
 
 #[test]
 fn the_start_of_a_break_fills_nothing(rt: HostRuntime) {
-    let mut port: LinkEnd<u8> = LinkEnd::new();
-    assert!(rt; !port.core.output_full());
-    port.receive(100, Some(0xf0));
-    assert_eq!(rt; port.link, Link::Hold(100));
-    assert_eq!(rt; port.filled, 0);
-    assert!(rt; !port.core.output_full());
-    port.receive(700, Some(0x1c));
-    assert_eq!(rt; port.filled, 700);
-    assert_eq!(rt; port.core.host_read60(), 0x9e);
+    play(
+        &rt,
+        &[
+            Comes(100, Some(0xf0)),
+            Is(Link::Hold(100)),
+            Filled(0),
+            Comes(700, Some(0x1c)),
+            Filled(700),
+            Read(0x9e),
+        ],
+    );
 }
 
 #[test]
 fn a_byte_that_comes_wrong_is_asked_for_three_times(rt: HostRuntime) {
-    let mut port: LinkEnd<u8> = LinkEnd::new();
-    for count in [1, 2, 3] {
-        assert!(rt; !port.core.output_full());
-        port.receive(100, None);
-        assert_eq!(rt; port.link, Link::Ask(0xfe, 100));
-        assert_eq!(rt; port.core.resends(), count);
-    }
-    assert!(rt; !port.core.output_full());
-    port.receive(700, None);
-    assert_eq!(rt; port.link, Link::Hold(700));
-    assert_eq!(rt; port.core.resends(), 0);
-    assert_eq!(rt; port.filled, 700);
-    assert_eq!(rt; port.core.status(), 0x95);
-    assert_eq!(rt; port.core.host_read60(), 0xff);
-    assert_eq!(rt; port.core.status(), 0x94);
+    play(
+        &rt,
+        &[
+            Comes(100, None),
+            Is(Link::Ask(0xfe, 100)),
+            Resends(1),
+            Comes(100, None),
+            Is(Link::Ask(0xfe, 100)),
+            Resends(2),
+            Comes(100, None),
+            Is(Link::Ask(0xfe, 100)),
+            Resends(3),
+            Comes(700, None),
+            Is(Link::Hold(700)),
+            Resends(0),
+            Filled(700),
+            Status(0x95),
+            Read(0xff),
+            Status(0x94),
+        ],
+    );
 }
 
 /// A byte under way that may be broken off, or not.

@@ -1,5 +1,5 @@
 use Rattle.std.proofs.Common.{◌≡◌, ℕ, ◌*◌, ◌<◌, length, get_or}
-use Rattle.rows_model.proofs.even.even_starts.Given as goal
+use Rattle.rows_parts.proofs.waiting.even_starts.Given as goal
 
 abbrev pub invariant-loop-n : goal.invariant-loop-n
 invariant-loop-n l = record {

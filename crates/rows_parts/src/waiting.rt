@@ -1,11 +1,29 @@
 //! A key just after the read of its column, and what waits after it: logs with ticks at the multiples of 2,048.
 
-use crate::even::even_starts;
+ghost use Rattle.std.specs.Prelude.{◌≡◌, ◌<◌, ◌≤◌, ◌-◌, ◌*◌, length, IfOk};
+ghost use Rattle.board_terms.specs.Cadence.{IsLast, KeepsCadenceTo, listed};
+
 use key_file::read_history;
 use layout_reader::us84_layout;
 use link_model::expect;
 use pc_tables::Item;
+use std::alloc::{AllocError, Global};
 use std::test::Fail;
+
+/// The starts of a run's ticks if each tick takes 2,048 cycles.
+fn even_starts(alloc: Global, end: u64) -> Result<Vec<u64>, AllocError>
+    requires { end ≤ 240000000 }
+    ensures some { IfOk result (λ starts. 0 < length starts.items) }
+    ensures cadence { IfOk result (λ starts. KeepsCadenceTo (listed starts.items) (length starts.items - 1)) }
+    ensures last { IfOk result (λ starts. IsLast (listed starts.items) end (length starts.items - 1)) }
+{
+    let last = (end + 2047) / 2048;
+    let mut starts = Vec::new(alloc);
+    for n in 0..last + 1 {
+        starts.push(2048 * n)?;
+    }
+    Ok(starts)
+}
 
 /// Column 3, if `a` is, is read at offset 64: in tick 78 at stamp 159,808. A press up to then is read by INT 09h
 /// in tick 79, and one a cycle later in tick 80, at 164,512: 4,703 cycles after it, and 5 more if that tick starts
