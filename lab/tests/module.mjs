@@ -326,7 +326,7 @@ async function checksum() {
       }
     },
     keys: (cycles, watched) => {
-      const { machine, to } = keyboard, status = machine.call('kbd48_run_keys', to.handle, to.queue, BigInt(cycles), watched, to.passed, to.place);
+      const { machine, to } = keyboard, status = machine.call('kbd48_run_keys', to.handle, to.queue, BigInt(cycles), watched, to.passed, to.spot);
       return both(status, keyboard.passed);
     },
     to: (cycles, x) => {
