@@ -75,7 +75,10 @@ export class KeyboardPane {
   lamps(lights) {
     if (lights === this.lights) return;
     this.lights = lights;
-    for (const lamp of document.querySelectorAll('#lamps [data-lamp]')) lamp.classList.toggle('on', (lights & lamp.dataset.lamp) !== 0);
+    for (const lamp of document.querySelectorAll('#lamps [data-lamp]')) {
+      const isOn = lamp.classList.toggle('on', (lights & lamp.dataset.lamp) !== 0);
+      lamp.setAttribute('aria-label', `${lamp.textContent}: ${isOn ? 'on' : 'off'}`);
+    }
   }
 
   // Each key where the board's file has it; else at its place on the AT's board; of a layout with few keys, in the matrix.

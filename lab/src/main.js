@@ -15,9 +15,9 @@ import { WorkbenchPane } from './workbench_pane.js';
 
 const LONGEST = 200; // ms that are made up for, after a time in which the page wasn't called
 // The keyboard goes on 25 times a second, or 10 times while nothing happens. A key is answered soon after it: its byte has
-// passed by then. A picture costs the browser ten times what a stretch costs, so there are two for a stroke: one of the key and
-// its letter, and one of the key that is up again, the wires and the logs. If it stays down these are drawn without it.
-const STRETCH = 40, CALM_STRETCH = 100, SOON = 20, BETWEEN_PICTURES = 160, LATEST = 100; // ms
+// passed by then. A picture costs the browser ten times what a stretch costs. So wires and logs are drawn with a key that goes up
+// again, or a little later if none does, and 4 times a second at most; more often if time is slow, which somebody watches.
+const STRETCH = 40, CALM_STRETCH = 100, SOON = 20, BETWEEN_PICTURES = 160, BETWEEN_NEWS = 240, LATEST = 100; // ms
 
 const moduleOf = async id => unpacked(bytesOf(byId(id).textContent));
 
@@ -33,7 +33,7 @@ addEventListener('unhandledrejection', event => trouble(event.reason));
 class Lab {
   constructor(keyboard, program) {
     this.keyboard = keyboard;
-    Object.assign(this, { files, fromKle, program, owed: 0, drawn: -Infinity, news: 0, since: null, timer: null, last: performance.now(), isPassing: false });
+    Object.assign(this, { files, fromKle, program, owed: 0, drawn: -Infinity, newsDrawn: -Infinity, news: 0, since: null, timer: null, last: performance.now(), isPassing: false });
     this.keys = new KeyboardPane({
       open: (layout, names) => this.open(layout, names), press: (place, down) => this.live.press(place, down),
       bench: words => {
@@ -98,11 +98,13 @@ class Lab {
     const { last, live: { news } } = this;
     if (news === this.news) return last - this.drawn >= BETWEEN_PICTURES;
     this.since ??= last;
-    return isUp || last - this.since >= LATEST;
+    const isSoon = last - this.newsDrawn < (byId('speed').value === '1' ? BETWEEN_NEWS : LATEST);
+    return !isSoon && (isUp || last - this.since >= LATEST);
   }
 
   /** Draws what changed in the panes that are shown. */
   draw() {
+    if (this.since !== null) this.newsDrawn = this.last;
     Object.assign(this, { drawn: this.last, news: this.live.news, since: null });
     if (!byId('wires').hidden) this.wires.draw();
     if (!byId('processor').hidden) this.processor.draw();
@@ -143,7 +145,8 @@ class Lab {
       trouble(error);
       return;
     }
-    this.#wait(this.live.isCalm || isStopped() ? CALM_STRETCH : STRETCH);
+    // Somebody who stopped time steps through it, and wants to see each step.
+    this.#wait(this.live.isCalm && !isStopped() ? CALM_STRETCH : STRETCH);
   }
 }
 

@@ -211,6 +211,8 @@ export class ProcessorPane {
     if (!arms || !this.session) return;
     byId('run').setAttribute('aria-pressed', 'true');
     byId('run').textContent = 'Halt';
+    // A screen reader needn't say each place that the run passes.
+    byId('at').setAttribute('aria-live', 'off');
     // At a pace each picture is a round number of steps later, so that many of them come of one run.
     // The keyboard that runs has no end, so the page must be able to halt it.
     const [longest, most] = this.#isLive() ? [LIVE_STRIDE, 1] : [FOREVER, MOST_STRIDES];
@@ -239,6 +241,11 @@ export class ProcessorPane {
     this.timer = null;
     byId('run').setAttribute('aria-pressed', 'false');
     byId('run').textContent = 'Run';
+    const where = byId('at');
+    if (where.getAttribute('aria-live') !== 'off') return;
+    // Where it has halted is said.
+    where.removeAttribute('aria-live');
+    where.replaceChildren(where.textContent);
   }
 
   #choose(element) {

@@ -56,6 +56,7 @@ export class Waveform {
     this.shown = shown;
     this.back = 0;
     this.drawn = '';
+    this.draw();
   }
 
   draw() {

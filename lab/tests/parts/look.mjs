@@ -6,6 +6,7 @@ const LEAST_CONTRAST = 4.5; // WCAG 2, AA
 // Per cent of one processor: the goal, and what fails. Machines differ, and this must not fail on a slow or busy one; a page
 // that never rests takes a whole processor.
 const GOAL = 15, TOO_MUCH = 50;
+const HELD = 70, BETWEEN_STROKES = 167, MEASURED = 5000; // ms
 const LEAST_HEIGHT = 90; // pixels of a text or a picture
 export const PANES = ['keyboard', 'wires', 'processor', 'workbench', 'lessons'];
 const PHONES = { narrow: [360, 800, 2], iphone: [390, 844, 3], android: [412, 915, 2.625], lying: [844, 390, 3] };
@@ -101,38 +102,57 @@ export async function policy(browser) {
   assert.ok(said2.length > 0 && said2.every(line => /Content.Security.Policy/i.test(line)), said2.join('\n'));
 }
 
-/** The part of one processor that the browser takes, with all its processes and all panes open. */
-export async function load(browser, act = () => browser.wait(200), ms = 5000) {
-  for (const pane of PANES) await browser.evaluate(`lab.show(${JSON.stringify(pane)}, true)`);
-  await browser.evaluate('document.getElementById("board").focus(); scrollTo(0, 0)');
+/** The part of one processor that the browser takes, with all its processes and all panes open, one of them in sight. */
+export async function load(browser, pane) {
+  for (const name of PANES) await browser.evaluate(`lab.show(${JSON.stringify(name)}, true)`);
+  await browser.evaluate(`document.getElementById("board").focus(); document.getElementById("${pane}").scrollIntoView()`);
   await browser.wait(1500);
   const before = browser.processorSeconds(), began = Date.now();
   if (before === null) return null;
-  while (Date.now() - began < ms) await act();
+  await browser.wait(MEASURED);
   return 100 * (browser.processorSeconds() - before) / ((Date.now() - began) / 1000);
 }
 
 /** The least load of up to three measures: other work on the machine only adds to one. */
-async function least(browser) {
-  let found = await load(browser);
-  for (let more = 0; more < 2 && found !== null && found > GOAL; more++) found = Math.min(found, await load(browser));
+async function least(browser, pane = 'keyboard') {
+  let found = await load(browser, pane);
+  for (let more = 0; more < 2 && found !== null && found > GOAL; more++) found = Math.min(found, await load(browser, pane));
   return found;
 }
 
+/** The same while six strokes a second arrive. A script of the page's sends them: what a driver does for a key isn't counted. */
+async function leastTyping(browser, pane) {
+  await browser.evaluate(`(() => {
+    const board = document.getElementById('board');
+    const send = (type, code) => board.dispatchEvent(new KeyboardEvent(type, { code, bubbles: true, cancelable: true }));
+    globalThis.strokes = setInterval(() => {
+      send('keydown', 'KeyA');
+      setTimeout(send, ${HELD}, 'keyup', 'KeyA');
+    }, ${BETWEEN_STROKES});
+  })(); 0`);
+  const before = await typed(browser), began = Date.now(), found = await least(browser, pane);
+  await browser.evaluate('clearInterval(strokes)');
+  const rate = (await typed(browser) - before) / ((Date.now() - began) / 1000);
+  assert.ok(rate > 3, `${rate.toFixed(1)} strokes a second arrived`);
+  return found;
+}
+
+const typed = browser => browser.evaluate('lab.live.events.filter(it => it.words === "press a").length');
+
 /** The load in each state that a page may be left in. */
 export async function loads(browser) {
-  const rest = await least(browser), typing = await load(browser, () => browser.stroke('KeyA', 70).then(() => browser.wait(100)));
+  const rest = await least(browser), typing = await leastTyping(browser);
   await browser.put('program', 'the keyboard that I type on');
-  const live = await least(browser);
+  const live = await least(browser, 'processor'), both = await leastTyping(browser, 'processor');
   await browser.put('program', 'four_keys.asm');
   await browser.click('#masked');
   await browser.evaluate('lab.keys.hold("b", true, "test"); lab.keys.hold("b", false, "test")');
-  const masked = await load(browser);
+  const masked = await least(browser);
   await browser.click('#masked');
   if (rest === null) return 'its load wasn\'t measured here';
   for (const [name, share] of Object.entries({ rest, live })) assert.ok(share <= TOO_MUCH, `${share.toFixed(1)} % of one processor: ${name}`);
-  const per = [rest, typing, live, masked].map(share => share.toFixed(0));
-  return `${per[0]} % of one processor at rest with all panes, ${per[1]} % while one types, ${per[2]} % with the live processor, ${per[3]} % while a byte waits`;
+  const per = [rest, typing, live, both, masked].map(share => share.toFixed(0));
+  return `${per[0]} % of one processor at rest with all panes, ${per[1]} % while one types, ${per[2]} and ${per[3]} % with the live processor in sight, ${per[4]} % while a byte waits`;
 }
 
 /** A trap drops the module, and the page says so. */
