@@ -91,7 +91,8 @@ export class Waveform {
       const { cycle: from, levels, pulls } = n >= 0 ? edges[n] : { cycle: last - LONG - 1, levels: CLOCK | DATA };
       const cut = last - from > LONG, wide = n < 0 ? x : (cut ? LONG : last - from) * this.zoom;
       this.places.set(from, x - wide);
-      if (x - wide < width) each({ left: x - wide, right: Math.min(x, width), levels, pulls, before: n > 0 ? edges[n - 1].levels : CLOCK | DATA, cut });
+      // On whole pixels two stretches meet without a seam.
+      if (x - wide < width) each({ left: Math.round(x - wide), right: Math.round(Math.min(x, width)), levels, pulls, before: n > 0 ? edges[n - 1].levels : CLOCK | DATA, cut });
       x -= wide;
       last = from;
     }
