@@ -51,7 +51,7 @@ module _ (p : Past) (a b : Keyboard) (s : HasPast p a) (t : HasPast p b) where
       ∙ sym (ap (λ (o : _). waits act o.desk.port.core) t.in_run.outside)
 
   -- a cause of one is the cause of both
-  one_cause : (act : HostAct) (x y : Refused) → IsRefused act a x → IsRefused act b y → x ≡ y
+  pub one_cause : (act : HostAct) (x y : Refused) → IsRefused act a x → IsRefused act b y → x ≡ y
   one_cause act R.Early R.Early h g = refl
   one_cause act R.Early R.Over h g = absurd (let e = same_cycle in omega (arith, e, h, g))
   one_cause act R.Early R.Full h g = absurd (let e = same_cycle in let l = g.0 in omega (arith, e, h, l))
@@ -72,7 +72,7 @@ module _ (p : Past) (a b : Keyboard) (s : HasPast p a) (t : HasPast p b) where
   one_cause act (R.Stuck q) (R.Stuck r) h g = ap (λ (v : Place). R.Stuck v) (h.1 ∙ same_place ∙ sym g.1)
 
   -- what is refused of one isn't done of the other
-  never_alone : (act : HostAct) (x : Refused) (d : Keyboard) → IsRefused act a x → MayAct act b
+  pub never_alone : (act : HostAct) (x : Refused) (d : Keyboard) → IsRefused act a x → MayAct act b
       → HasPast (acted p (b.joint.cycle - 4096) act) d → ⊥
   never_alone act R.Early d h may has_past = let e = same_cycle in let l = may.late in omega (arith, e, h, l)
   never_alone act R.Over d h may has_past = let e = same_cycle in let l = may.near in omega (arith, e, h, l)
@@ -93,7 +93,7 @@ calls_alike act p a b c d (Err x) (Ok y) s t h g =
 calls_alike act p a b c d (Err x) (Err y) s t h g = ap (λ v. Err v) (one_cause p a b s t act x y h.0 g.0)
 
 -- a run that reaches a state has the one after fewer steps
-earlier : (p : Past) (k m : ℕ) (w : World Beside) → state_at (story_of p) (m + k) ≡ Some w
+pub earlier : (p : Past) (k m : ℕ) (w : World Beside) → state_at (story_of p) (m + k) ≡ Some w
     → (u : World Beside) × (state_at (story_of p) k ≡ Some u)
 earlier p k zero w h = let none : zero + k ≡ k = omega arith in (w, ap (state_at (story_of p)) (sym none) ∙ h)
 earlier p k (suc m) w h =

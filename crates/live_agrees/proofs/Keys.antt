@@ -38,7 +38,7 @@ module _ (p : Past) (a b : Keyboard) (s : HasPast p a) (t : HasPast p b) where
   same_now : s.world.cycle ≡ t.world.cycle
   same_now = ap (λ (w : World Beside). w.cycle) (states_alike p a b s t)
 
-  same_made : s.made ≡ t.made
+  pub same_made : s.made ≡ t.made
   same_made = by (ltb s.made t.made) (ltb t.made s.made) refl refl
     where
       by : (u v : Bool) → ltb s.made t.made ≡ u → ltb t.made s.made ≡ v → s.made ≡ t.made

@@ -4,3 +4,4 @@ pub mod Ends
 pub mod Keys
 pub mod Stops
 pub mod Queued
+pub mod Saved

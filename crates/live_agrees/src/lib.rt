@@ -7,6 +7,8 @@
 ghost use Rattle.live_agrees.specs.Law.{AnswersAreAlike, AnyUseIsLawful, CallsAreAlike, KeysAreAlike, LogsAgree};
 ghost use Rattle.live_agrees.specs.Law.{LogsAreShown, NeverStuck, RunsEndAlike, RunsStopAlike, StatesAreAlike, WordsAreAlike};
 ghost use Rattle.live_agrees.specs.Queued.{QueuedLogsAgree, StaysQueued};
+ghost use Rattle.live_agrees.specs.Saved.{CallsKeepAlike, HandsKeepAlike, KeysKeepAlike, LoadedAreAlike, RunsKeepAlike, SavesAreAlike};
+ghost use Rattle.live_agrees.specs.Saved.{StopsKeepAlike};
 
 use agreement::{any_keys, goes_on_from_any_start, run_and_model_agree};
 use edge_queue::edges_are_lawful;
@@ -63,3 +65,16 @@ pub fn queued_keys_agree()
     edges_are_lawful();
     run_and_model_agree();
 }
+
+/// A keyboard and one that was loaded of its save: both are in one past, and keep the same for the caller. So what is saved
+/// of both is the same, and each call is done of both or refused of both for one cause, and leaves them so. Nothing is done
+/// when it is called; the laws are its contract.
+pub fn saves_agree()
+    ensures loaded { LoadedAreAlike }
+    ensures saved { SavesAreAlike }
+    ensures calls { CallsKeepAlike }
+    ensures keys { KeysKeepAlike }
+    ensures runs { RunsKeepAlike }
+    ensures stops { StopsKeepAlike }
+    ensures hands { HandsKeepAlike }
+{}
