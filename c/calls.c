@@ -37,6 +37,7 @@ static void empty_handle(void) {
     CHECK(kbd48_read60(&k, &byte) == KBD48_NOT_OPEN && byte == 7);
     CHECK(kbd48_status(&k, &byte) == KBD48_NOT_OPEN && byte == 7);
     CHECK(kbd48_bios(&k, true) == KBD48_NOT_OPEN && kbd48_flip(&k, 1) == KBD48_NOT_OPEN);
+    CHECK(kbd48_power_on(&k, 0) == KBD48_NOT_OPEN && !k.at);
     CHECK(kbd48_take(&k, &word) == KBD48_NOT_OPEN && word == 7);
     CHECK(kbd48_interrupt(&k, &up) == KBD48_NOT_OPEN && up);
     CHECK(kbd48_lights(&k, &byte) == KBD48_NOT_OPEN && byte == 7);
@@ -194,6 +195,30 @@ static void a_ready_one(const uint8_t *hex, size_t length) {
     CHECK(kbd48_close(&ready) == KBD48_DONE && kbd48_close(&other) == KBD48_DONE);
 }
 
+/* Memory holds the byte that it is asked to hold at power-on. A layout's firmware tests itself whatever it is. */
+static void a_byte_at_power_on(const uint8_t *hex, size_t length) {
+    static const uint8_t nothing[] = ":00000001FF\n"; /* a program of NOPs alone */
+    kbd48 k = KBD48_EMPTY;
+    kbd48_fault fault;
+    kbd48_spot spot;
+    kbd48_processor inside;
+    uint64_t passed, cycle, at;
+    uint8_t byte;
+    CHECK(kbd48_open_hex(nothing, sizeof nothing - 1, &k, &fault) == KBD48_DONE);
+    for (unsigned fill = 0; fill < 256; fill += 85) {
+        CHECK(kbd48_power_on(&k, (uint8_t)fill) == KBD48_DONE);
+        CHECK(kbd48_inside(&k, &inside) == KBD48_DONE && inside.a == fill && inside.t == fill);
+        for (uint8_t cell = 0; cell < 128; cell++) CHECK(kbd48_cell(&k, cell, &byte) == KBD48_DONE && byte == fill);
+    }
+    CHECK(kbd48_open_hex(hex, length, &k, &fault) == KBD48_DONE && kbd48_cycle(&k, &at) == KBD48_DONE);
+    CHECK(kbd48_key(&k, 34, true) == KBD48_DONE && kbd48_run(&k, 4, false, &passed, &spot) == KBD48_DONE);
+    CHECK(kbd48_power_on(&k, 0) == KBD48_DONE && kbd48_cycle(&k, &cycle) == KBD48_DONE && cycle == at);
+    CHECK(kbd48_column(&k, 4, &byte) == KBD48_DONE && byte == 0xff); /* all keys are up again */
+    CHECK(kbd48_power_on(&k, 0xff) == KBD48_DONE);
+    CHECK(kbd48_run(&k, 400000, true, &passed, &spot) == KBD48_ROSE && kbd48_read60(&k, &byte) == KBD48_DONE && byte == 0xaa);
+    CHECK(kbd48_close(&k) == KBD48_DONE);
+}
+
 /* A run ends at the first step that comes to what it is asked to stop for, and at the same one as a run of single cycles. */
 static void a_run_to(const uint8_t *hex, size_t length) {
     kbd48 k = KBD48_EMPTY, other = KBD48_EMPTY;
@@ -275,6 +300,22 @@ static int32_t a_load(kbd48 *k) {
     return KBD48_DONE;
 }
 
+/* A keyboard is switched off and on; or there is no memory for it, and it is as it was. */
+static int32_t a_power_on(kbd48 *k) {
+    static uint8_t bytes[KBD48_SAVED], again[KBD48_SAVED];
+    uint64_t cycle;
+    CHECK(kbd48_save(k, bytes, sizeof bytes) == KBD48_DONE);
+    int32_t status = kbd48_power_on(k, 0x55);
+    CHECK(kbd48_save(k, again, sizeof again) == KBD48_DONE);
+    if (status != KBD48_DONE) {
+        CHECK(status == KBD48_NO_MEMORY && !memcmp(bytes, again, sizeof bytes));
+        return status;
+    }
+    CHECK(kbd48_cycle(k, &cycle) == KBD48_DONE && cycle > 4096 && cycle < 4100);
+    CHECK(!memcmp(bytes + 1029, again + 1029, 2048)); /* the program */
+    return KBD48_DONE;
+}
+
 static int32_t a_session(void) {
     kbd48 k = KBD48_EMPTY;
     kbd48_fault fault;
@@ -319,9 +360,11 @@ static int32_t a_session(void) {
     CHECK(kbd48_bios(&k, true) == KBD48_DONE);
     CHECK(kbd48_run(&k, 400000, false, &passed, &spot) == KBD48_DONE);
     CHECK(kbd48_take(&k, &word) == KBD48_DONE || kbd48_take(&k, &word) == KBD48_NO_WORD);
+    int32_t powered = a_power_on(&k);
     CHECK(kbd48_close(&k) == KBD48_DONE && !k.at && kbd48_close(&k) == KBD48_NOT_OPEN);
     if (status != KBD48_DONE) return status;
-    return copied == KBD48_DONE ? loaded : copied;
+    if (copied != KBD48_DONE) return copied;
+    return loaded == KBD48_DONE ? powered : loaded;
 }
 
 static void a_stuck_one(void) {
@@ -351,6 +394,7 @@ int main(void) {
     a_ready_one(hex, hex_length);
     a_noisy_byte(hex, hex_length);
     a_run_to(hex, hex_length);
+    a_byte_at_power_on(hex, hex_length);
 }
 #else
 static long refuse = -1, calls, live;
@@ -396,6 +440,7 @@ int main(void) {
     a_ready_one(hex, hex_length);
     a_noisy_byte(hex, hex_length);
     a_run_to(hex, hex_length);
+    a_byte_at_power_on(hex, hex_length);
     CHECK(live == 0);
     printf("calls: each of %ld allocations was refused in turn\n", all);
 }

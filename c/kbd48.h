@@ -93,8 +93,8 @@ typedef struct {
 
 /* Opens a keyboard of this layout (TOML, at most 65,536 bytes) at `handle`, and closes the one that was there. Its
    firmware is compiled, the board is powered on, 4,096 cycles pass, which is stamp 0, and INT 09h is masked. Takes all
-   memory that the keyboard takes: only kbd48_copy, kbd48_load and the calls that open take any. On KBD48_BAD_TEXT
-   `fault` is the first fault; with any other status `fault` is as it was. On any failure the handle is as it was. */
+   memory that the keyboard takes: only kbd48_copy, kbd48_load, kbd48_power_on and the calls that open take any. On
+   KBD48_BAD_TEXT `fault` is the first fault; with any other status `fault` is as it was. On any failure the handle is as it was. */
 int32_t kbd48_open_layout(const uint8_t *text, size_t length, kbd48 *handle, kbd48_fault *fault);
 
 /* The same with the sample layout, us84: 84 keys, each at the place of its number. No text is read. */
@@ -116,6 +116,13 @@ int32_t kbd48_open_hex(const uint8_t *text, size_t length, kbd48 *handle, kbd48_
    power-on finds such a keyboard. kbd48_next hands out what was said on the way. */
 int32_t kbd48_open_ready_layout(const uint8_t *text, size_t length, kbd48 *handle, kbd48_fault *fault);
 int32_t kbd48_open_ready_hex(const uint8_t *text, size_t length, kbd48 *handle, kbd48_fault *fault);
+
+/* Switches the keyboard off and on again. It keeps its program, and is as kbd48_open_hex opens it: at stamp 0, with all
+   keys up and with INT 09h masked; what was said before is gone. At power-on each byte of its data memory, its accumulator
+   and its timer hold `fill`. The calls that open have 00 there; a real part may hold anything. A layout's firmware clears
+   what it uses. A queue of edges (below) begins anew with the keyboard: assign KBD48_NO_KEYS to it. Returns
+   KBD48_NO_MEMORY if there is none; the keyboard is as it was then. */
+int32_t kbd48_power_on(kbd48 *handle, uint8_t fill);
 
 /* Frees the keyboard, and leaves the handle empty. */
 int32_t kbd48_close(kbd48 *handle);

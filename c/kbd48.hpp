@@ -76,6 +76,12 @@ public:
     }
     ~Kbd48() { kbd48_close(&handle); }
 
+    // Off and on again, with this byte in data memory, the accumulator and the timer at power-on; the queue begins anew.
+    void power_on(uint8_t fill = 0) {
+        need(kbd48_power_on(&handle, fill));
+        keys = kbd48_keys();
+    }
+
     // Steps. A write and a key return whether there was room; a run returns whether the line rose.
     bool key(uint8_t place, bool down) { return roomy(kbd48_key(&handle, place, down)); }
     bool write(uint8_t port, uint8_t byte) { return roomy(kbd48_write(&handle, port, byte)); }

@@ -165,6 +165,7 @@ unsafe extern "C" {
     fn kbd48_release_all(queue: *mut Keys, cycle: u64) -> i32;
     fn kbd48_queued(queue: *mut Keys, count: *mut u8) -> i32;
     fn kbd48_run_keys(handle: *mut Handle, queue: *mut Keys, cycles: u64, watched: bool, passed: *mut u64, spot: *mut Spot) -> i32;
+    fn kbd48_power_on(handle: *mut Handle, fill: u8) -> i32;
     fn kbd48_copy(from: *mut Handle, to: *mut Handle) -> i32;
     fn kbd48_save(handle: *mut Handle, buffer: *mut u8, length: usize) -> i32;
     fn kbd48_load(handle: *mut Handle, bytes: *const u8, length: usize) -> i32;
@@ -348,6 +349,13 @@ impl Keyboard {
     pub fn of_saved(bytes: &[u8]) -> Result<Keyboard, Error> {
         let keyboard = Keyboard::none();
         done(unsafe { kbd48_load(keyboard.handle.get(), bytes.as_ptr(), bytes.len()) }).map(|()| keyboard)
+    }
+
+    /// Off and on again, with this byte in data memory, the accumulator and the timer at power-on. The queue begins anew.
+    pub fn power_on(&mut self, fill: u8) -> Result<(), Error> {
+        done(unsafe { kbd48_power_on(self.handle.get(), fill) })?;
+        unsafe { *self.keys.get() = NO_KEYS };
+        Ok(())
     }
 
     pub fn key(&mut self, place: u8, down: bool) -> Result<(), Error> {

@@ -63,6 +63,9 @@ int main() {
     CHECK(ready.interrupt() && ready.lost() == 0 && ready.run_to(0, 400000, 1) == 0);
     CHECK(ready.run_to(KBD48_STOP_COUNTER, 4096, UINT64_MAX, KBD48_TICK) == KBD48_STOP_COUNTER);
     CHECK(ready.processor().counter == KBD48_TICK);
+    CHECK(ready.queue_key(h, true) && ready.queued() == 1);
+    ready.power_on(0xff);
+    CHECK(ready.queued() == 0 && ready.cycle() < 4099 && ready.run(400000, true) && ready.read60() == 0xaa);
     try {
         Kbd48::of_layout("format = ");
         return failed(__LINE__);

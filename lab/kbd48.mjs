@@ -180,6 +180,10 @@ export class Keyboard {
   /** The same with a program as Intel HEX. */
   openReadyHex(text) { this.#open('kbd48_open_ready_hex', text); }
 
+  /** Switches the keyboard off and on again, with the program that it has: it is at stamp 0, with an empty queue. At power-on
+      data memory, A and T hold this byte. */
+  powerOn(fill = 0) { this.#opened(this.machine.call('kbd48_power_on', this.to.handle, fill)); }
+
   /** The place of a key by its name, such as `lshift`, in the bytes of a layout's text. The keyboard needn't be open. */
   layoutKey(text, name) { return this.#named('kbd48_layout_key', text, new TextEncoder().encode(name)); }
 

@@ -44,7 +44,10 @@ def check_refusals(layout, stuck):
     with Keyboard.of_layout(layout, ready=True) as ready:
         assert ready.interrupt and ready.lost == 0 and ready.run_to(Stop(0), 400_000, steps=1).met == Stop(0)
         assert ready.run_to(Stop.COUNTER | Stop.RISE, 4096, at=7).met == Stop.COUNTER and ready.processor.counter == 7
-    assert refusal(keyboard.run, 1).status == Status.NOT_OPEN
+        ready.power_on(0xFF)
+        assert ready.cycle < 4099 and ready.run(400_000, watched=True).rose and ready.read60() == 0xAA
+        assert isinstance(refusal(ready.power_on, 256), ValueError)
+    assert refusal(keyboard.run, 1).status == refusal(keyboard.power_on).status == Status.NOT_OPEN
     assert twin.cycle > 100_000 and twin.wires.clock in (True, False)
     found = refusal(Keyboard.of_hex(stuck).run, 100)
     assert isinstance(found, Stuck) and (found.counter, found.byte) == (0x003, 0x01), found

@@ -281,6 +281,16 @@ async function runs() {
   }
   refused(() => keyboard.openReadyLayout(hex), Status.BAD_TEXT);
   assert.equal(keyboard.status() & 1, 0, 'what was open is as it was');
+  // Off and on again: memory holds the byte, until a program writes it.
+  keyboard.openHex(Buffer.from(':00000001FF\n'));
+  keyboard.queueKey(34, true);
+  for (const fill of [0x00, 0xA5]) {
+    keyboard.powerOn(fill);
+    assert.deepEqual([keyboard.inside().a, keyboard.inside().t, keyboard.cell(0), keyboard.cell(127), keyboard.queued()], [fill, fill, fill, fill, 0]);
+  }
+  keyboard.openLayout(layout);
+  keyboard.powerOn(0xFF);
+  assert.ok(keyboard.cycle() < 4099 && keyboard.run(400_000, true) === Status.ROSE && keyboard.read60() === 0xAA);
   // Six items more than are kept.
   copy.openSample();
   assert.equal(copy.lost(), 0);

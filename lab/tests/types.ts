@@ -10,6 +10,8 @@ export async function everyCall(keyboardModule: Uint8Array, layout: Uint8Array, 
   keyboard.openReadyLayout(layout);
   keyboard.openReadyHex(hex);
   keyboard.openSample();
+  keyboard.powerOn();
+  keyboard.powerOn(0xA5);
   const version: number = keyboard.version(), place: number = keyboard.sampleKey('a'), same: number = keyboard.layoutKey(layout, 'a');
   const pressed: StatusNumber = keyboard.key(place, true);
   if (pressed === Status.FULL) keyboard.step();

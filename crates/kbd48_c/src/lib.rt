@@ -18,6 +18,7 @@ mod noise;
 mod noise_tests;
 mod opening;
 mod pointer;
+mod power;
 #[cfg(test)]
 mod queue_tests;
 mod queueing;

@@ -7,6 +7,7 @@ use crate::handle::Handle;
 use crate::items::{Said, kbd48_lost, kbd48_next, kbd48_rises};
 use crate::looks::{kbd48_cell, kbd48_column, kbd48_look, kbd48_waiting};
 use crate::opening::{Fault, kbd48_open_hex, kbd48_open_layout};
+use crate::power::kbd48_power_on;
 use crate::ready::{kbd48_open_ready_hex, kbd48_open_ready_layout};
 use crate::status::{
     BAD_TEXT, DONE, EARLY, FULL, LOST, NO_SUCH_CELL, NO_SUCH_PLACE, NO_SUCH_PORT, NO_WORD,
@@ -280,6 +281,36 @@ fn a_ready_keyboard_has_its_answer_waiting(rt: HostRuntime) -> Result<(), AllocE
     assert!(rt; kbd48_open_ready_layout(alloc, text, &mut handle, &mut fault) == DONE);
     assert!(rt; kbd48_read60(alloc, &mut handle, &mut byte) == DONE && byte == 0xaa);
     assert!(rt; kbd48_open_ready_layout(alloc, b"x", &mut handle, &mut fault) == BAD_TEXT);
+    Ok(())
+}
+
+#[test]
+fn memory_holds_the_byte_that_it_is_switched_on_with(rt: HostRuntime) -> Result<(), AllocError> {
+    let alloc = rt.alloc();
+    let nops = write_hex(alloc, &Image { bytes: [0u8; 2048] })?;
+    let kernel = write_hex(alloc, &Image { bytes: KERNEL })?;
+    let mut handle = Handle::none(alloc);
+    let mut fault = Fault {
+        position: 0,
+        number: 0,
+    };
+    let mut spot = Spot {
+        counter: 0,
+        byte: 0,
+    };
+    let (mut byte, mut passed) = (0u8, 0u64);
+    assert!(rt; kbd48_power_on(alloc, &mut handle, 0xa5) == NOT_OPEN);
+    assert!(rt; kbd48_open_hex(alloc, nops.as_slice(), &mut handle, &mut fault) == DONE);
+    assert!(rt; kbd48_cell(alloc, &mut handle, 127, &mut byte) == DONE && byte == 0);
+    assert!(rt; kbd48_power_on(alloc, &mut handle, 0xa5) == DONE);
+    assert!(rt; kbd48_cell(alloc, &mut handle, 127, &mut byte) == DONE && byte == 0xa5);
+    assert!(rt; kbd48_open_hex(alloc, kernel.as_slice(), &mut handle, &mut fault) == DONE);
+    for fill in [0x00, 0xff] {
+        assert!(rt; kbd48_power_on(alloc, &mut handle, fill) == DONE);
+        assert!(rt; kbd48_cycle(alloc, &mut handle, &mut passed) == DONE && passed < 4099);
+        assert!(rt; kbd48_run(alloc, &mut handle, SECOND, true, &mut passed, &mut spot) == ROSE);
+        assert!(rt; kbd48_read60(alloc, &mut handle, &mut byte) == DONE && byte == 0xaa);
+    }
     Ok(())
 }
 

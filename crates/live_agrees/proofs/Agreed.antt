@@ -5,22 +5,22 @@ use Rattle.std.proofs.Math.Seq.{drop-append_seam}
 use Rattle.std.proofs.lemmas.Bool.Decides.{nat_tests}
 use Rattle.std.specs.declared.option.Option.{Option}
 use Rattle.std.proofs.lemmas.List.Elements.{All-replicate}
-use Rattle.agreement.specs.Agreement.{AgreementLaw}
+use Rattle.agreement.specs.Agreement.{AnyMemoryLaw}
 use Rattle.agreement.specs.AnyKeys.{AnyKeysLaw}
 use Rattle.agreement.specs.AnyStart.{AsShown}
 use Rattle.fw_kernel.specs.declared.labels.TheConstants.{TICK}
 use Rattle.joint_run.specs.Starts.{IsStart}
-use Rattle.mcs48_ranges.specs.Sizes.{IsByte, IsFine}
+use Rattle.mcs48_ranges.specs.Sizes.{IsByte}
 use Rattle.fw_compile.specs.Image.{image_of}
 use Rattle.host_turn.specs.declared.stamped.Stamped.{Stamped}
 use Rattle.joint_feed.proofs.Going.{same_state}
 use Rattle.joint_feed.specs.Stories.{Story, state_at}
-use Rattle.joint_run.specs.Joint.{joint_board, joint_start, log_of}
+use Rattle.joint_run.specs.Joint.{joint_board, joint_start_of, log_of}
 use Rattle.joint_run.specs.Run.{run_at}
-use Rattle.mcs48_core.specs.Reset.{reset_cpu}
+use Rattle.mcs48_core.specs.Cpu.{Cpu}
 use Rattle.live_agrees.proofs.Logs.{goes_between}
-use Rattle.live_agrees.specs.Law.{AnswersAreAlike, AnyUseIsLawful, LogsAgree, LogsAreShown, StatesAreAlike, WordsAreAlike}
-use Rattle.live_agrees.specs.Law.{NeverStuck, history_of}
+use Rattle.live_agrees.specs.Law.{AnswersAreAlike, AnyUseIsLawful, FillsAreFine, LogsAgree, LogsAreShown, StatesAreAlike}
+use Rattle.live_agrees.specs.Law.{NeverStuck, WordsAreAlike, history_of}
 use Rattle.live_board.specs.Calls.{GivesFirst}
 use Rattle.live_board.specs.States.{HasPast}
 use Rattle.live_board.specs.declared.parts.Parts.{Parts as Keyboard}
@@ -82,13 +82,13 @@ any_use_is_lawful layout p stop none order written flips =
 
 -- the log so far begins that of a start which is later
 log_begins : (layout : KeyLayout) (p : Past) (k : Keyboard) (s : HasPast p k) → p.bytes ≡ image_of layout → (stamp : ℕ)
-    (start : IsStart (joint_board p.edges p.events) TICK (image_of layout) joint_start s.world.cycle stamp)
+    (start : IsStart (joint_board p.edges p.events) TICK (image_of layout) (joint_start_of p.held) s.world.cycle stamp)
     → s.world.cycle ≤ stamp → (rest : List Stamped) × (log_of start.state.board ≡ log_of s.world.board ++ rest)
 log_begins layout p k s bytes stamp start low =
     let w = s.world in
-    let story : Story = record { bytes = image_of layout; edges = p.edges; events = p.events; stop = 0; held = reset_cpu } in
+    let story : Story = record { bytes = image_of layout; edges = p.edges; events = p.events; stop = 0; held = p.held } in
     let at : state_at story p.steps ≡ Some w =
-    subst (λ b. run_at (joint_board p.edges p.events) b joint_start p.steps ≡ Some w) bytes (here p k s) in
+    subst (λ b. run_at (joint_board p.edges p.events) b (joint_start_of p.held) p.steps ≡ Some w) bytes (here p k s) in
     let cycle = start.cycle in
     let later : w.cycle < start.state.cycle = omega (arith, low, cycle) in
     let order : p.steps ≤ start.steps =
@@ -103,9 +103,13 @@ log_begins layout p k s bytes stamp start low =
     let up : start.steps - p.steps + p.steps ≡ start.steps = omega (arith, order) in
     (goes_between story p.steps (start.steps - p.steps) w start.state at (ap (state_at story) up ∙ start.reached)).1
 
-pub logs_agree : AgreementLaw → LogsAgree
-logs_agree law layout p stop k s is bytes lawful =
-    let both = law layout (history_of p stop) is lawful in
+-- reset leaves no interrupt in service, so the run of a part that was reset is that of one that was switched on without one
+abbrev unserved : Cpu → Cpu
+unserved m = record m { svc = false }
+
+pub logs_agree : AnyMemoryLaw → LogsAgree
+logs_agree law layout p stop k s is bytes fine lawful =
+    let both = law layout (history_of p stop) is lawful (unserved p.held) fine in
     let agrees = both.1 in
     let n : ℕ = s.world.cycle in
     let start = agrees.each n in
@@ -121,14 +125,14 @@ logs_agree law layout p stop k s is bytes lawful =
       beginning = sym (agrees.log n stamp start) ∙ on.1;
     }
 
--- cleared memory is one that a part may hold
-cleared : IsFine reset_cpu
-cleared = record {
+-- a part may hold any one byte
+pub fills_are_fine : FillsAreFine
+fills_are_fine fill l = record {
   pc = omega arith;
-  a = omega arith;
-  ram = All-replicate IsByte 128 0 (omega arith);
+  a = l;
+  ram = All-replicate IsByte 128 fill l;
   long = refl;
-  t = omega arith;
+  t = l;
   pre = omega arith;
   p1 = omega arith;
   p2 = omega arith;
@@ -137,8 +141,8 @@ cleared = record {
 }
 
 pub logs_are_shown : AsShown → LogsAreShown
-logs_are_shown law layout p k s is bytes ok few =
-    let goes = law layout p.edges p.events is ok few reset_cpu cleared in
+logs_are_shown law layout p k s is bytes fine ok few =
+    let goes = law layout p.edges p.events is ok few (unserved p.held) fine in
     let n : ℕ = s.world.cycle in
     let start = goes.each n in
     let stamp : ℕ = goes.starts n in
@@ -154,6 +158,6 @@ logs_are_shown law layout p k s is bytes ok few =
 
 -- the run under any keys has a state after each number of steps
 pub never_stuck : AnyKeysLaw → NeverStuck
-never_stuck law layout p is bytes =
-    let goes = (law layout p.edges p.events is reset_cpu cleared).goes_on p.steps in
-    (goes.0, ap (λ b. run_at (joint_board p.edges p.events) b joint_start p.steps) bytes ∙ goes.1)
+never_stuck law layout p is bytes fine =
+    let goes = (law layout p.edges p.events is (unserved p.held) fine).goes_on p.steps in
+    (goes.0, ap (λ b. run_at (joint_board p.edges p.events) b (joint_start_of p.held) p.steps) bytes ∙ goes.1)

@@ -4,7 +4,7 @@ use Rattle.std.proofs.Common.{refl, ap, sym, subst, ◌∙◌, arith, append_ass
 use Rattle.std.specs.Prelude.{nat_lt, if◌then◌else◌}
 use Rattle.std.specs.declared.option.Option.{Option}
 use Rattle.std.proofs.lemmas.List.{append-nil}
-use Rattle.agreement.specs.Agreement.{AgreementLaw}
+use Rattle.agreement.specs.Agreement.{AnyMemoryLaw}
 use Rattle.board_terms.specs.Flips.{AreFlips}
 use Rattle.board_terms.specs.Laws.{ArePlaces}
 use Rattle.board_terms.specs.declared.event.Edge.{Edge}
@@ -113,9 +113,9 @@ with_host edges events h order written flips = record {
   thin = h.thin;
 }
 
-pub queued_agree : AgreementLaw → AreLawful → QueuedLogsAgree
-queued_agree law queue layout p q k s is bytes from places order written flips =
+pub queued_agree : AnyMemoryLaw → AreLawful → QueuedLogsAgree
+queued_agree law queue layout p q k s is bytes fine from places order written flips =
     let own : IsLawful (record { edges = p.edges; host = []; end = 0 }) =
     subst (λ es. IsLawful (record { edges = es; host = []; end = 0 })) (sym from.handed_out) (queue from.calls 0 from.placed).1 in
-    logs_agree law layout p 0 k s is bytes
+    logs_agree law layout p 0 k s is bytes fine
     (record { lawful = with_host p.edges p.events own order written flips; places = places })

@@ -7,7 +7,8 @@ use Rattle.board_terms.specs.declared.event.HostAct.{HostAct}
 use Rattle.fw_compile.specs.Image.{image_of}
 use Rattle.fw_kernel.specs.declared.labels.TheConstants.{TICK}
 use Rattle.host_turn.specs.declared.stamped.Stamped.{Stamped}
-use Rattle.joint_run.specs.Joint.{Beside, joint_board, joint_start, log_of}
+use Rattle.joint_run.specs.Filled.{filled}
+use Rattle.joint_run.specs.Joint.{Beside, joint_board, joint_start_of, log_of}
 use Rattle.joint_run.specs.Run.{World}
 use Rattle.joint_run.specs.Starts.{IsStart}
 use Rattle.board_terms.specs.Flips.{AreFlips}
@@ -16,6 +17,7 @@ use Rattle.key_file.specs.Histories.{KeyHistory}
 use Rattle.layout_reader.specs.Layouts.{IsKeyLayout, KeyLayout}
 use Rattle.link_model.specs.Expected.{whole_at}
 use Rattle.link_model.specs.Machine.{keyboard}
+use Rattle.mcs48_ranges.specs.Sizes.{IsFine}
 use Rattle.live_board.specs.Answers.{ItemAnswer}
 use Rattle.live_board.specs.Calls.{IsActed, IsKeyed, GivesFirst}
 use Rattle.live_board.specs.Pasts.{Past, state_of}
@@ -35,16 +37,17 @@ history_of p stop = record { edges = p.edges; host = p.events; end = stop }
 -- a log is the beginning of what the model says up to one of the run's own tick starts
 pub record BeginsExpected (layout : KeyLayout) (p : Past) (log : List Stamped) : Type 0 where
   pub starts : ℕ → ℕ
-  pub each : (n : ℕ) → IsStart (joint_board p.edges p.events) TICK (image_of layout) joint_start n (starts n)
+  pub each : (n : ℕ) → IsStart (joint_board p.edges p.events) TICK (image_of layout) (joint_start_of p.held) n (starts n)
   pub tick : ℕ
   pub rest : List Stamped
   pub beginning : (whole_at (keyboard layout) p.edges p.events starts tick).side.log ≡ log ++ rest
 
--- so is what was said so far, if a keyboard is in a past that is lawful for the layout, however long
+-- so is what was said so far, if a keyboard is in a past that is lawful for the layout, however long, whatever the part
+-- held when it was switched on
 abbrev pub LogsAgree : Type 0
 LogsAgree =
     (layout : KeyLayout) (p : Past) (stop : ℕ) (k : Keyboard) (s : HasPast p k) → IsKeyLayout layout
-    → p.bytes ≡ image_of layout → IsLawfulFor layout (history_of p stop)
+    → p.bytes ≡ image_of layout → IsFine p.held → IsLawfulFor layout (history_of p stop)
     → BeginsExpected layout p (log_of s.world.board)
 
 -- two keyboards in one past are in one state of the run
@@ -94,23 +97,25 @@ RunsStopAlike =
 -- starts
 pub record BeginsShown (layout : KeyLayout) (p : Past) (log : List Stamped) : Type 0 where
   pub starts : ℕ → ℕ
-  pub each : (n : ℕ) → IsStart (joint_board p.edges p.events) TICK (image_of layout) joint_start n (starts n)
+  pub each : (n : ℕ) → IsStart (joint_board p.edges p.events) TICK (image_of layout) (joint_start_of p.held) n (starts n)
   pub tick : ℕ
   pub rest : List Stamped
   pub beginning : (model_from (keyboard layout) p.edges p.events starts
       (whole_at (keyboard layout) p.edges p.events starts 0) tick).side.log ≡ log ++ rest
 
--- so is what was said so far, whether or not keys bounced, if no tick shows more than four keys that changed
+-- so is what was said so far, whether or not keys bounced, if no tick shows more than four keys that changed, whatever the
+-- part held when it was switched on
 abbrev pub LogsAreShown : Type 0
 LogsAreShown =
     (layout : KeyLayout) (p : Past) (k : Keyboard) (s : HasPast p k) → IsKeyLayout layout → p.bytes ≡ image_of layout
-    → AreFor layout p.edges p.events → ((n : ℕ) → ShowsFew p.edges n) → BeginsShown layout p (log_of s.world.board)
+    → IsFine p.held → AreFor layout p.edges p.events → ((n : ℕ) → ShowsFew p.edges n)
+    → BeginsShown layout p (log_of s.world.board)
 
--- of a layout's image each past has a state, whatever keys, host events and number of steps it has. So no call is refused, and
--- no run ends, because the processor is stuck
+-- of a layout's image each past has a state, whatever keys, host events and number of steps it has, and whatever the
+-- part held when it was switched on. So no call is refused, and no run ends, because the processor is stuck
 abbrev pub NeverStuck : Type 0
 NeverStuck =
-    (layout : KeyLayout) (p : Past) → IsKeyLayout layout → p.bytes ≡ image_of layout
+    (layout : KeyLayout) (p : Past) → IsKeyLayout layout → p.bytes ≡ image_of layout → IsFine p.held
     → (w : World Beside) × (state_of p ≡ Some w)
 
 -- a program may use the ports as often and as long as it likes: if no key moved, a past is lawful whose events are in
@@ -119,3 +124,7 @@ abbrev pub AnyUseIsLawful : Type 0
 AnyUseIsLawful =
     (layout : KeyLayout) (p : Past) (stop : ℕ) → p.edges ≡ [] → AreHostEventsInOrder p.events → AreWritten p.events
     → AreFlips p.events → IsLawfulFor layout (history_of p stop)
+
+-- a part may hold any one byte in data memory, A and T
+abbrev pub FillsAreFine : Type 0
+FillsAreFine = (fill : ℕ) → fill < 256 → IsFine (filled fill)

@@ -10,6 +10,7 @@ use Rattle.fw_compile.specs.Image.{image_of}
 use Rattle.joint_run.specs.Joint.{log_of}
 use Rattle.key_file.specs.Accepted.{AreHostEventsInOrder, AreWritten, IsPlaceOf}
 use Rattle.layout_reader.specs.Layouts.{IsKeyLayout, KeyLayout}
+use Rattle.mcs48_ranges.specs.Sizes.{IsFine}
 use Rattle.live_agrees.specs.Law.{BeginsExpected}
 use Rattle.live_board.specs.Calls.{pressed_now}
 use Rattle.live_board.specs.Pasts.{Past}
@@ -45,6 +46,6 @@ pub record StaysQueued : Type 0 where
 abbrev pub QueuedLogsAgree : Type 0
 QueuedLogsAgree =
     (layout : KeyLayout) (p : Past) (q : Queue) (k : Keyboard) (s : HasPast p k) → IsKeyLayout layout
-    → p.bytes ≡ image_of layout → AreFrom p.edges q → All (λ e. IsPlaceOf layout e.place) p.edges
+    → p.bytes ≡ image_of layout → IsFine p.held → AreFrom p.edges q → All (λ e. IsPlaceOf layout e.place) p.edges
     → AreHostEventsInOrder p.events → AreWritten p.events → AreFlips p.events
     → BeginsExpected layout p (log_of s.world.board)

@@ -4,7 +4,7 @@
 //! do. Source: our own.
 #![tactic(auto)]
 
-ghost use Rattle.live_agrees.specs.Law.{AnswersAreAlike, AnyUseIsLawful, CallsAreAlike, KeysAreAlike, LogsAgree};
+ghost use Rattle.live_agrees.specs.Law.{AnswersAreAlike, AnyUseIsLawful, CallsAreAlike, FillsAreFine, KeysAreAlike, LogsAgree};
 ghost use Rattle.live_agrees.specs.Law.{LogsAreShown, NeverStuck, RunsEndAlike, RunsStopAlike, StatesAreAlike, WordsAreAlike};
 ghost use Rattle.live_agrees.specs.Queued.{QueuedLogsAgree, StaysQueued};
 ghost use Rattle.live_agrees.specs.Saved.{CallsKeepAlike, HandsKeepAlike, KeysKeepAlike, LoadedAreAlike, RunsKeepAlike, SavesAreAlike};
@@ -15,12 +15,12 @@ use edge_queue::edges_are_lawful;
 
 /// Whatever calls were made, in whatever order, however many and for however long: let a keyboard be in a past that
 /// begins with a layout's compiled image, and let the keys and host events of that past be lawful for the layout. Then
-/// what was said so far is the beginning of what the model says of them, at the run's own tick starts. How often a
-/// program uses the ports is free: without keys, events in order that write bytes and invert data bits or the parity are
-/// lawful. And the same calls give the same answers: two keyboards in one past are in one state of the run, and what is
-/// reported between two pasts is one byte, and one word or none; a call of the host or of a key is done of both, or refused
-/// for one cause; and a run that ends before the count of cycles does ends for one reason, after as many steps. Nothing is
-/// done when it is called; the laws are its contract.
+/// what was said so far is the beginning of what the model says of them, at the run's own tick starts, whatever the part
+/// held when it was switched on; any one byte is such. How often a program uses the ports is free: without keys, events in
+/// order that write bytes and invert data bits or the parity are lawful. And the same calls give the same answers: two
+/// keyboards in one past are in one state of the run, and what is reported between two pasts is one byte, and one word or
+/// none; a call of the host or of a key is done of both, or refused for one cause; and a run that ends before the count of
+/// cycles does ends for one reason, after as many steps. Nothing is done when it is called; the laws are its contract.
 pub fn calls_agree()
     ensures agrees { LogsAgree }
     ensures one_state { StatesAreAlike }
@@ -31,23 +31,24 @@ pub fn calls_agree()
     ensures one_end { RunsEndAlike }
     ensures one_stop { RunsStopAlike }
     ensures any_use { AnyUseIsLawful }
+    ensures any_fill { FillsAreFine }
 {
     run_and_model_agree();
 }
 
-/// Whatever calls were made, and whether or not keys bounced: let the edges be at places of the layout, what is written be
-/// bytes, and let no tick show more than four keys that changed. Then what was said so far is the beginning of what the
-/// model says, whose ticks get what the columns show. So a key that bounced once is the model's again. Nothing is done
-/// when it is called; the law is its contract.
+/// Whatever calls were made, whatever the part held when it was switched on, and whether or not keys bounced: let the edges
+/// be at places of the layout, what is written be bytes, and let no tick show more than four keys that changed. Then what
+/// was said so far is the beginning of what the model says, whose ticks get what the columns show. So a key that bounced
+/// once is the model's again. Nothing is done when it is called; the law is its contract.
 pub fn bounces_agree()
     ensures shown { LogsAreShown }
 {
     goes_on_from_any_start();
 }
 
-/// Whatever calls were made, in whatever order, with any keys and host events: a keyboard whose past begins with a layout's
-/// compiled image has a next state. So no call is refused, and no run ends, because the processor is stuck. Nothing is done
-/// when it is called; the law is its contract.
+/// Whatever calls were made, in whatever order, with any keys and host events, and whatever the part held when it was
+/// switched on: a keyboard whose past begins with a layout's compiled image has a next state. So no call is refused, and no
+/// run ends, because the processor is stuck. Nothing is done when it is called; the law is its contract.
 pub fn never_stuck()
     ensures goes_on { NeverStuck }
 {

@@ -12,8 +12,8 @@ use Rattle.board_terms.specs.declared.event.HostAct.{HostAct}
 use Rattle.board_terms.specs.declared.event.HostEvent.{HostEvent}
 use Rattle.host_turn.specs.Host.{waits}
 use Rattle.joint_run.specs.Due.{due_step, made_first, IsJointStep}
-use Rattle.joint_run.specs.History.{GoesOn, IsInRun, IsStepOfRun}
-use Rattle.joint_run.specs.Joint.{Beside, joint_board, joint_start, log_of}
+use Rattle.joint_run.specs.History.{GoesOn, IsInRunFrom, IsStepOfRun}
+use Rattle.joint_run.specs.Joint.{Beside, joint_board, joint_start_of, log_of}
 use Rattle.joint_run.specs.Run.{World, run_at}
 use Rattle.joint_run.specs.declared.due.Due.{Due}
 use Rattle.joint_run.specs.declared.due.Seen.{Seen}
@@ -22,7 +22,6 @@ use Rattle.joint_feed.proofs.Going.{made as step_made, same_state}
 use Rattle.joint_feed.specs.Stories.{state_at}
 use Rattle.std.specs.declared.option.Option.{Option}
 use Rattle.std.specs.declared.result.Result.{Result}
-use Rattle.mcs48_core.specs.Reset.{reset_cpu}
 use Rattle.mcs48_core.specs.declared.stepping.Stuck.{Stuck}
 use Rattle.live_board.proofs.Acting.{HasDone, has_done}
 use Rattle.live_board.proofs.Growing.{grows}
@@ -37,11 +36,11 @@ use Rattle.live_board.specs.declared.refused.Refused.{Refused}
 
 -- the machine is in the run of the past with one event of the host more, whose stamp is now
 event_grown : (p : Past) (k : Keyboard) (s : HasPast p k) (e : HostEvent)
-    → k.joint.cycle ≤ e.stamp + 4096 → IsInRun p.edges (p.events ++ e ∷ []) k.joint s.made s.world
+    → k.joint.cycle ≤ e.stamp + 4096 → IsInRunFrom p.held p.edges (p.events ++ e ∷ []) k.joint s.made s.world
 event_grown p k s e late =
     let r = s.in_run in
     let c = r.cycle in
-    let run = grows (record { bytes = k.joint.image.bytes; edges = p.edges; events = p.events; stop = 0; held = reset_cpu }) []
+    let run = grows (record { bytes = k.joint.image.bytes; edges = p.edges; events = p.events; stop = 0; held = p.held }) []
     (e ∷ []) k.joint.steps s.world r.run
     (record {
       edges_ahead = All-nil _;
@@ -49,7 +48,7 @@ event_grown p k s e late =
           All-cons (λ (x : HostEvent). s.world.cycle ≤ x.stamp + 4096) e [] (omega (arith, late, c)) (All-nil _);
     }) in
     record {
-      run = subst (λ (es : List Edge). run_at (joint_board es (p.events ++ e ∷ [])) k.joint.image.bytes joint_start k.joint.steps
+      run = subst (λ (es : List Edge). run_at (joint_board es (p.events ++ e ∷ [])) k.joint.image.bytes (joint_start_of p.held) k.joint.steps
           ≡ Some s.world) (append-nil p.edges) run;
       mcu = r.mcu;
       outside = r.outside;
@@ -60,11 +59,11 @@ event_grown p k s e late =
 
 -- and with one edge more
 edge_grown : (p : Past) (k : Keyboard) (s : HasPast p k) (e : Edge)
-    → k.joint.cycle ≤ e.stamp + 4096 → IsInRun (p.edges ++ e ∷ []) p.events k.joint s.made s.world
+    → k.joint.cycle ≤ e.stamp + 4096 → IsInRunFrom p.held (p.edges ++ e ∷ []) p.events k.joint s.made s.world
 edge_grown p k s e late =
     let r = s.in_run in
     let c = r.cycle in
-    let run = grows (record { bytes = k.joint.image.bytes; edges = p.edges; events = p.events; stop = 0; held = reset_cpu })
+    let run = grows (record { bytes = k.joint.image.bytes; edges = p.edges; events = p.events; stop = 0; held = p.held })
     (e ∷ []) [] k.joint.steps s.world r.run
     (record {
       edges_ahead = All-cons (λ (x : Edge). s.world.cycle ≤ x.stamp + 4096) e [] (omega (arith, late, c))
@@ -73,7 +72,7 @@ edge_grown p k s e late =
     }) in
     let first : take s.made (p.edges ++ e ∷ []) ≡ take s.made p.edges = take-append-le s.made p.edges (e ∷ []) s.made_within in
     record {
-      run = subst (λ (hs : List HostEvent). run_at (joint_board (p.edges ++ e ∷ []) hs) k.joint.image.bytes joint_start k.joint.steps
+      run = subst (λ (hs : List HostEvent). run_at (joint_board (p.edges ++ e ∷ []) hs) k.joint.image.bytes (joint_start_of p.held) k.joint.steps
           ≡ Some s.world) (append-nil p.events) run;
       mcu = r.mcu;
       outside = r.outside;
@@ -101,7 +100,7 @@ module _ (old : Keyboard) (act : HostAct) (late : 4096 ≤ old.joint.cycle) (roo
 
   module _ (p : Past) (s : HasPast p old) (wait : due.edges.items ≡ old.due.edges.items)
       (run : IsStepOfRun due old.joint (Ok seen) new) where
-    grown_run : IsInRun p.edges (p.events ++ event ∷ []) old.joint s.made s.world
+    grown_run : IsInRunFrom p.held p.edges (p.events ++ event ∷ []) old.joint s.made s.world
     grown_run = event_grown p old s event (omega (arith, late))
 
     host_next : due.host.items ≡ take 2 (drop s.world.board.pc.side.done (p.events ++ event ∷ []))
@@ -109,13 +108,13 @@ module _ (old : Keyboard) (act : HostAct) (late : 4096 ≤ old.joint.cycle) (roo
         only ∙ sym (ap (λ (v : List HostEvent). take 2 v)
         (ap (λ (n : ℕ). drop n (p.events ++ event ∷ [])) s.all_done ∙ drop-append_seam p.events (event ∷ [])))
 
-    goes : GoesOn reset_cpu p.edges (p.events ++ event ∷ []) s.made s.world seen new
-    goes = on p.edges (p.events ++ event ∷ []) due old.joint new seen s.made s.world s.made_within s.order grown_run
+    goes : GoesOn p.held p.edges (p.events ++ event ∷ []) s.made s.world seen new
+    goes = on p.held p.edges (p.events ++ event ∷ []) due old.joint new seen s.made s.world s.made_within s.order grown_run
         (wait ∙ s.edges_wait) host_next is run
 
     steps_on : new.steps ≡ suc p.steps
     steps_on =
-        let a = steps_more p.edges (p.events ++ event ∷ []) due old.joint new seen s.made s.world s.made_within
+        let a = steps_more p.held p.edges (p.events ++ event ∷ []) due old.joint new seen s.made s.world s.made_within
         s.order grown_run (wait ∙ s.edges_wait) host_next is run in
         let b = s.steps in
         omega (arith, a, b)
@@ -128,17 +127,17 @@ module _ (old : Keyboard) (act : HostAct) (late : 4096 ≤ old.joint.cycle) (roo
         let hs = p.events ++ event ∷ [] in
         let w = s.world in
         let waiting = wait ∙ s.edges_wait in
-        let cycle = world_later es hs due old.joint new seen s.made w s.made_within s.order grown_run waiting host_next is run in
+        let cycle = world_later p.held es hs due old.joint new seen s.made w s.made_within s.order grown_run waiting host_next is run in
         record {
           made = s.made + seen.edges;
-          made_within = edges_there es hs due old.joint new seen s.made w s.made_within s.order grown_run waiting host_next is run;
+          made_within = edges_there p.held es hs due old.joint new seen s.made w s.made_within s.order grown_run waiting host_next is run;
           world = goes.next;
           image = ap (λ m. m.image.bytes) joint
-              ∙ image_same es hs due old.joint new seen s.made w s.made_within s.order grown_run waiting host_next is run ∙ s.image;
+              ∙ image_same p.held es hs due old.joint new seen s.made w s.made_within s.order grown_run waiting host_next is run ∙ s.image;
           steps = ap (λ m. m.steps) joint ∙ steps_on;
-          in_run = subst (λ (m : Machine). IsInRun es hs m (s.made + seen.edges) goes.next) (sym joint) goes.in_run;
+          in_run = subst (λ (m : Machine). IsInRunFrom p.held es hs m (s.made + seen.edges) goes.next) (sym joint) goes.in_run;
           edges_wait =
-              edges_left es hs due old.joint new seen s.made w s.made_within s.order grown_run waiting
+              edges_left p.held es hs due old.joint new seen s.made w s.made_within s.order grown_run waiting
               host_next is run k.due.edges.items left;
           none_waits = none;
           all_done =
@@ -158,18 +157,18 @@ module _ (old : Keyboard) (act : HostAct) (late : 4096 ≤ old.joint.cycle) (roo
                 (All-cons (λ (x : HostEvent). x.stamp + 4096 ≤ goes.next.cycle) event [] (omega (arith, at, late, cycle)) (All-nil _));
           };
           parted =
-              parted_on es hs due old.joint new seen s.made w s.made_within s.order grown_run waiting host_next
+              parted_on p.held es hs due old.joint new seen s.made w s.made_within s.order grown_run waiting host_next
               is run s.reached.edges_reached;
         }
 
     pub says_on : Says p (acted p (old.joint.cycle - 4096) act) seen.items.items
     says_on w v from to =
         let first : s.world ≡ w = same_state (sym (here p old s) ∙ from) in
-        let image = image_same p.edges (p.events ++ event ∷ []) due old.joint new seen s.made s.world s.made_within
+        let image = image_same p.held p.edges (p.events ++ event ∷ []) due old.joint new seen s.made s.world s.made_within
         s.order grown_run (wait ∙ s.edges_wait) host_next is run ∙ s.image in
         let there : state_of (acted p (old.joint.cycle - 4096) act) ≡ Some goes.next =
         subst (λ n. state_at (story_of (acted p (old.joint.cycle - 4096) act)) n ≡ Some goes.next) steps_on
-        (subst (λ bytes. run_at (joint_board p.edges (p.events ++ event ∷ [])) bytes joint_start new.steps ≡ Some goes.next)
+        (subst (λ bytes. run_at (joint_board p.edges (p.events ++ event ∷ [])) bytes (joint_start_of p.held) new.steps ≡ Some goes.next)
         image goes.in_run.run) in
         let next : goes.next ≡ v = same_state (sym there ∙ to) in
         ap (λ (u : World Beside). log_of u.board) (sym next) ∙ goes.log
@@ -185,11 +184,11 @@ acted_stuck old act late due new stuck only wait run p s =
     let host : due.host.items ≡ take 2 (drop s.world.board.pc.side.done (p.events ++ e ∷ [])) =
     only ∙ sym (ap (λ (v : List HostEvent). take 2 v)
     (ap (λ (n : ℕ). drop n (p.events ++ e ∷ [])) s.all_done ∙ drop-append_seam p.events (e ∷ []))) in
-    let none = run reset_cpu p.edges (p.events ++ e ∷ []) s.made s.world s.order (event_grown p old s e (omega (arith, late)))
+    let none = run p.held p.edges (p.events ++ e ∷ []) s.made s.world s.order (event_grown p old s e (omega (arith, late)))
     (record { next = h.0; all = h.1; host = host }) in
     let steps : suc old.joint.steps ≡ suc p.steps = ap suc s.steps in
     subst (λ n. state_at (story_of (acted p (old.joint.cycle - 4096) act)) n ≡ None) steps
-    (subst (λ bytes. run_at (joint_board p.edges (p.events ++ e ∷ [])) bytes joint_start (suc old.joint.steps) ≡ None) s.image none)
+    (subst (λ bytes. run_at (joint_board p.edges (p.events ++ e ∷ [])) bytes (joint_start_of p.held) (suc old.joint.steps) ≡ None) s.image none)
 
 -- where it is
 pub stuck_at : (due : Due) (old new : Machine) (stuck : Stuck) (o : Option (World Beside))
@@ -199,9 +198,9 @@ stuck_at due old new stuck (Some w) h = absurd h
 
 -- after a call of the host's there is a past to be in, of the same program and the same edges
 pub holds_after : (p : Past) (act : HostAct) (old new : Keyboard) (r : Result (Unit {0}) Refused) → HasPast p old → IsActed act old r new
-    → (q : Past) × (q.bytes ≡ p.bytes) × (q.edges ≡ p.edges) × HasPast q new
-holds_after p act old new (Ok done) s h = (acted p (old.joint.cycle - 4096) act, refl, refl, h.1 p s)
-holds_after p act old new (Err refused) s h = (p, refl, refl, h.2 p s)
+    → (q : Past) × (q.bytes ≡ p.bytes) × (q.held ≡ p.held) × (q.edges ≡ p.edges) × HasPast q new
+holds_after p act old new (Ok done) s h = (acted p (old.joint.cycle - 4096) act, refl, refl, refl, h.1 p s)
+holds_after p act old new (Err refused) s h = (p, refl, refl, refl, h.2 p s)
 
 -- nothing has changed but what the last step said
 pub holds_still : (p : Past) (old new : Keyboard)
@@ -212,7 +211,7 @@ holds_still p old new joint edges host s = record {
   world = s.world;
   image = ap (λ m. m.image.bytes) joint ∙ s.image;
   steps = ap (λ m. m.steps) joint ∙ s.steps;
-  in_run = subst (λ (m : Machine). IsInRun p.edges p.events m s.made s.world) (sym joint) s.in_run;
+  in_run = subst (λ (m : Machine). IsInRunFrom p.held p.edges p.events m s.made s.world) (sym joint) s.in_run;
   edges_wait = edges ∙ s.edges_wait;
   none_waits = host;
   all_done = s.all_done;
@@ -245,7 +244,7 @@ keyed_on p old new e late stamp joint edges host s =
       world = s.world;
       image = ap (λ m. m.image.bytes) joint ∙ s.image;
       steps = ap (λ m. m.steps) joint ∙ s.steps;
-      in_run = subst (λ (m : Machine). IsInRun (p.edges ++ e ∷ []) p.events m s.made s.world) (sym joint) (edge_grown p old s e now);
+      in_run = subst (λ (m : Machine). IsInRunFrom p.held (p.edges ++ e ∷ []) p.events m s.made s.world) (sym joint) (edge_grown p old s e now);
       edges_wait = edges ∙ ap (λ v. v ++ e ∷ []) s.edges_wait ∙ sym (drop-append-le s.made p.edges (e ∷ []) s.made_within);
       none_waits = ap (λ h. h.items) host ∙ s.none_waits;
       all_done = s.all_done;

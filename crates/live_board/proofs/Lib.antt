@@ -10,3 +10,4 @@ pub mod Passed
 pub mod Gliding
 mod LastBit
 mod Tallying
+mod Rows

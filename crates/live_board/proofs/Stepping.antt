@@ -9,9 +9,10 @@ use Rattle.std.proofs.lemmas.List.Elements.{All-drop, All-head, All-nil, All-tai
 use Rattle.board_terms.specs.Edges.{AreInOrder, is_made}
 use Rattle.board_terms.specs.declared.event.Edge.{Edge}
 use Rattle.board_terms.specs.declared.event.HostEvent.{HostEvent}
-use Rattle.joint_run.specs.Due.{due_step, made_first, powered_on, IsJointStep}
-use Rattle.joint_run.specs.History.{GoesOn, IsFirstOfRun, IsInRun, IsStepOfRun}
-use Rattle.joint_run.specs.Joint.{Beside, joint_board, joint_start, log_of}
+use Rattle.joint_run.specs.Due.{due_step, made_first, powered_on_from, IsJointStep}
+use Rattle.joint_run.specs.Filled.{filled}
+use Rattle.joint_run.specs.History.{GoesOn, IsFirstOfRunFrom, IsInRunFrom, IsStepOfRun}
+use Rattle.joint_run.specs.Joint.{Beside, joint_board, joint_start_of, log_of}
 use Rattle.joint_run.specs.Run.{World, run_at}
 use Rattle.joint_run.specs.declared.due.Due.{Due}
 use Rattle.joint_run.specs.declared.due.Seen.{Seen}
@@ -20,7 +21,7 @@ use Rattle.joint_feed.proofs.Counts.{done_few, made_few}
 use Rattle.joint_feed.proofs.Feeding.{drop_more}
 use Rattle.joint_feed.proofs.Going.{IsMade, made as step_made, same_state}
 use Rattle.joint_feed.specs.Stories.{Story, state_at}
-use Rattle.mcs48_core.specs.Reset.{reset_cpu}
+use Rattle.mcs48_core.specs.Cpu.{Cpu}
 use Rattle.mcs48_core.specs.declared.stepping.Stuck.{Stuck}
 use Rattle.live_board.proofs.Timed.{step_later}
 use Rattle.live_board.specs.Calls.{Says}
@@ -29,12 +30,13 @@ use Rattle.live_board.specs.States.{AreParted, HasPast}
 use Rattle.live_board.specs.declared.parts.Parts.{Parts as Keyboard}
 
 -- at power-on
-pub at_first : (bytes : List ℕ) (k : Keyboard)
-    → k.joint ≡ powered_on bytes → IsFirstOfRun k.joint → k.due.edges.items ≡ [] → k.due.host.items ≡ [] → HasPast (untouched bytes 0) k
-at_first bytes k is first edges host = record {
+pub at_first : (fill : ℕ) (bytes : List ℕ) (k : Keyboard)
+    → k.joint ≡ powered_on_from (filled fill) bytes → IsFirstOfRunFrom (filled fill) k.joint
+    → k.due.edges.items ≡ [] → k.due.host.items ≡ [] → HasPast (untouched fill bytes 0) k
+at_first fill bytes k is first edges host = record {
   made = 0;
   made_within = omega arith;
-  world = joint_start;
+  world = joint_start_of (filled fill);
   image = ap (λ m. m.image.bytes) is;
   steps = ap (λ m. m.steps) is;
   in_run = first [] [];
@@ -50,7 +52,7 @@ at_first bytes k is first edges host = record {
 pub here : (p : Past) (k : Keyboard) (s : HasPast p k) → state_of p ≡ Some s.world
 here p k s =
     subst (λ n. state_at (story_of p) n ≡ Some s.world) s.steps
-    (subst (λ bytes. run_at (joint_board p.edges p.events) bytes joint_start k.joint.steps ≡ Some s.world) s.image s.in_run.run)
+    (subst (λ bytes. run_at (joint_board p.edges p.events) bytes (joint_start_of p.held) k.joint.steps ≡ Some s.world) s.image s.in_run.run)
 
 pub later_edges : (soon late : ℕ) (es : List Edge) → soon ≤ late → All (λ e. e.stamp + 4096 ≤ soon) es → All (λ e. e.stamp + 4096 ≤ late) es
 later_edges soon late es l h = λ i d m. let k = h i d m in omega (arith, k, l)
@@ -89,15 +91,15 @@ all_parted soon late made es l m h = record {
 }
 
 -- a step that was made, of a machine in the run of these edges and events, with all of them handed in
-module _ (edges : List Edge) (events : List HostEvent) (due : Due) (old new : Machine) (seen : Seen) (made : ℕ) (world : World Beside)
-    (within : made ≤ length edges) (order : AreInOrder edges) (in_run : IsInRun edges events old made world)
+module _ (held : Cpu) (edges : List Edge) (events : List HostEvent) (due : Due) (old new : Machine) (seen : Seen) (made : ℕ) (world : World Beside)
+    (within : made ≤ length edges) (order : AreInOrder edges) (in_run : IsInRunFrom held edges events old made world)
     (wait : due.edges.items ≡ drop made edges)
     (host : due.host.items ≡ take 2 (drop world.board.pc.side.done events))
     (is : IsJointStep due old (due_step due old) (Ok seen) new) (run : IsStepOfRun due old (Ok seen) new) where
-  pub on : GoesOn reset_cpu edges events made world seen new
+  pub on : GoesOn held edges events made world seen new
   on =
       let h = handed edges made world.cycle due.edges.items wait in
-      run reset_cpu edges events made world order in_run (record { next = h.0; all = h.1; host = host })
+      run held edges events made world order in_run (record { next = h.0; all = h.1; host = host })
 
   pub step : IsMade due old seen new
   step = step_made due old seen new is
@@ -124,12 +126,12 @@ module _ (edges : List Edge) (events : List HostEvent) (due : Due) (old new : Ma
 
   pub world_sooner : world.cycle < on.next.cycle
   world_sooner =
-      let s : Story = record { bytes = old.image.bytes; edges = edges; events = events; stop = 0; held = reset_cpu } in
+      let s : Story = record { bytes = old.image.bytes; edges = edges; events = events; stop = 0; held = held } in
       let one = steps_more in
       let next : old.steps + 1 ≡ suc old.steps = omega arith in
       let there : state_at s (suc old.steps) ≡ Some on.next =
       subst (λ n. state_at s n ≡ Some on.next) (one ∙ next)
-      (subst (λ bytes. run_at (joint_board edges events) bytes joint_start new.steps ≡ Some on.next) image_same on.in_run.run) in
+      (subst (λ bytes. run_at (joint_board edges events) bytes (joint_start_of held) new.steps ≡ Some on.next) image_same on.in_run.run) in
       step_later s old.steps world on.next in_run.run there
 
   -- the step makes all edges that wait
@@ -162,26 +164,26 @@ module _ (p : Past) (old : Keyboard) (s : HasPast p old) (new : Keyboard)
 
   pub one_on : HasPast (gone_on p new.joint.steps) new
   one_on =
-      let on = on p.edges p.events old.due old.joint new.joint new.seen s.made s.world s.made_within
+      let on = on p.held p.edges p.events old.due old.joint new.joint new.seen s.made s.world s.made_within
       s.order s.in_run s.edges_wait no_host is run in
-      let cycle = world_later p.edges p.events old.due old.joint new.joint new.seen s.made s.world
+      let cycle = world_later p.held p.edges p.events old.due old.joint new.joint new.seen s.made s.world
       s.made_within s.order s.in_run s.edges_wait no_host is run in
       record {
         made = s.made + new.seen.edges;
         made_within =
-            edges_there p.edges p.events old.due old.joint new.joint new.seen s.made s.world s.made_within
+            edges_there p.held p.edges p.events old.due old.joint new.joint new.seen s.made s.world s.made_within
             s.order s.in_run s.edges_wait no_host is run;
         world = on.next;
-        image = image_same p.edges p.events old.due old.joint new.joint new.seen s.made s.world s.made_within
+        image = image_same p.held p.edges p.events old.due old.joint new.joint new.seen s.made s.world s.made_within
             s.order s.in_run s.edges_wait no_host is run ∙ s.image;
         steps = refl;
         in_run = on.in_run;
         edges_wait =
-            edges_left p.edges p.events old.due old.joint new.joint new.seen s.made s.world s.made_within s.order
+            edges_left p.held p.edges p.events old.due old.joint new.joint new.seen s.made s.world s.made_within s.order
             s.in_run s.edges_wait no_host is run new.due.edges.items left;
         none_waits = ap (λ h. h.items) same ∙ s.none_waits;
         all_done =
-            let few = host_few p.edges p.events old.due old.joint new.joint new.seen s.made s.world s.made_within
+            let few = host_few p.held p.edges p.events old.due old.joint new.joint new.seen s.made s.world s.made_within
             s.order s.in_run s.edges_wait no_host is run in
             let none = ap length s.none_waits in
             let more = on.done in
@@ -193,20 +195,20 @@ module _ (p : Past) (old : Keyboard) (s : HasPast p old) (new : Keyboard)
           events_reached = later_events s.world.cycle on.next.cycle p.events cycle s.reached.events_reached;
         };
         parted =
-            parted_on p.edges p.events old.due old.joint new.joint new.seen s.made s.world s.made_within s.order
+            parted_on p.held p.edges p.events old.due old.joint new.joint new.seen s.made s.world s.made_within s.order
             s.in_run s.edges_wait no_host is run s.reached.edges_reached;
       }
 
   -- what the step says is what it puts after the log
   pub says_one : Says p (gone_on p new.joint.steps) new.seen.items.items
   says_one w v from to =
-      let goes = on p.edges p.events old.due old.joint new.joint new.seen s.made s.world s.made_within
+      let goes = on p.held p.edges p.events old.due old.joint new.joint new.seen s.made s.world s.made_within
       s.order s.in_run s.edges_wait no_host is run in
-      let image = image_same p.edges p.events old.due old.joint new.joint new.seen s.made s.world s.made_within
+      let image = image_same p.held p.edges p.events old.due old.joint new.joint new.seen s.made s.world s.made_within
       s.order s.in_run s.edges_wait no_host is run ∙ s.image in
       let first : s.world ≡ w = same_state (sym (here p old s) ∙ from) in
       let there : state_of (gone_on p new.joint.steps) ≡ Some goes.next =
-      subst (λ bytes. run_at (joint_board p.edges p.events) bytes joint_start new.joint.steps ≡ Some goes.next) image goes.in_run.run in
+      subst (λ bytes. run_at (joint_board p.edges p.events) bytes (joint_start_of p.held) new.joint.steps ≡ Some goes.next) image goes.in_run.run in
       let next : goes.next ≡ v = same_state (sym there ∙ to) in
       ap (λ (u : World Beside). log_of u.board) (sym next) ∙ goes.log
       ∙ ap (λ (u : World Beside). log_of u.board ++ new.seen.items.items) first
@@ -227,5 +229,5 @@ no_further p old s new stuck run =
     let done = s.all_done in
     let host : old.due.host.items ≡ take 2 (drop s.world.board.pc.side.done p.events) =
     s.none_waits ∙ sym (ap (λ (v : List HostEvent). take 2 v) (drop_all s.world.board.pc.side.done p.events (omega (arith, done)))) in
-    let none = run reset_cpu p.edges p.events s.made s.world s.order s.in_run (record { next = h.0; all = h.1; host = host }) in
-    subst (λ bytes. run_at (joint_board p.edges p.events) bytes joint_start (suc old.joint.steps) ≡ None) s.image none
+    let none = run p.held p.edges p.events s.made s.world s.order s.in_run (record { next = h.0; all = h.1; host = host }) in
+    subst (λ bytes. run_at (joint_board p.edges p.events) bytes (joint_start_of p.held) (suc old.joint.steps) ≡ None) s.image none

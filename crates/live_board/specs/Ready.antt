@@ -2,6 +2,7 @@
 use Rattle.std.specs.Prelude.{◌≡◌, ℕ, true, false, List, []}
 use Rattle.std.specs.declared.result.Result.{Result}
 use Rattle.board_terms.specs.declared.event.HostAct.TheVariants.{Mask}
+use Rattle.joint_run.specs.Filled.{filled}
 use Rattle.live_board.specs.Calls.{IsActed}
 use Rattle.live_board.specs.Heard.{HasKeptAll, IsKeptLog}
 use Rattle.live_board.specs.Pasts.{Past, untouched}
@@ -11,28 +12,30 @@ use Rattle.live_board.specs.declared.parts.Parts.{Parts as Keyboard}
 use Rattle.live_board.specs.declared.ran.RunEnd.{RunEnd}
 use Rattle.live_board.specs.declared.refused.Refused.{Refused}
 
--- it has just been opened: from power-on, when nothing is kept of its log, it has run to stamp 0, and there INT 09h was
--- masked, unless the program is stuck. What was said on the way is kept, and the rises of the line are counted, as of any
--- run and call
-pub record IsOpened (bytes : List ℕ) (k : Keyboard) : Type 0 where
+-- it has just been opened: from power-on, when data memory, A and T hold this byte and nothing is kept of its log, it
+-- has run to stamp 0, and there INT 09h was masked, unless the program is stuck. What was said on the way is kept, and
+-- the rises of the line are counted, as of any run and call
+pub record IsOpened (fill : ℕ) (bytes : List ℕ) (k : Keyboard) : Type 0 where
   pub first : Keyboard
-  pub at_first : HasPast (untouched bytes 0) first
+  pub at_first : HasPast (untouched fill bytes 0) first
   pub first_cycle : first.joint.cycle ≡ 0
   pub none_kept : (first.heard.items.items ≡ []) × (first.heard.lost ≡ 0)
   pub middle : Keyboard
   pub end : RunEnd
-  pub ran : HasRun (untouched bytes 0) first 4096 false end middle
-  pub ran_reported : HasKeptAll (untouched bytes 0) first middle
+  pub ran : HasRun (untouched fill bytes 0) first 4096 false end middle
+  pub ran_reported : HasKeptAll (untouched fill bytes 0) first middle
   pub answer : Result (Unit {0}) Refused
   pub masked : IsActed Mask middle answer k
   pub masked_reported : IsKeptLog Mask middle answer k
 
--- it was opened, and the run has gone on from there until the interrupt line rose, or for a second: 400,000 cycles
+-- it was opened with cleared memory, and the run has gone on from there until the interrupt line rose, or for a second:
+-- 400,000 cycles
 pub record IsReady (bytes : List ℕ) (k : Keyboard) : Type 0 where
   pub opened : Keyboard
-  pub is_opened : IsOpened bytes opened
+  pub is_opened : IsOpened 0 bytes opened
   pub past : Past
   pub program : past.bytes ≡ bytes
+  pub memory : past.held ≡ filled 0
   pub no_edges : past.edges ≡ []
   pub at : HasPast past opened
   pub end : RunEnd

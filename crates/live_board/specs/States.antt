@@ -4,7 +4,7 @@ use Rattle.std.specs.List.{All}
 use Rattle.board_terms.specs.declared.event.Edge.{Edge}
 use Rattle.board_terms.specs.declared.event.HostEvent.{HostEvent}
 use Rattle.board_terms.specs.Edges.{AreInOrder}
-use Rattle.joint_run.specs.History.{IsInRun}
+use Rattle.joint_run.specs.History.{IsInRunFrom}
 use Rattle.joint_run.specs.Joint.{Beside}
 use Rattle.joint_run.specs.Run.{World}
 use Rattle.live_board.specs.Pasts.{Past}
@@ -29,7 +29,7 @@ pub record HasPast (p : Past) (k : Keyboard) : Type 0 where
   pub world : World Beside
   pub image : k.joint.image.bytes ≡ p.bytes
   pub steps : k.joint.steps ≡ p.steps
-  pub in_run : IsInRun p.edges p.events k.joint made world
+  pub in_run : IsInRunFrom p.held p.edges p.events k.joint made world
   pub edges_wait : k.due.edges.items ≡ drop made p.edges
   pub none_waits : k.due.host.items ≡ []
   pub all_done : world.board.pc.side.done ≡ length p.events

@@ -3,6 +3,7 @@
 ghost use Rattle.std.specs.Prelude.{◌≡◌, ◌+◌, ◌-◌, [], IfOk};
 ghost use Rattle.board_terms.specs.declared.event.HostAct.TheVariants.{Read60, Status, Take};
 ghost use Rattle.int09.specs.Bios.{start};
+ghost use Rattle.joint_run.specs.Filled.{filled};
 ghost use Rattle.live_board.specs.Acts.{masking_of, write_of};
 ghost use Rattle.live_board.specs.Calls.{IsActed, IsKeyed, GivesFirst};
 ghost use Rattle.live_board.specs.Heard.{HasKeptAll, IsKeptLog, after_next, next_of};
@@ -127,16 +128,16 @@ impl Keyboard {
         self.parts.run(cycles, watched)
     }
 
-    /// The keyboard's board at power-on with this program and with INT 09h at its start, run to stamp 0, with INT 09h
-    /// masked there. INT 09h has all memory that it ever takes. A program that sticks before is opened too: it stays
-    /// where it is.
+    /// The keyboard's board at power-on with this program, with INT 09h at its start and with cleared memory, run to stamp
+    /// 0, with INT 09h masked there. INT 09h has all memory that it ever takes. A program that sticks before is opened too:
+    /// it stays where it is.
     pub fn open(image: &Image, bios: Bios) -> Keyboard
         requires start { bios ≡ start }
-        ensures opened { IsOpened image.now.bytes result }
-        ensures has_past { (p : Past) × (p.bytes ≡ image.now.bytes) × (p.edges ≡ []) × HasPast p result }
+        ensures opened { IsOpened 0 image.now.bytes result }
+        ensures has_past { (p : Past) × (p.bytes ≡ image.now.bytes) × (p.held ≡ filled 0) × (p.edges ≡ []) × HasPast p result }
     {
         Keyboard {
-            parts: Parts::open(image, bios),
+            parts: Parts::open(image, bios, 0),
         }
     }
 
@@ -148,6 +149,17 @@ impl Keyboard {
         let mut keyboard = Keyboard::open(image, bios);
         let _ = keyboard.run(SECOND, true);
         keyboard
+    }
+
+    /// The keyboard is switched off and on again: it is as `open` opens it, with its own program, but that data memory, A
+    /// and T hold this byte at power-on. All keys are up, and nothing is left of what was said before.
+    pub fn power_on(&mut self, bios: Bios, fill: u8)
+        requires start { bios ≡ start }
+        ensures opened { IsOpened fill self.old.joint.image.bytes self.new }
+        ensures has_past { (p : Past) × (p.bytes ≡ self.old.joint.image.bytes) × (p.held ≡ filled fill) × (p.edges ≡ []) × HasPast p self.new }
+    {
+        let parts = Parts::open(self.parts.joint.image(), bios, fill);
+        self.parts = parts;
     }
 
     /// What happened next since the caller was last handed something, in order; of a step, the byte that passes before

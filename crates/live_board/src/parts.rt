@@ -3,6 +3,7 @@
 ghost use Rattle.std.specs.Prelude.{◌≡◌, ◌≤◌, ◌<◌, ◌+◌, ◌-◌, ◌^◌, ◌++◌, ◌∷◌, [], drop, length, map, IfOk, OnErr, OnOk};
 ghost use Rattle.int09.specs.Bios.{start};
 ghost use Rattle.joint_run.specs.Due.{due_step, with_seen, IsJointStep};
+ghost use Rattle.joint_run.specs.Filled.{filled};
 ghost use Rattle.joint_run.specs.History.{IsStepOfRun};
 ghost use Rattle.live_board.specs.Answers.{line_in, raises};
 ghost use Rattle.live_board.specs.Heard.{heard_all, rise, said_so};
@@ -52,14 +53,14 @@ fn edge_list(edges: &[Edge]) -> ArrayVec<Edge, 4>
 }
 
 impl Parts {
-    /// At power-on, with this program.
-    fn power_on(image: &Image, bios: Bios) -> Parts
+    /// At power-on, with this program, if data memory, A and T hold this byte.
+    fn power_on(image: &Image, bios: Bios, fill: u8) -> Parts
         requires start { bios ≡ start }
-        ensures first { HasPast (untouched image.now.bytes 0) result × (result.joint.steps ≡ 0) × (result.joint.cycle ≡ 0) }
+        ensures first { HasPast (untouched fill image.now.bytes 0) result × (result.joint.steps ≡ 0) × (result.joint.cycle ≡ 0) }
         ensures none_kept { (result.heard.items.items ≡ []) × (result.heard.lost ≡ 0) }
     {
         Parts {
-            joint: Joint::power_on(image, bios),
+            joint: Joint::power_on_filled(image, bios, fill),
             due: Due {
                 edges: ArrayVec::new(),
                 host: ArrayVec::new(),
@@ -70,13 +71,14 @@ impl Parts {
         }
     }
 
-    /// At power-on, run to stamp 0, with INT 09h masked there. A program that sticks before stays where it is.
-    pub(crate) fn open(image: &Image, bios: Bios) -> Parts
+    /// At power-on with this byte in memory, run to stamp 0, with INT 09h masked there. A program that sticks before stays
+    /// where it is.
+    pub(crate) fn open(image: &Image, bios: Bios, fill: u8) -> Parts
         requires start { bios ≡ start }
-        ensures opened { IsOpened image.now.bytes result }
-        ensures has_past { (p : Past) × (p.bytes ≡ image.now.bytes) × (p.edges ≡ []) × HasPast p result }
+        ensures opened { IsOpened fill image.now.bytes result }
+        ensures has_past { (p : Past) × (p.bytes ≡ image.now.bytes) × (p.held ≡ filled fill) × (p.edges ≡ []) × HasPast p result }
     {
-        let mut parts = Parts::power_on(image, bios);
+        let mut parts = Parts::power_on(image, bios, fill);
         let _ = parts.run(STAMP_0, false);
         let _ = parts.act(HostAct::Mask);
         parts

@@ -306,6 +306,12 @@ class Keyboard:
 
     # Calls that make steps, or hand something in.
 
+    def power_on(self, fill: int = 0) -> None:
+        """Switches the keyboard off and on again, with the program that it has. At power-on its data memory, accumulator and
+        timer hold this byte. It is at stamp 0 then, with no edge in its queue."""
+        self._done("power_on", _unsigned(fill, 8, "a byte"))
+        self._keys = library.Keys()
+
     def key(self, place: int, down: bool) -> bool:
         """The key at a place, 0 to 95 (eight times its column and its row), goes down or up, before the next step. False
         if four edges wait already: run a step first."""

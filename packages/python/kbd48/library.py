@@ -65,6 +65,7 @@ PARAMETERS = {
     "status": [_to(c.c_uint8)],
     "bios": [c.c_bool],
     "flip": [c.c_uint8],
+    "power_on": [c.c_uint8],
     "take": [_to(c.c_uint16)],
     "next": [_to(Item)],
     "interrupt": [_to(c.c_bool)],

@@ -4,5 +4,5 @@ use Rattle.live_agrees.proofs.queued_keys_agree.Goals as goal
 pub returns : goal.returns
 returns c = record {
   queued = stays_queued;
-  agrees = queued_agree c.run_and_model_agree.ensures.agreement c.edges_are_lawful.ensures.lawful;
+  agrees = queued_agree c.run_and_model_agree.ensures.any_memory c.edges_are_lawful.ensures.lawful;
 }

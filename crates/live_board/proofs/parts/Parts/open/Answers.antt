@@ -12,8 +12,8 @@ returns-clause-opened c =
       none_kept = c.power_on-parts.ensures.none_kept;
       middle = c.run.new.self;
       end = c.run.result.end;
-      ran = c.run.ensures.run (untouched c.args.image.now.bytes 0) first.0;
-      ran_reported = c.run.ensures.log_kept (untouched c.args.image.now.bytes 0) first.0;
+      ran = c.run.ensures.run (untouched c.args.fill c.args.image.now.bytes 0) first.0;
+      ran_reported = c.run.ensures.log_kept (untouched c.args.fill c.args.image.now.bytes 0) first.0;
       answer = c.act.result;
       masked = c.act.ensures.acted;
       masked_reported = c.act.ensures.log_kept;
@@ -22,6 +22,6 @@ returns-clause-opened c =
 pub returns-clause-has_past : goal.returns-clause-has_past
 returns-clause-has_past c =
     let first = c.power_on-parts.ensures.first in
-    let p = untouched c.args.image.now.bytes 0 in
+    let p = untouched c.args.fill c.args.image.now.bytes 0 in
     let ran = c.run.ensures.run p first.0 in
     holds_after (gone_on p c.run.new.self.joint.steps) _ c.run.new.self c.act.new.self c.act.result ran.has_past c.act.ensures.acted
