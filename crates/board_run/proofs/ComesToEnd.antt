@@ -10,7 +10,7 @@ use Rattle.story_run.specs.declared.ending.End.TheVariants.{Over, Stuck}
 use Rattle.story_run.specs.declared.ending.Ending.TheVariants.{Stamp}
 use Rattle.story_run.specs.Running.{EndsAt, GoesOnTo, IsStuckAt, is_over, place_of}
 use Rattle.story_run.proofs.Steps.{step_later}
-use Rattle.story_run.proofs.Stuck.{stuck_where_none}
+use Rattle.story_run.proofs.Held.{stuck_where_none}
 
 -- the outcome of a run that ends at a state
 abbrev pub outcome_at : ℕ → World Beside → End → Outcome

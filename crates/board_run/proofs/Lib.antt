@@ -4,4 +4,5 @@ pub mod BrokenOff
 pub mod ReportedByStamp
 pub mod Traced
 pub mod Ends
+pub mod Alike
 pub mod EndOf

@@ -1,6 +1,5 @@
 -- What is reported after one stretch of steps, each item with its stamp.
-use Rattle.std.proofs.Common.{◌≡◌, ◌^◌, ℕ, false, List, ◌++◌, length, drop, Ok, Err, OnOk, OnErr, ap, sym, subst, ◌∙◌, arith}
-use Rattle.std.specs.declared.result.Result.{Result}
+use Rattle.std.proofs.Common.{◌≡◌, ◌^◌, ℕ, false, List, ◌++◌, length, drop, ap, sym, subst, ◌∙◌, arith}
 use Rattle.std.proofs.Math.Seq.{drop-append_seam}
 use Rattle.board_run.specs.Putting.{IsLogBrokenAt}
 use Rattle.board_run.specs.Texts.{log_text}
@@ -40,17 +39,13 @@ module _ (e : Ending) (s : Story) (k : ℕ) (c : Course) (b : IsAtReport e false
 
     -- the lines of them are said, or broken off
     module _ (first now next : Shown) (said : IsSaid first now (log_text (log_at s k))) where
-      pub said_more : {E : Type 0} (result : Result (Unit {0}) E) → OnOk result (IsSaid now next (log_text given))
-          → OnOk result (IsSaid first next (log_text (log_at s c.joint.steps)))
-      said_more (Err fault) put = tt
-      said_more (Ok done) put =
+      pub said_more : IsSaid now next (log_text given) → IsSaid first next (log_text (log_at s c.joint.steps))
+      said_more put =
           subst (λ (t : List ℕ). IsSaid first next t) (sym text_more)
           (said_then_said first now next (log_text (log_at s k)) (log_text given) (are_lines (log_at s k)) said put)
 
-      pub broken_more : {E : Type 0} (result : Result (Unit {0}) E) → OnErr result (IsBrokenOff now next (log_text given))
-          → OnErr result (IsLogBrokenAt s first next b.last)
-      broken_more (Ok done) broken = tt
-      broken_more (Err fault) broken = record {
+      pub broken_more : IsBrokenOff now next (log_text given) → IsLogBrokenAt s first next b.last
+      broken_more broken = record {
         between = now;
         said = subst (λ (l : List Stamped). IsSaid first now (log_text l)) (sym b.quiet.log) said;
         broken = subst (λ (l : List Stamped). IsBrokenOff now next (log_text l)) (sym says_given) broken;

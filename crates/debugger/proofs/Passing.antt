@@ -64,6 +64,25 @@ pub record HasPassed (s : Debuggee) (old : Course) (before : List Watch) (k : �
   pub looked_here : 0 < k → probes ≡ map (looked m.steps (sight_of m)) before
   pub unmet_here : 0 < k → first_met 0 (sight_of m) before ≡ None
 
+-- with one step more it would have led to this state, seen so
+pub one_further : (s : Debuggee) (old : Course) (before : List Watch) (k : ℕ) (m : Machine) → HasPassed s old before k m
+    → (w : World Beside) → state_at s.story (suc m.steps) ≡ Some w → (v : Sight) → sight_in w ≡ v → m.cycle < v.cycle
+    → (n : ℕ) → n ≡ suc m.steps
+    → LeadsTo s (k + 1) (at_time old.joint.steps before) (at_time n (map (looked n v) before)) (first_met 0 v before)
+one_further s old before k m p w is v sight later n number =
+    let there = here s (moved old m) p.on in
+    let next : next_state s m.steps ≡ Some w =
+    next_there s m.steps p.on.world false there (sym (p.goes_on p.on.world there)) ∙ is in
+    let to : stepped_to w (at_time m.steps p.probes) ≡ at_time n (map (looked n v) before) =
+    ap (λ (u : Sight). at_time (suc m.steps) (map (looked (suc m.steps) u) p.probes)) sight
+    ∙ ap (at_time (suc m.steps)) (p.same_later (suc m.steps) v later)
+    ∙ ap (λ (i : ℕ). at_time i (map (looked i v) before)) (sym number) in
+    then_led s k 1 (at_time old.joint.steps before) (at_time m.steps p.probes) (at_time n (map (looked n v) before)) (first_met 0 v before) p.led
+    (subst (λ (o : Option ℕ). LeadsTo s 1 (at_time m.steps p.probes) (at_time n (map (looked n v) before)) o)
+    (ap (λ (u : Sight). first_met 0 u p.probes) sight ∙ p.same_hit v)
+    (subst (λ (d : Debug). LeadsTo s 1 (at_time m.steps p.probes) d (first_met 0 (sight_in w) p.probes)) to
+    (one_led s (at_time m.steps p.probes) w next)))
+
 module _ (s : Debuggee) (old : Course) (before : List Watch) (h : IsOnCourse s.story old)
     (open_now : (w : World Beside) → state_at s.story old.joint.steps ≡ Some w → session_is_over s w ≡ false) where
   -- no step was made yet
@@ -109,30 +128,19 @@ module _ (s : Debuggee) (old : Course) (before : List Watch) (h : IsOnCourse s.s
         let on = on_one s.story thin order there m quiet it.on in
         let w = on.world in
         let sight : sight_of m ≡ sight_in w = same_sight m w on.in_run.mcu on.in_run.outside on.in_run.cycle in
-        let up : suc between.steps ≡ m.steps = omega (arith, steps) in
-        let next : next_state s between.steps ≡ Some w =
-        next_there s between.steps it.on.world false (here s there it.on) (sym (it.goes_on it.on.world (here s there it.on)))
-        ∙ ap (state_at s.story) up ∙ here s (moved old m) on in
+        let up : m.steps ≡ suc between.steps = omega (arith, steps) in
         let later : between.cycle < (sight_of m).cycle = omega (arith, cycle, some) in
         let same_wire : (sight_of m).lines ≡ (sight_of old.joint).lines = same_wires old.ahead.due between m quiet ∙ it.wires in
-        let probes : List Watch = map (looked m.steps (sight_of m)) before in
-        let looks : map (looked (suc between.steps) (sight_in w)) it.probes ≡ probes =
-        ap (λ (n : ℕ). map (looked n (sight_in w)) it.probes) up ∙ ap (λ (v : Sight). map (looked m.steps v) it.probes) (sym sight)
-        ∙ it.same_later m.steps (sight_of m) later in
-        let to : stepped_to w (at_time between.steps it.probes) ≡ at_time m.steps probes =
-        ap (λ (n : ℕ). at_time n (map (looked (suc between.steps) (sight_in w)) it.probes)) up ∙ ap (at_time m.steps) looks in
-        let hit : first_met 0 (sight_in w) it.probes ≡ None = it.same_hit (sight_in w) ∙ none_met clk 0 (sight_in w) before at_rest in
-        let one : LeadsTo s 1 (at_time between.steps it.probes) (at_time m.steps probes) None =
-        subst (λ (o : Option ℕ). LeadsTo s 1 (at_time between.steps it.probes) (at_time m.steps probes) o) hit
-        (subst (λ (d : Debug). LeadsTo s 1 (at_time between.steps it.probes) d (first_met 0 (sight_in w) it.probes)) to
-        (one_led s (at_time between.steps it.probes) w next)) in
+        let led = one_further s old before k between it w (ap (state_at s.story) (sym up) ∙ here s (moved old m) on) (sight_of m)
+        (sym sight) later m.steps up in
         let count : k + 1 ≡ suc k = omega arith in
         let off : false ≡ starts_tick s.story w = off_tick m q.3 s.story.edges s.story.events w (sym on.in_run.mcu) in
         record {
           on = on;
-          probes = probes;
-          led = subst (λ (n : ℕ). LeadsTo s n (at_time old.joint.steps before) (at_time m.steps probes) None) count
-              (then_led s k 1 (at_time old.joint.steps before) (at_time between.steps it.probes) (at_time m.steps probes) None it.led one);
+          probes = map (looked m.steps (sight_of m)) before;
+          led = subst (λ (n : ℕ). LeadsTo s n (at_time old.joint.steps before) (at_time m.steps (map (looked m.steps (sight_of m)) before)) None)
+              count (subst (λ (o : Option ℕ). LeadsTo s (k + 1) (at_time old.joint.steps before)
+              (at_time m.steps (map (looked m.steps (sight_of m)) before)) o) (none_met clk 0 (sight_of m) before at_rest) led);
           same_later =
               λ n v more. all_rested clk m.steps n (sight_of m) v before more (ap (λ (l : Lines). l.clk) same_wire ∙ level) at_rest;
           same_hit = λ v. none_met_after clk 0 m.steps (sight_of m) v before at_rest ∙ sym (none_met clk 0 v before at_rest);

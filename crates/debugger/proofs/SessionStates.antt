@@ -15,11 +15,17 @@ use Rattle.joint_run.specs.Run.{Board, World, after_step, joint_step, run_at, se
 use Rattle.fw_logic.specs.JointRun.{DecidesTick}
 use Rattle.joint_feed.specs.declared.course.Course.{Course}
 use Rattle.joint_feed.specs.Course.{IsOnCourse}
+use Rattle.joint_feed.specs.Filled.{filled_story}
 use Rattle.joint_feed.specs.Stories.{state_at, starts_tick}
+use Rattle.key_file.specs.Histories.{KeyHistory}
 use Rattle.debugger.specs.Sessions.{Debuggee, Sitting, sitting, session_is_over, next_from, next_state, has_ended}
 use Rattle.board_probes.specs.Stuck.{sticks}
 use Rattle.debugger.specs.Advance.{IsStateAt, DecidesSessionOver}
 use Rattle.board_probes.proofs.Sights.{same_sight}
+
+-- what a session over this program is about
+abbrev pub debuggee_in : ℕ → List ℕ → KeyHistory → ℕ → Debuggee
+debuggee_in fill bytes history latest = record { story = filled_story fill bytes history; latest = latest }
 
 none_after : (d : Board) (w : World d.State) (o : Option Stepped) → is_none (after_step d w o) ≡ is_none o
 none_after d w None = refl
@@ -120,16 +126,12 @@ before_end s w h =
     let off = or_not _ (nat_le (s.story.stop + s.latest) w.cycle) h in
     grind (arith, nat_tests, off)
 
-pub room_there : (s : Debuggee) (c : Course)
-    → IsOnCourse s.story c → DecidesSessionOver (sitting s c.joint.steps) false → c.joint.cycle < s.story.stop + s.latest
-room_there s c h open_now =
-    let a = before_end s h.world (open_now h.world (here s c h)) in
+pub room_there : (t : Sitting) (s : Debuggee) (c : Course) → IsOnCourse s.story c → sitting s c.joint.steps ≡ t
+    → (past : Bool) → DecidesSessionOver t past → past ≡ false → c.joint.cycle < s.story.stop + s.latest
+room_there t s c h view past decides off =
+    let a = before_end s h.world (sym off ∙ subst (λ (v : Sitting). DecidesSessionOver v past) (sym view) decides h.world (here s c h)) in
     let e = h.in_run.cycle in
     omega (arith, a, e)
-
-pub cycle_there : (s : Debuggee) (c : Course) (h : IsOnCourse s.story c) (w : World Beside)
-    → state_at s.story c.joint.steps ≡ Some w → w.cycle ≡ c.joint.cycle
-cycle_there s c h w there = sym (h.in_run.cycle ∙ ap (λ (v : World Beside). v.cycle) (same s c h w there))
 
 over_by : (s : Debuggee) (k : ℕ) (o : Option (World Beside))
     → state_at s.story k ≡ o → ((w : World Beside) → state_at s.story k ≡ Some w → true ≡ session_is_over s w)

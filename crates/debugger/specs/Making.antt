@@ -7,7 +7,7 @@ use Rattle.joint_feed.specs.Stories.{state_at}
 use Rattle.board_probes.specs.Probes.{Watch, first_met, looked, sight_in}
 use Rattle.board_probes.specs.Resting.{all_rest}
 use Rattle.debugger.specs.declared.stepping.Made.{Made}
-use Rattle.debugger.specs.Sessions.{Debug, Debuggee, Hunted, Sitting, debug, hunt, next_state, walk}
+use Rattle.debugger.specs.Sessions.{Debug, Debuggee, Hunted, hunt, next_state, walk}
 
 -- a hunt after steps of which the last hit this probe first; if it hit none, the hunt goes on
 abbrev pub hunt_after : Debuggee → ℕ → Debug → Option ℕ → Hunted
@@ -26,19 +26,16 @@ RestAt s k probes = (w : World Beside) → state_at s.story k ≡ Some w → all
 
 -- at most so many steps were made, and none only if the run has ended; one look at the state that the last of them
 -- led to leaves these probes as a look at each
-pub record IsAdvanced (left : ℕ) (old : Sitting) (before : List Watch) (new : Sitting) : Type 0 where
-  pub debuggee : new.debuggee ≡ old.debuggee
-  pub later : old.steps ≤ new.steps
-  pub within : new.steps ≤ old.steps + left
-  pub ended : new.steps ≡ old.steps → next_state new.debuggee new.steps ≡ None
-  pub led : old.steps < new.steps → (w : World Beside) → state_at old.debuggee.story new.steps ≡ Some w
-      → LeadsTo old.debuggee (new.steps - old.steps) (debug old before)
-      (debug new (map (looked new.steps (sight_in w)) before)) (first_met 0 (sight_in w) before)
+pub record IsAdvanced (s : Debuggee) (left old : ℕ) (before : List Watch) (new : ℕ) : Type 0 where
+  pub later : old ≤ new
+  pub within : new ≤ old + left
+  pub ended : new ≡ old → next_state s new ≡ None
+  pub led : old < new → (w : World Beside) → state_at s.story new ≡ Some w
+      → LeadsTo s (new - old) (record { steps = old; probes = before })
+      (record { steps = new; probes = map (looked new (sight_in w)) before }) (first_met 0 (sight_in w) before)
 
 -- at most so many steps were made, and none only if the run has ended; and where they lead to
-pub record IsMade (left : ℕ) (old : Sitting) (before : List Watch) (made : Made) (new : Sitting) (after : List Watch)
-    : Type 0 where
-  pub debuggee : new.debuggee ≡ old.debuggee
+pub record IsMade (s : Debuggee) (left : ℕ) (old : Debug) (made : Made) (new : Debug) : Type 0 where
   pub within : made.steps ≤ left
-  pub ended : made.steps ≡ 0 → next_state new.debuggee new.steps ≡ None
-  pub led : LeadsTo old.debuggee made.steps (debug old before) (debug new after) made.hit
+  pub ended : made.steps ≡ 0 → next_state s new.steps ≡ None
+  pub led : LeadsTo s made.steps old new made.hit

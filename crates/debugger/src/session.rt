@@ -1,10 +1,7 @@
 //! A session: the run of a program under a history, made step by step.
 
-ghost use Rattle.std.specs.Prelude.{◌≡◌, ◌≤◌, ◌<◌, ◌+◌, ◌^◌, ◌&&◌, ◌||◌, List, nat_le, false, true, Some, IfOk};
+ghost use Rattle.std.specs.Prelude.{◌≡◌, ◌≤◌, ◌<◌, ◌+◌, ◌&&◌, ◌||◌, List, nat_le, false, true, IfOk};
 ghost use Rattle.joint_feed.specs.Course.{IsOnCourse};
-ghost use Rattle.joint_feed.specs.Stories.{state_at};
-ghost use Rattle.joint_run.specs.Joint.{Beside};
-ghost use Rattle.joint_run.specs.Run.{World};
 ghost use Rattle.debugger.specs.Sessions.{has_ended, latest_start, sitting};
 ghost use Rattle.board_probes.specs.Stuck.{sticks};
 ghost use Rattle.board_probes.specs.Probes.{Watch};
@@ -66,6 +63,17 @@ fn sticks(image: &Image, mcu: &Mcu) -> bool
     !enters && decode([image.bytes[place], image.bytes[next]]).is_none()
 }
 
+/// How many cycles quiet steps may take together that have this room before the run's end, so that with one step more they
+/// are at most `left`; none if probes don't rest.
+fn quiet_room(room: u64, left: u64, rest: bool) -> u64
+    requires some { 0 < left }
+    ensures within { result ≤ room }
+    ensures few { result < left }
+    ensures alone { rest ≡ false → result ≡ 0 }
+{
+    if rest { room.min(left - 1) } else { 0 }
+}
+
 impl Session {
     /// The run of what is debugged, at power-on. Want of memory gives it up.
     pub fn new(alloc: Global, debuggee: Debuggee) -> Result<Session, AllocError>
@@ -112,34 +120,18 @@ impl Session {
         self.is_past() || sticks(&self.image, self.course.joint.mcu())
     }
 
-    /// How many cycles quiet steps may take together, so that with one step more they are at most `left`, and each begins
-    /// before the run's end; none if probes don't rest. The run isn't over.
-    fn quiet_room(&self, left: u64, rest: bool) -> u64
-        requires open { DecidesSessionOver self.now false }
-        requires some { 0 < left }
-        ensures room { (w : World Beside) → state_at self.now.debuggee.story self.now.steps ≡ Some w
-            → w.cycle + result < self.now.debuggee.story.stop + self.now.debuggee.latest }
-        ensures near { (w : World Beside) → state_at self.now.debuggee.story self.now.steps ≡ Some w → w.cycle + result < 2 ^ 62 }
-        ensures few { result < left }
-        ensures alone { rest ≡ false → result ≡ 0 }
-    {
-        let last = self.history.end() + self.latest - 1;
-        if !rest {
-            return 0;
-        }
-        (last - self.course.joint.cycle()).min(left - 1)
-    }
-
     /// Makes steps, if the run goes on, at most `left`: one; or, if probes rest, quiet ones before it as well.
     pub(crate) fn advance(&mut self, left: u64, rest: bool)
         requires some { 0 < left }
-        ensures { (before : List Watch) → (rest ≡ true → RestAt self.old.debuggee self.old.steps before)
-            → IsAdvanced left self.old before self.new }
+        ensures debuggee { self.new.debuggee ≡ self.old.debuggee }
+        ensures advanced { (before : List Watch) → (rest ≡ true → RestAt self.old.debuggee self.old.steps before)
+            → IsAdvanced self.old.debuggee left self.old.steps before self.new.steps }
     {
         if self.is_past() {
             return;
         }
-        let most = self.quiet_room(left, rest);
+        let room = self.history.end() + self.latest - 1 - self.course.joint.cycle();
+        let most = quiet_room(room, left, rest);
         let _ = stride(&mut self.course, &self.history, most);
     }
 }

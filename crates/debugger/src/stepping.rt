@@ -20,8 +20,9 @@ impl Session {
     /// all of them rest that comes to the same as a look after each step.
     pub(crate) fn make(&mut self, left: u64, probes: &mut Vec<Box<dyn Probe>>) -> Made
         requires some { 0 < left }
-        ensures { let before = map (λ b. watch b) probes.old.items in
-            IsMade left self.old before result self.new (map (λ b. watch b) probes.new.items) }
+        ensures debuggee { self.new.debuggee ≡ self.old.debuggee }
+        ensures made { let before = map (λ b. watch b) probes.old.items in
+            IsMade self.old.debuggee left (debug self.old before) result (debug self.new (map (λ b. watch b) probes.new.items)) }
     {
         let first = self.steps();
         let rest = all_rest(probes, self.joint().lines().clk);

@@ -16,94 +16,28 @@ use Rattle.app_answers.specs.declared.spoken.Spoken.{Spoken}
 use Rattle.app_answers.specs.declared.spoken.Spoken.TheVariants.{Text, Said, Stuck}
 use Rattle.kbd48_app.specs.Answers.{MayAnswer}
 use Rattle.app_answers.specs.FileAnswers.{Answer}
-use Rattle.app_words.specs.Refusals.{exit_of, line_of}
+use Rattle.app_words.specs.Refusals.{line_of}
 use Rattle.app_answers.specs.Says.{Says, exit_said, text_said}
 use Rattle.app_answers.specs.Spoken.{Concludes, IsSpoken, IsStuckAfter, May, Prints}
 use Rattle.app_answers.specs.Taking.{Taking, Whole, CutOff, taking_of}
 use Rattle.kbd48_app.proofs.LogsAreLines.{lines_before}
+use Rattle.kbd48_app.proofs.PlansEnd.{Ending}
 
--- no refusal ends with Write
-refused_never : (refusal : Refusal) → exit_of refusal ≡ exits.Write → ⊥
-refused_never refusals.Words h = cc
-refused_never refusals.Read h = cc
-refused_never (refusals.TooLong kind) h = cc
-refused_never (refusals.Hex fault) h = cc
-refused_never (refusals.Asm line number) h = cc
-refused_never (refusals.Layout entry number) h = cc
-refused_never (refusals.Keys line number) h = cc
-refused_never (refusals.Cert line number) h = cc
-refused_never (refusals.Script line number) h = cc
-refused_never (refusals.Text at) h = cc
-refused_never (refusals.Timing line number first second) h = cc
-refused_never (refusals.Stuck stuck) h = cc
-refused_never refusals.Memory h = cc
-
+-- no answer ends with Write
 pub never_write : (answer : Answer) → exit_said answer ≡ exits.Write → ⊥
-never_write (Ok text) h = cc
-never_write (Err refusal) h = refused_never refusal h
+never_write answer h = grind arith
 
 -- Read and Memory are the exits of one refusal each
-read_alone : (refusal : Refusal) → exit_of refusal ≡ exits.Read → refusal ≡ refusals.Read
-read_alone refusals.Words h = absurd cc
-read_alone refusals.Read h = refl
-read_alone (refusals.TooLong kind) h = absurd cc
-read_alone (refusals.Hex fault) h = absurd cc
-read_alone (refusals.Asm line number) h = absurd cc
-read_alone (refusals.Layout entry number) h = absurd cc
-read_alone (refusals.Keys line number) h = absurd cc
-read_alone (refusals.Cert line number) h = absurd cc
-read_alone (refusals.Script line number) h = absurd cc
-read_alone (refusals.Text at) h = absurd cc
-read_alone (refusals.Timing line number first second) h = absurd cc
-read_alone (refusals.Stuck stuck) h = absurd cc
-read_alone refusals.Memory h = absurd cc
-
-memory_alone : (refusal : Refusal) → exit_of refusal ≡ exits.Memory → refusal ≡ refusals.Memory
-memory_alone refusals.Words h = absurd cc
-memory_alone refusals.Read h = absurd cc
-memory_alone (refusals.TooLong kind) h = absurd cc
-memory_alone (refusals.Hex fault) h = absurd cc
-memory_alone (refusals.Asm line number) h = absurd cc
-memory_alone (refusals.Layout entry number) h = absurd cc
-memory_alone (refusals.Keys line number) h = absurd cc
-memory_alone (refusals.Cert line number) h = absurd cc
-memory_alone (refusals.Script line number) h = absurd cc
-memory_alone (refusals.Text at) h = absurd cc
-memory_alone (refusals.Timing line number first second) h = absurd cc
-memory_alone (refusals.Stuck stuck) h = absurd cc
-memory_alone refusals.Memory h = refl
-
 pub memory_said : (answer : Answer) → exit_said answer ≡ exits.Memory → answer ≡ Err refusals.Memory
-memory_said (Ok text) h = absurd cc
-memory_said (Err refusal) h = ap (λ (r : Refusal). Err r) (memory_alone refusal h)
+memory_said answer h = grind arith
 
--- where the shelf failed
 pub read_of : (result : Result Spoken Refusal) (y z : Shown) (exit : Exit)
     → Concludes result y z exit → exit ≡ exits.Read → result ≡ Err refusals.Read
-read_of (Ok (Text text)) y z exit h is =
-    elim h [
-      | inl same ↦ let e : exits.Done ≡ exits.Read = sym same.0 ∙ is in absurd cc
-      | inr part ↦ let e : exits.Write ≡ exits.Read = sym part.0 ∙ is in absurd cc
-    ]
-read_of (Ok (Said (Ok done))) y z exit h is = let e : exits.Done ≡ exits.Read = sym h.0 ∙ is in absurd cc
-read_of (Ok (Said (Err fault))) y z exit h is = let e : exits.Write ≡ exits.Read = sym h.0 ∙ is in absurd cc
-read_of (Ok (Stuck place)) y z exit h is =
-    elim h [
-      | inl same ↦ let e : exits.Stuck ≡ exits.Read = sym same.0 ∙ is in absurd cc
-      | inr part ↦ let e : exits.Write ≡ exits.Read = sym part.0 ∙ is in absurd cc
-    ]
-read_of (Err refusal) y z exit h is =
-    elim h [
-      | inl same ↦ ap (λ (r : Refusal). Err r) (read_alone refusal (sym same.0 ∙ is))
-      | inr part ↦ let e : exits.Write ≡ exits.Read = sym part.0 ∙ is in absurd cc
-    ]
+read_of result y z exit h is = grind arith
 
 pub read_ends : (result : Result Spoken Refusal) (y z : Shown) (exit : Exit)
     → Concludes result y z exit → result ≡ Err refusals.Read → (exit ≡ exits.Read) ⊎ (exit ≡ exits.Write)
-read_ends (Ok said) y z exit h is = absurd cc
-read_ends (Err refusal) y z exit h is =
-    let so : refusal ≡ refusals.Read = cc is in
-    elim h [ inl same ↦ inl (same.0 ∙ ap exit_of so) | inr part ↦ inr part.0 ]
+read_ends result y z exit h is = grind arith
 
 -- what is said before an answer is of whole lines
 abbrev AreLinesBefore : May → Type 0
@@ -182,25 +116,14 @@ abbrev pub MaySo : List (List ℕ) → Option Shelved → Option Shelved → Lis
 MaySo words shelf after probes left answer taking log =
     MayAnswer words shelf answer after probes (record { probes = left; taking = taking; log = log })
 
--- a call has ended so, having said this before its answer
-abbrev pub EndedAfter : List ℕ → List (List ℕ) → Option Shelved → Option Shelved → List Watch → List Watch → Shown → Shown → Exit → Type 0
-EndedAfter log words shelf after probes left x z exit =
-    (answer : Answer)
-    × MayAnswer words shelf answer after probes (record { probes = left; taking = taking_of exit x z; log = log })
-    × Says log answer x z exit
-
-abbrev pub HasEnded : List (List ℕ) → Option Shelved → Option Shelved → List Watch → List Watch → Shown → Shown → Exit → Type 0
-HasEnded words shelf after probes left x z exit = (log : List ℕ) × EndedAfter log words shelf after probes left x z exit
-
 pub has_ended : (words : List (List ℕ)) (shelf after : Option Shelved) (probes left : List Watch)
     (result : Result Spoken Refusal) (x y z : Shown) (exit : Exit)
     → IsSpoken (MaySo words shelf after probes left) result x y
-    → Concludes result y z exit → HasEnded words shelf after probes left x z exit
+    → Concludes result y z exit → Ending words shelf after probes left x z exit
 has_ended words shelf after probes left result x y z exit h k =
-    let ended = concluded (MaySo words shelf after probes left)
+    concluded (MaySo words shelf after probes left)
     (λ answer taking log may. lines_before words shelf answer after probes (record { probes = left; taking = taking; log = log }) may)
-    result x y z exit h k in
-    (ended.0, (ended.1, ended.2, ended.3))
+    result x y z exit h k
 
 -- Write comes only where a put failed, and wherever one did
 pub wrote : (log : List ℕ) (answer : Answer) (x z : Shown) (exit : Exit)

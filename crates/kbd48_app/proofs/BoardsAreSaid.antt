@@ -1,6 +1,5 @@
 -- What `board` may say of three files.
-use Rattle.std.proofs.Common.{◌≡◌, ◌<◌, ℕ, List, length, map, string_bytes, slice_index_or, String}
-use Rattle.std.proofs.Common.{Global, Some, Ok, Err, refl, sym, subst}
+use Rattle.std.proofs.Common.{◌≡◌, ℕ, List, Global, Ok, Err, refl, sym, subst}
 use Rattle.std.specs.Option.{option_map}
 use Rattle.std.specs.Result.{IsErrAnd}
 use Rattle.std.specs.declared.option.Option.{Option}
@@ -18,7 +17,6 @@ use Rattle.app_words.specs.declared.kind.Kind.TheVariants as kinds
 use Rattle.app_words.specs.declared.refusal.Refusal.{Refusal}
 use Rattle.app_answers.specs.declared.spoken.Spoken.{Spoken}
 use Rattle.app_words.specs.declared.words.BoardRun.{BoardRun}
-use Rattle.app_words.specs.declared.words.Command.TheVariants.{Board}
 use Rattle.app_answers.specs.Leaving.{Left}
 use Rattle.kbd48_app.specs.Answers.{MayEnd}
 use Rattle.app_answers.specs.Fetching.{MayGive}
@@ -28,12 +26,9 @@ use Rattle.kbd48_app.specs.Plans.{with_layout}
 use Rattle.app_answers.specs.Spoken.{IsSpoken}
 use Rattle.app_answers.specs.Taking.{Taking}
 use Rattle.app_boards.specs.BoardOfText.{MaySayOfBoard}
-use Rattle.app_words.specs.Words.{command_of}
 use Rattle.app_boards.proofs.BoardsAreSaid.{MayRun}
 use Rattle.kbd48_app.proofs.FilesAreFound.{end_of_history, found_so, keys_unfound}
-use Rattle.kbd48_app.proofs.WordsAreNames.{ends_over_board}
 use Rattle.kbd48_app.proofs.RunPlans.{LayoutOutcome, plan_from}
-use Rattle.kbd48_app.proofs.AnswersAreSpoken.{MaySay}
 use Rattle.app_answers.proofs.AreSpoken.{spoken_on, left_after, left_so}
 
 -- after all three files
@@ -91,22 +86,3 @@ module _ (wanted : BoardRun) (first second third : List ℕ) (shelf on mid last 
       MayEnd (program_plan (Boards wanted) first second third) shelf answer last probes (left_after probes taking log))
       (Err k) x x)
       (sym same) (without_keys, refl)
-
--- the same of the words
-pub board_spoken : (words : List (String Global)) (shelf after : Option Shelved) (wanted : BoardRun)
-    (word word' word'' : String Global) (name name' name'' : List ℕ) (probes left : List Watch)
-    (result : Result Spoken Refusal) (x y : Shown)
-    → command_of (map string_bytes words) ≡ Some (Board wanted) → 3 < length words → word ≡ slice_index_or words 1 word
-    → word' ≡ slice_index_or words 2 word'
-    → word'' ≡ slice_index_or words 3 word'' → name ≡ string_bytes word → name' ≡ string_bytes word' → name'' ≡ string_bytes word''
-    → IsSpoken (λ answer taking log.
-    MayEnd (program_plan (Boards wanted) name name' name'') shelf answer after probes (left_after left taking log)) result x y
-    → IsSpoken (MaySay words shelf after probes left) result x y
-board_spoken words shelf after wanted word word' word'' name name' name'' probes left result x y is more at at' at'' same same' same'' h =
-    spoken_on (λ answer taking log.
-    MayEnd (program_plan (Boards wanted) name name' name'') shelf answer after probes (left_after left taking log))
-    (MaySay words shelf after probes left)
-    (λ answer taking log k.
-    ends_over_board words wanted word word' word'' name name' name'' shelf after answer probes
-    (left_after left taking log) is more at at' at'' same same' same'' k)
-    result x y h

@@ -1,5 +1,5 @@
 -- The fetches that were made.
-use Rattle.std.proofs.Common.{◌≡◌, ℕ, suc, ◌<◌, ◌≤◌, List, [], ◌∷◌, length, Some, None, Err, inl, inr, refl, ap, subst, ◌∙◌, ◌⊎◌, arith}
+use Rattle.std.proofs.Common.{IfSome, ◌≡◌, ℕ, suc, ◌<◌, ◌≤◌, List, [], ◌∷◌, length, Some, None, Err, inl, inr, refl, ap, subst, ◌∙◌, ◌⊎◌, arith}
 use Rattle.std.specs.declared.option.Option.{Option}
 use Rattle.board_probes.specs.Probes.{Watch}
 use Rattle.io_edge.specs.Said.{Shown}
@@ -7,15 +7,16 @@ use Rattle.io_edge.specs.Shelf.{Shelved, Fetched, Fails, Long, Found, after_fetc
 use Rattle.app_words.specs.declared.exit.Exit.{Exit}
 use Rattle.app_words.specs.declared.kind.Kind.{Kind}
 use Rattle.app_words.specs.declared.refusal.Refusal.TheVariants.{Read, TooLong, Memory}
-use Rattle.app_words.specs.declared.words.Command.{Command}
-use Rattle.kbd48_app.specs.Answers.{OnFetched, MayEnd, MayEndAs, MayAnswer}
+use Rattle.kbd48_app.specs.Answers.{OnFetched, MayEnd}
 use Rattle.app_answers.specs.Leaving.{Left}
 use Rattle.app_words.specs.Kinds.{limit_of}
 use Rattle.app_answers.specs.FileAnswers.{Answer}
-use Rattle.kbd48_app.specs.Plans.{Plan, Gives, Certifies, Runs, Boards, Samples, Debugs, Fetches, plan, plan_of, Spells}
+use Rattle.kbd48_app.specs.Plans.{Plan, Gives, Certifies, Fetches, plan, Spells}
 use Rattle.kbd48_app.specs.Reached.{on_fetched, fetches_of, after_fetches, Makes}
 use Rattle.app_answers.specs.Says.{Says, exit_said}
 use Rattle.app_words.specs.Words.{command_of}
+use Rattle.kbd48_app.proofs.PlansEnd.{Ending, as_plan}
+use Rattle.app_answers.specs.Taking.{taking_of}
 
 -- the same by the answer: all of them, or the first ones where memory was lacking
 abbrev MakesSo : List (List ℕ × ℕ) → Shelved → Option Shelved → Answer → Type 0
@@ -56,10 +57,6 @@ made : (p : Plan) (shelf : Shelved) (answer : Answer) (after : Option Shelved) (
 made (Gives said) shelf answer after probes left h = (0, omega arith, h.1.0, inl refl)
 made (Certifies image text) shelf answer after probes left h = (0, omega arith, h.1.0, inl refl)
 made (Spells layout text) shelf answer after probes left h = (0, omega arith, h.1.0, inl refl)
-made (Runs command layout history) shelf answer after probes left h = (0, omega arith, h.1, inl refl)
-made (Boards wanted image history) shelf answer after probes left h = (0, omega arith, h.1, inl refl)
-made (Samples count) shelf answer after probes left h = (0, omega arith, h.1, inl refl)
-made (Debugs s script) shelf answer after probes left h = (0, omega arith, h.1, inl refl)
 made (Fetches kind name next) shelf answer after probes left h =
     let on : List ℕ → Type 0 = λ bytes. MayEnd (next bytes) (Some (after_fetch shelf)) answer after probes left in
     let end : Type 0 = (after ≡ Some (after_fetch shelf)) × (left.probes ≡ probes) × (left.log ≡ []) in
@@ -69,12 +66,7 @@ made (Fetches kind name next) shelf answer after probes left h =
     (subst (λ (o : Fetched).
     OnFetched ((answer ≡ Err Read) × end) ((answer ≡ Err (TooLong kind)) × end) (λ bytes. ((answer ≡ Err Memory) × end) ⊎ on bytes) o)
     h.1 h.2)
-
-made_as : (command : Option Command) (words : List (List ℕ)) (shelf : Shelved) (answer : Answer) (after : Option Shelved) (probes : List Watch)
-    (left : Left)
-    → MayEndAs command words (Some shelf) answer after probes left → MakesSo (fetches_of (plan_of command words) shelf) shelf after answer
-made_as None words shelf answer after probes left h = (0, omega arith, h.1.0, inl refl)
-made_as (Some command) words shelf answer after probes left h = made (plan_of (Some command) words) shelf answer after probes left h
+made leaf shelf answer after probes left h = (0, omega arith, h.1, inl refl)
 
 by_exit : (fetches : List (List ℕ × ℕ)) (shelf : Shelved) (after : Option Shelved) (log : List ℕ) (answer : Answer) (taken taken' : Shown)
     (exit : Exit) → Says log answer taken taken' exit → MakesSo fetches shelf after answer → Makes fetches shelf after exit
@@ -88,9 +80,14 @@ by_exit fetches shelf after log answer taken taken' exit says h = (
   ],
 )
 
-pub makes : (words : List (List ℕ)) (shelf : Shelved) (taken taken' : Shown) (exit : Exit) (after : Option Shelved) (probes : List Watch)
-    (left : Left) → (answer : Answer) × MayAnswer words (Some shelf) answer after probes left × Says left.log answer taken taken' exit
-    → Makes (fetches_of (plan words) shelf) shelf after exit
-makes words shelf taken taken' exit after probes left h =
-    by_exit (fetches_of (plan words) shelf) shelf after left.log h.0 taken taken' exit h.2
-    (made_as (command_of words) words shelf h.0 after probes left h.1)
+pub makes : (words : List (List ℕ)) (shelf : Shelved) (after : Option Shelved) (probes left : List Watch) (first last : Shown) (exit : Exit)
+    → Ending words (Some shelf) after probes left first last exit → Makes (fetches_of (plan words) shelf) shelf after exit
+makes words shelf after probes left first last exit h =
+    let kept : Left = record { probes = left; taking = taking_of exit first last; log = h.0 } in
+    by_exit (fetches_of (plan words) shelf) shelf after h.0 h.1 first last exit h.3
+    (made (plan words) shelf h.1 after probes kept (as_plan (command_of words) words (Some shelf) h.1 after probes kept h.2))
+
+pub made_over : (words : List (List ℕ)) (shelf after : Option Shelved) (probes left : List Watch) (first last : Shown) (exit : Exit)
+    → Ending words shelf after probes left first last exit → IfSome shelf (λ known. Makes (fetches_of (plan words) known) known after exit)
+made_over words None after probes left first last exit h = tt
+made_over words (Some shelf) after probes left first last exit h = makes words shelf after probes left first last exit h

@@ -25,7 +25,7 @@ use Rattle.app_words.specs.Kinds.{limit_of}
 use Rattle.app_answers.specs.FileAnswers.{Answer}
 use Rattle.kbd48_app.specs.Plans.{Plan, Debugs, Fetches, history_plan, keys_next, program_next}
 use Rattle.kbd48_app.specs.Plans.{program_plan, script_next, with_history, with_image, with_layout}
-use Rattle.kbd48_app.proofs.ProgramPlans.{Afterwards, program_from}
+use Rattle.kbd48_app.proofs.RunPlans.{Afterwards, program_from}
 use Rattle.kbd48_app.proofs.RunPlans.{Following, HistoryOutcome, LayoutOutcome, plan_from}
 
 found_by : (kind : Kind) (name : List ℕ) (next : List ℕ → Plan) (shelf on after : Option Shelved) (answer : Answer) (probes : List Watch)

@@ -5,13 +5,10 @@ use Rattle.std.specs.declared.option.Option.{Option}
 use Rattle.board_probes.specs.Probes.{Watch}
 use Rattle.io_edge.specs.Shelf.{Shelved, Fetched, Fails, Long, Found, after_fetch, fetched}
 use Rattle.key_file.specs.Histories.{KeyHistory}
-use Rattle.key_file.specs.KeyFile.{history_of}
-use Rattle.layout_reader.specs.Documents.{layout_of_document}
 use Rattle.layout_reader.specs.Layouts.{KeyLayout}
 use Rattle.app_words.specs.declared.kind.Kind.{Kind}
-use Rattle.app_words.specs.declared.kind.Kind.TheVariants as kinds
 use Rattle.app_words.specs.declared.refusal.Refusal.{Refusal}
-use Rattle.app_words.specs.declared.refusal.Refusal.TheVariants.{Layout, Read, TooLong, Memory}
+use Rattle.app_words.specs.declared.refusal.Refusal.TheVariants.{Read, TooLong, Memory}
 use Rattle.app_words.specs.declared.words.PairCommand.TheVariants.{OverRun}
 use Rattle.app_words.specs.declared.words.RunCommand.{RunCommand}
 use Rattle.app_answers.specs.Answers.{MayAnswerOf}
@@ -19,9 +16,8 @@ use Rattle.app_runs.specs.RunAnswers.{MayAnswerRun}
 use Rattle.kbd48_app.specs.Answers.{MayEnd, OnFetched}
 use Rattle.app_answers.specs.Leaving.{Left}
 use Rattle.app_words.specs.Kinds.{limit_of}
-use Rattle.kbd48_app.specs.Plans.{Plan, Fetches, Runs, keys_next, pair_plan, with_history, with_layout}
-use Rattle.app_answers.specs.FileAnswers.{keys_refusal}
-use Rattle.kbd48_app.proofs.RunPlans.{HistoryOutcome, LayoutOutcome, plan_from}
+use Rattle.kbd48_app.specs.Plans.{Plan, Fetches, Gives, Runs, pair_plan}
+use Rattle.kbd48_app.proofs.PlansTogether.{histories}
 
 -- a text is no refusal
 pub no_refusal : (text : List ℕ) (refusal : Refusal) → Ok text ≡ Err refusal → ⊥
@@ -69,25 +65,12 @@ fetch_one kind name next other h shelf a b after later probes left others e k =
     (subst (λ (o : Fetched). OnFetched ((Ok a ≡ Err Read) × end) ((Ok a ≡ Err (TooLong kind)) × end) f o) e.1 e.2)
     (subst (λ (o : Fetched). OnFetched ((Ok b ≡ Err Read) × end') ((Ok b ≡ Err (TooLong kind)) × end') g o) k.1 k.2)
 
-module _ (c d : RunCommand)
-    (h : (layout : KeyLayout) (history : KeyHistory) (a b : List ℕ) (probes : List Watch) (left others : Left)
-    → MayAnswerRun c layout history (Ok a) probes left → MayAnswerRun d layout history (Ok b) probes others → a ≡ b) where
-  -- after the key file
-  history_one : (layout : KeyLayout) (outcome : HistoryOutcome)
-      → PrintsOne (with_history (Runs c layout) outcome) (with_history (Runs d layout) outcome)
-  history_one layout (Ok history) shelf a b after later probes left others e k = h layout history a b probes left others e.0 k.0
-  history_one layout (Err fault) shelf a b after later probes left others e k = no_text a b a (keys_refusal fault) e.0
+refused_one : (refusal : Refusal) → PrintsOne (Gives (Err refusal)) (Gives (Err refusal))
+refused_one refusal shelf a b after later probes left others e k = no_text a b a refusal e.0
 
-  -- after the layout
-  layout_one : (keys : List ℕ) (outcome : LayoutOutcome)
-      → PrintsOne (with_layout (keys_next (Runs c) keys) outcome) (with_layout (keys_next (Runs d) keys) outcome)
-  layout_one keys (Ok layout) shelf a b after later probes left others e k =
-      fetch_one kinds.Keys keys (λ text. with_history (Runs c layout) (history_of layout text))
-      (λ text. with_history (Runs d layout) (history_of layout text))
-      (λ text. history_one layout (history_of layout text)) shelf a b after later probes left others e k
-  layout_one keys (Err fault) shelf a b after later probes left others e k = no_text a b a (Layout fault.entry fault.number) e.0
-
-  pub pairs_one : (layout keys : List ℕ) → PrintsOne (pair_plan (OverRun c) layout keys) (pair_plan (OverRun d) layout keys)
-  pairs_one layout keys =
-      fetch_one kinds.Layout layout (plan_from (Runs c) keys) (plan_from (Runs d) keys)
-      (λ bytes. layout_one keys (layout_of_document bytes))
+pub pairs_one : (c d : RunCommand)
+    → ((layout : KeyLayout) (history : KeyHistory) (a b : List ℕ) (probes : List Watch) (left others : Left)
+    → MayAnswerRun c layout history (Ok a) probes left → MayAnswerRun d layout history (Ok b) probes others → a ≡ b)
+    → (layout keys : List ℕ) → PrintsOne (pair_plan (OverRun c) layout keys) (pair_plan (OverRun d) layout keys)
+pairs_one c d h = histories PrintsOne fetch_one (λ refusal other. refused_one refusal) (Runs c) (Runs d)
+    (λ layout history shelf a b after later probes left others e k. h layout history a b probes left others e.0 k.0)

@@ -1,15 +1,12 @@
 -- Two commands over a layout and a key file that differ only in what they say of the run.
-use Rattle.std.proofs.Common.{◌≡◌, ◌⊎◌, ℕ, List, Ok, Err, inl, inr}
+use Rattle.std.proofs.Common.{◌≡◌, ◌⊎◌, ℕ, List, Err, inl, inr}
 use Rattle.std.specs.Option.{option_map}
 use Rattle.std.specs.declared.option.Option.{Option}
 use Rattle.board_probes.specs.Probes.{Watch}
 use Rattle.io_edge.specs.Shelf.{Shelved, Fetched, Fails, Long, Found, after_fetch}
 use Rattle.key_file.specs.Histories.{KeyHistory}
-use Rattle.key_file.specs.KeyFile.{history_of}
-use Rattle.layout_reader.specs.Documents.{layout_of_document}
 use Rattle.layout_reader.specs.Layouts.{KeyLayout}
 use Rattle.app_words.specs.declared.kind.Kind.{Kind}
-use Rattle.app_words.specs.declared.kind.Kind.TheVariants as kinds
 use Rattle.app_words.specs.declared.refusal.Refusal.TheVariants.{Read, TooLong, Memory}
 use Rattle.app_words.specs.declared.words.PairCommand.TheVariants.{OverRun}
 use Rattle.app_words.specs.declared.words.RunCommand.{RunCommand}
@@ -19,8 +16,8 @@ use Rattle.app_answers.specs.Fetching.{MayFetch}
 use Rattle.app_words.specs.Kinds.{limit_of}
 use Rattle.kbd48_app.specs.PrintAlike.{leaving}
 use Rattle.app_answers.specs.FileAnswers.{Answer}
-use Rattle.kbd48_app.specs.Plans.{Plan, Fetches, Runs, keys_next, pair_plan, with_history, with_layout}
-use Rattle.kbd48_app.proofs.RunPlans.{HistoryOutcome, LayoutOutcome, plan_from}
+use Rattle.kbd48_app.specs.Plans.{Plan, Fetches, Runs, pair_plan}
+use Rattle.kbd48_app.proofs.PlansTogether.{histories}
 
 -- one plan may end with what another may, over `R`, which says of an answer how the probes are left by the other and by it
 abbrev pub EndsAlike : (Answer → List Watch → List Watch → Type 0) → Plan → Plan → Type 0
@@ -51,27 +48,12 @@ module _ (R : Answer → List Watch → List Watch → Type 0) (same : (answer :
   fetch_alike kind name next other h shelf answer after probes left e =
       fetch_by kind name next other h shelf answer after probes left e.0 e.1 e.2
 
-  module _ (c d : RunCommand)
-      (h : (layout : KeyLayout) (history : KeyHistory) (answer : Answer) (probes left : List Watch)
+  pub pairs_alike : (c d : RunCommand)
+      → ((layout : KeyLayout) (history : KeyHistory) (answer : Answer) (probes left : List Watch)
       → MayAnswerRun c layout history answer probes (leaving left)
-      → (kept : List Watch) × MayAnswerRun d layout history answer probes (leaving kept) × R answer kept left) where
-    -- after the key file
-    history_alike : (layout : KeyLayout) (outcome : HistoryOutcome)
-        → EndsAlike R (with_history (Runs c layout) outcome) (with_history (Runs d layout) outcome)
-    history_alike layout (Ok history) shelf answer after probes left e =
-        let k = h layout history answer probes left e.0 in (k.0, (k.1, e.1, e.2), k.2)
-    history_alike layout (Err fault) shelf answer after probes left e = (left, e, same answer left)
-
-    -- after the layout
-    layout_alike : (keys : List ℕ) (outcome : LayoutOutcome)
-        → EndsAlike R (with_layout (keys_next (Runs c) keys) outcome) (with_layout (keys_next (Runs d) keys) outcome)
-    layout_alike keys (Ok layout) shelf answer after probes left e =
-        fetch_alike kinds.Keys keys (λ text. with_history (Runs c layout) (history_of layout text))
-        (λ text. with_history (Runs d layout) (history_of layout text))
-        (λ text. history_alike layout (history_of layout text)) shelf answer after probes left e
-    layout_alike keys (Err fault) shelf answer after probes left e = (left, e, same answer left)
-
-    pub pairs_alike : (layout keys : List ℕ) → EndsAlike R (pair_plan (OverRun c) layout keys) (pair_plan (OverRun d) layout keys)
-    pairs_alike layout keys =
-        fetch_alike kinds.Layout layout (plan_from (Runs c) keys) (plan_from (Runs d) keys)
-        (λ bytes. layout_alike keys (layout_of_document bytes))
+      → (kept : List Watch) × MayAnswerRun d layout history answer probes (leaving kept) × R answer kept left)
+      → (layout keys : List ℕ) → EndsAlike R (pair_plan (OverRun c) layout keys) (pair_plan (OverRun d) layout keys)
+  pairs_alike c d h = histories (EndsAlike R) fetch_alike (λ refusal other shelf answer after probes left e. (left, e, same answer left))
+      (Runs c) (Runs d)
+      (λ layout history shelf answer after probes left e.
+      let k = h layout history answer probes left e.0 in (k.0, (k.1, e.1, e.2), k.2))

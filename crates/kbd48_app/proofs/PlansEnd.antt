@@ -1,5 +1,6 @@
 -- How a plan ends over a shelf whose files are known.
 use Rattle.std.proofs.Common.{◌≡◌, ℕ, Bool, true, false, List, [], length, Some, None, Err, inl, inr, refl, ap, subst, sym, ◌∙◌, ◌⊎◌}
+use Rattle.std.specs.Option.{option_map}
 use Rattle.std.specs.declared.option.Option.{Option}
 use Rattle.board_run.proofs.EndOf.{end_found, end_of}
 use Rattle.board_run.specs.BoardOutcomes.{Outcome}
@@ -17,7 +18,7 @@ use Rattle.app_words.specs.declared.kind.Kind.{Kind}
 use Rattle.app_words.specs.declared.refusal.Refusal.TheVariants.{Read, TooLong, Memory}
 use Rattle.app_words.specs.declared.words.BoardCommand.{BoardCommand}
 use Rattle.app_words.specs.declared.words.Command.{Command}
-use Rattle.kbd48_app.specs.Answers.{OnFetched, MayEnd, MayEndAs, MayAnswer}
+use Rattle.kbd48_app.specs.Answers.{IsKept, OnFetched, MayEnd, MayEndAs, MayAnswer}
 use Rattle.app_answers.specs.Answers.{MayAnswerOf, MayAnswerText}
 use Rattle.app_boards.specs.SessionAnswers.{MayAnswerSession}
 use Rattle.app_answers.specs.Leaving.{Left}
@@ -29,6 +30,7 @@ use Rattle.app_answers.specs.FileAnswers.{Answer}
 use Rattle.kbd48_app.specs.Plans.{Plan, Gives, Certifies, Runs, Boards, Samples, Debugs, Fetches, plan, plan_of, Spells}
 use Rattle.kbd48_app.specs.Reached.{on_fetched, may_lack}
 use Rattle.app_answers.specs.Says.{Says, exit_said}
+use Rattle.app_answers.specs.Taking.{taking_of}
 use Rattle.app_words.specs.Words.{command_of}
 
 -- the exit of a script or a text, by its first fault
@@ -57,6 +59,32 @@ leads n (Samples count) shelf = exits.Done
 leads n (Debugs s script) shelf = exit_by (script_fault n script)
 leads n (Fetches kind name next) shelf =
     on_fetched exits.Read exits.Input (λ bytes. leads n (next bytes) (after_fetch shelf)) (fetched shelf name (limit_of kind))
+
+-- a fetch ends a plan with one of three refusals, and nothing else is done; or the plan goes on
+abbrev pub IsCut : Kind → Answer → Type 0
+IsCut kind answer = (answer ≡ Err Read) ⊎ (answer ≡ Err (TooLong kind)) ⊎ (answer ≡ Err Memory)
+
+ends_by : (kind : Kind) (answer : Answer) (kept : Type 0) (on : List ℕ → Type 0) (outcome : Fetched)
+    → OnFetched ((answer ≡ Err Read) × kept) ((answer ≡ Err (TooLong kind)) × kept) (λ bytes. ((answer ≡ Err Memory) × kept) ⊎ on bytes)
+    outcome → (IsCut kind answer × kept) ⊎ ((bytes : List ℕ) × on bytes)
+ends_by kind answer kept on Fails h = inl (inl h.0, h.1)
+ends_by kind answer kept on Long h = inl (inr (inl h.0), h.1)
+ends_by kind answer kept on (Found bytes) h = elim h [ inl memory ↦ inl (inr (inr memory.0), memory.1) | inr more ↦ inr (bytes, more) ]
+
+pub fetch_ends : (kind : Kind) (name : List ℕ) (next : List ℕ → Plan) (shelf : Option Shelved) (answer : Answer) (after : Option Shelved)
+    (probes : List Watch) (left : Left) → MayEnd (Fetches kind name next) shelf answer after probes left
+    → (IsCut kind answer × IsKept (option_map after_fetch shelf) after probes left)
+    ⊎ ((bytes : List ℕ) × MayEnd (next bytes) (option_map after_fetch shelf) answer after probes left)
+fetch_ends kind name next shelf answer after probes left h =
+    ends_by kind answer (IsKept (option_map after_fetch shelf) after probes left)
+    (λ bytes. MayEnd (next bytes) (option_map after_fetch shelf) answer after probes left) h.0 h.2
+
+-- words without a command have a plan too
+pub as_plan : (command : Option Command) (words : List (List ℕ)) (shelf : Option Shelved) (answer : Answer) (after : Option Shelved)
+    (probes : List Watch) (left : Left)
+    → MayEndAs command words shelf answer after probes left → MayEnd (plan_of command words) shelf answer after probes left
+as_plan None words shelf answer after probes left h = (inr h.0, h.1)
+as_plan (Some command) words shelf answer after probes left h = h
 
 -- an answer's exit is the one that a plan leads to, or memory was lacking
 abbrev pub IsLed : Exit → Bool → Answer → Type 0
@@ -92,24 +120,33 @@ text_led layout text answer h =
       ]
     ]
 
-pub ends_so : (p : Plan) (shelf : Shelved) (answer : Answer) (after : Option Shelved) (probes : List Watch) (left : Left)
-    → MayEnd p (Some shelf) answer after probes left → IsLed (leads (length probes) p shelf) (may_lack p shelf) answer
-ends_so (Gives said) shelf answer after probes left h = said_led said answer h.0
-ends_so (Certifies image text) shelf answer after probes left h = said_led (cert_said image text) answer h.0.0
-ends_so (Spells layout text) shelf answer after probes left h = text_led layout text answer h.0
-ends_so (Runs command layout history) shelf answer after probes left h =
+abbrev pub IsLeaf : Plan → Type 0
+IsLeaf (Fetches kind name next) = ⊥
+IsLeaf leaf = Unit {0}
+
+-- what comes after the files has its exit whatever shelf there is
+pub leaf_ends : (p : Plan) (some : Shelved) (shelf : Option Shelved) (answer : Answer) (after : Option Shelved) (probes : List Watch)
+    (left : Left) → IsLeaf p → MayEnd p shelf answer after probes left → IsLed (leads (length probes) p some) true answer
+leaf_ends (Fetches kind name next) some shelf answer after probes left leaf h = absurd leaf
+leaf_ends (Gives said) some shelf answer after probes left leaf h = said_led said answer h.0
+leaf_ends (Certifies image text) some shelf answer after probes left leaf h = said_led (cert_said image text) answer h.0.0
+leaf_ends (Spells layout text) some shelf answer after probes left leaf h = text_led layout text answer h.0
+leaf_ends (Runs command layout history) some shelf answer after probes left leaf h =
     elim h.0 [ inl memory ↦ inr (memory.0, refl) | inr said ↦ inl (ap exit_said said.3) ]
-ends_so (Boards wanted image history) shelf answer after probes left h =
+leaf_ends (Boards wanted image history) some shelf answer after probes left leaf h =
     elim h.0 [
       | inl memory ↦ inr (memory.0, refl)
       | inr reported ↦
           let led = ap board_exit (end_found (board_story wanted image history) reported.0 reported.1) in
           inl (ap exit_said reported.3 ∙ board_led wanted.prints_what reported.0 reported.0.end ∙ sym led)
     ]
-ends_so (Samples count) shelf answer after probes left h =
+leaf_ends (Samples count) some shelf answer after probes left leaf h =
     elim h.0 [ inl memory ↦ inr (memory.0, refl) | inr said ↦ inl (ap exit_said said.3) ]
-ends_so (Debugs s script) shelf answer after probes left h =
+leaf_ends (Debugs s script) some shelf answer after probes left leaf h =
     session_led (script_fault (length probes) script) s script answer probes left h.0
+
+pub ends_so : (p : Plan) (shelf : Shelved) (answer : Answer) (after : Option Shelved) (probes : List Watch) (left : Left)
+    → MayEnd p (Some shelf) answer after probes left → IsLed (leads (length probes) p shelf) (may_lack p shelf) answer
 ends_so (Fetches kind name next) shelf answer after probes left h =
     let on : List ℕ → Type 0 = λ bytes. MayEnd (next bytes) (Some (after_fetch shelf)) answer after probes left in
     let exit : List ℕ → Exit = λ bytes. leads (length probes) (next bytes) (after_fetch shelf) in
@@ -122,24 +159,27 @@ ends_so (Fetches kind name next) shelf answer after probes left h =
     (subst (λ (o : Fetched).
     OnFetched ((answer ≡ Err Read) × end) ((answer ≡ Err (TooLong kind)) × end) (λ bytes. ((answer ≡ Err Memory) × end) ⊎ on bytes) o)
     h.1 h.2)
+ends_so leaf shelf answer after probes left h = leaf_ends leaf shelf (Some shelf) answer after probes left tt h
 
-ends_as : (command : Option Command) (words : List (List ℕ)) (shelf : Shelved) (answer : Answer) (after : Option Shelved) (probes : List Watch)
-    (left : Left) → MayEndAs command words (Some shelf) answer after probes left
-    → IsLed (leads (length probes) (plan_of command words) shelf) (may_lack (plan_of command words) shelf) answer
-ends_as None words shelf answer after probes left h = inl (ap exit_said h.0)
-ends_as (Some command) words shelf answer after probes left h = ends_so (plan_of (Some command) words) shelf answer after probes left h
+-- a call has ended so, as the top call says
+abbrev pub Ending : List (List ℕ) → Option Shelved → Option Shelved → List Watch → List Watch → Shown → Shown → Exit → Type 0
+Ending words shelf after probes left first last exit =
+    (log : List ℕ) × (answer : Answer)
+    × MayAnswer words shelf answer after probes (record { probes = left; taking = taking_of exit first last; log = log })
+    × Says log answer first last exit
 
 -- the exit is the one that the plan leads to, or memory was lacking, or the sink failed
 abbrev pub IsExit : Exit → Bool → Exit → Type 0
 IsExit led lack exit = (exit ≡ led) ⊎ ((exit ≡ exits.Memory) × (lack ≡ true)) ⊎ (exit ≡ exits.Write)
 
-pub exits_so : (words : List (List ℕ)) (shelf : Shelved) (taken taken' : Shown) (exit : Exit) (after : Option Shelved) (probes : List Watch)
-    (left : Left) → (answer : Answer) × MayAnswer words (Some shelf) answer after probes left × Says left.log answer taken taken' exit
+pub exits_so : (words : List (List ℕ)) (shelf : Shelved) (after : Option Shelved) (probes left : List Watch) (first last : Shown)
+    (exit : Exit) → Ending words (Some shelf) after probes left first last exit
     → IsExit (leads (length probes) (plan words) shelf) (may_lack (plan words) shelf) exit
-exits_so words shelf taken taken' exit after probes left h =
-    elim h.2 [
+exits_so words shelf after probes left first last exit h =
+    let kept : Left = record { probes = left; taking = taking_of exit first last; log = h.0 } in
+    elim h.3 [
       | inl whole ↦
-          elim (ends_as (command_of words) words shelf h.0 after probes left h.1) [
+          elim (ends_so (plan words) shelf h.1 after probes kept (as_plan (command_of words) words (Some shelf) h.1 after probes kept h.2)) [
             | inl same ↦ inl (whole.0 ∙ same)
             | inr memory ↦ inr (inl (whole.0 ∙ ap exit_said memory.0, memory.1))
           ]

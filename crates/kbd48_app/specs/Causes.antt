@@ -35,48 +35,6 @@ use Rattle.kbd48_app.specs.Plans.{Plan}
 use Rattle.kbd48_app.specs.Reached.{IsTooLong, Reads}
 use Rattle.app_answers.specs.Stepping.{Stopped, after_steps}
 
--- a HEX file is reached, and this is its first fault
-abbrev pub HasHexFault : HexFault → Plan → Shelved → Type 0
-HasHexFault fault plan shelf = (bytes : List ℕ) × Reads Hex bytes plan shelf × (hex_of bytes ≡ Err fault)
-
--- a source is reached, and this is its first fault, with its line
-abbrev pub HasAsmFault : ℕ × ℕ → Plan → Shelved → Type 0
-HasAsmFault fault plan shelf = (bytes : List ℕ) × Reads Asm bytes plan shelf × (assembly_of bytes ≡ Err fault)
-
--- a layout is reached, and this is its first fault, with its entry
-abbrev pub HasLayoutFault : LayoutRefusal → Plan → Shelved → Type 0
-HasLayoutFault fault plan shelf =
-    (bytes : List ℕ) × Reads Layout bytes plan shelf × (layout_of_document bytes ≡ Err fault)
-
--- a certificate is reached, for the image of a HEX file, and this is its first fault, with its line
-abbrev pub HasCertFault : ℕ × ℕ → Plan → Shelved → Type 0
-HasCertFault fault plan shelf =
-    (bytes : List ℕ) × Reads Hex bytes plan shelf × (image : List ℕ) × (hex_of bytes ≡ Ok image)
-    × (text : List ℕ) × Reads Cert text plan shelf × (cert_said image text ≡ Err (refusals.Cert fault.0 fault.1))
-
--- a key file is reached, for the layout of a document, and this is its first fault, with its line
-abbrev pub HasKeyFault : KeyFault → Plan → Shelved → Type 0
-HasKeyFault fault plan shelf =
-    (bytes : List ℕ) × Reads Layout bytes plan shelf × (layout : KeyLayout) × (layout_of_document bytes ≡ Ok layout)
-    × (text : List ℕ) × Reads Keys text plan shelf × (history_of layout text ≡ Err fault)
-
--- one of time, with two stamps
-abbrev pub IsUntimely : Plan → Shelved → Type 0
-IsUntimely plan shelf =
-    (fault : ℕ × ℕ) × (stamps : ℕ × ℕ) × HasKeyFault (TimingFault fault.0 fault.1 stamps.0 stamps.1) plan shelf
-
--- a script is reached, and this is its first fault, with its line, if there are so many probes
-abbrev pub HasScriptFault : ℕ → ℕ × ℕ → Plan → Shelved → Type 0
-HasScriptFault probes fault plan shelf =
-    (script : List ℕ) × Reads Script script plan shelf × (script_fault probes script ≡ Some fault)
-
--- a text is reached, for the layout of a document, and this is its first byte without a key: its number, from 1, and
--- the byte
-abbrev pub HasTextFault : ℕ × ℕ → Plan → Shelved → Type 0
-HasTextFault fault plan shelf =
-    (bytes : List ℕ) × Reads Layout bytes plan shelf × (layout : KeyLayout) × (layout_of_document bytes ≡ Ok layout)
-    × (text : List ℕ) × Reads Text text plan shelf × (first_without layout text ≡ Some fault)
-
 -- a first fault, by the kind of its file
 pub data Fault : Type 0 where
   InHex : HexFault → Fault
@@ -89,23 +47,35 @@ pub data Fault : Type 0 where
 
 -- its exit
 abbrev pub exit_at : Fault → Exit
-exit_at (InHex fault) = exits.Input
-exit_at (InAsm fault) = exits.Input
-exit_at (InLayout fault) = exits.Input
-exit_at (InCert fault) = exits.Input
 exit_at (InKeys fault) = exit_of (keys_refusal fault)
-exit_at (InScript fault) = exits.Input
-exit_at (InText fault) = exits.Input
+exit_at fault = exits.Input
 
--- the file is reached, and this is its first fault, if there are so many probes
+-- a file is read that has this first fault, if there are so many probes; `read` says of each kind which files are read.
+-- A certificate is judged for the image of a HEX file, and a key file and a text for the layout of a document. A fault
+-- comes with its line, or its entry; that of a text is its first byte without a key, with its number, from 1
+abbrev pub IsFault : ℕ → Fault → (Kind → List ℕ → Type 0) → Type 0
+IsFault n (InHex fault) read = (bytes : List ℕ) × read Hex bytes × (hex_of bytes ≡ Err fault)
+IsFault n (InAsm fault) read = (bytes : List ℕ) × read Asm bytes × (assembly_of bytes ≡ Err fault)
+IsFault n (InLayout fault) read = (bytes : List ℕ) × read Layout bytes × (layout_of_document bytes ≡ Err fault)
+IsFault n (InCert fault) read =
+    (bytes : List ℕ) × read Hex bytes × (image : List ℕ) × (hex_of bytes ≡ Ok image)
+    × (text : List ℕ) × read Cert text × (cert_said image text ≡ Err (refusals.Cert fault.0 fault.1))
+IsFault n (InKeys fault) read =
+    (bytes : List ℕ) × read Layout bytes × (layout : KeyLayout) × (layout_of_document bytes ≡ Ok layout)
+    × (text : List ℕ) × read Keys text × (history_of layout text ≡ Err fault)
+IsFault n (InScript fault) read = (script : List ℕ) × read Script script × (script_fault n script ≡ Some fault)
+IsFault n (InText fault) read =
+    (bytes : List ℕ) × read Layout bytes × (layout : KeyLayout) × (layout_of_document bytes ≡ Ok layout)
+    × (text : List ℕ) × read Text text × (first_without layout text ≡ Some fault)
+
+-- a plan reaches such a file
 abbrev pub HasFault : ℕ → Fault → Plan → Shelved → Type 0
-HasFault n (InHex fault) plan shelf = HasHexFault fault plan shelf
-HasFault n (InAsm fault) plan shelf = HasAsmFault fault plan shelf
-HasFault n (InLayout fault) plan shelf = HasLayoutFault fault plan shelf
-HasFault n (InCert fault) plan shelf = HasCertFault fault plan shelf
-HasFault n (InKeys fault) plan shelf = HasKeyFault fault plan shelf
-HasFault n (InScript fault) plan shelf = HasScriptFault n fault plan shelf
-HasFault n (InText fault) plan shelf = HasTextFault fault plan shelf
+HasFault n fault plan shelf = IsFault n fault (λ kind file. Reads kind file plan shelf)
+
+-- it is a key file, and its fault one of time, with two stamps
+abbrev pub IsUntimely : Plan → Shelved → Type 0
+IsUntimely plan shelf =
+    (fault : ℕ × ℕ) × (stamps : ℕ × ℕ) × HasFault 0 (InKeys (TimingFault fault.0 fault.1 stamps.0 stamps.1)) plan shelf
 
 -- a file that is reached has too many bytes, or a first fault, which is none of time
 abbrev pub HasFileFault : ℕ → Plan → Shelved → Type 0
@@ -114,29 +84,32 @@ HasFileFault probes plan shelf =
     ⊎ ((fault : Fault) × (exit_at fault ≡ exits.Input) × HasFault probes fault plan shelf)
 
 -- one of the COUNT steps of `step`, over the image of the HEX file, meets a byte without an instruction
-abbrev pub StepIsStuck : Option Command → Plan → Shelved → Type 0
-StepIsStuck command plan shelf =
+abbrev pub StepStops : Option Command → (Kind → List ℕ → Type 0) → Type 0
+StepStops command read =
     (count : ℕ) × (command ≡ Some (OverFile (Step count)))
-    × (bytes : List ℕ) × Reads Hex bytes plan shelf
+    × (bytes : List ℕ) × read Hex bytes
     × (image : List ℕ) × (hex_of bytes ≡ Ok image)
     × (stuck : Stuck) × (after_steps image count ≡ Stopped stuck)
 
 -- the run of `board`, of the image of the HEX file, in a part that holds the byte of `--fill` at power-on, under the
 -- history of the key file for the layout, ends at such a byte
-abbrev pub BoardIsStuck : Option Command → Plan → Shelved → Type 0
-BoardIsStuck command plan shelf =
+abbrev pub BoardStops : Option Command → (Kind → List ℕ → Type 0) → Type 0
+BoardStops command read =
     (wanted : BoardRun) × (command ≡ Some (Board wanted))
-    × (bytes : List ℕ) × Reads Hex bytes plan shelf
+    × (bytes : List ℕ) × read Hex bytes
     × (image : List ℕ) × (hex_of bytes ≡ Ok image)
-    × (document : List ℕ) × Reads Layout document plan shelf
+    × (document : List ℕ) × read Layout document
     × (layout : KeyLayout) × (layout_of_document document ≡ Ok layout)
-    × (text : List ℕ) × Reads Keys text plan shelf
+    × (text : List ℕ) × read Keys text
     × (history : KeyHistory) × (history_of layout text ≡ Ok history)
     × (run : Outcome) × IsOutcome (board_story wanted image history) run
     × (stuck : Stuck) × (run.end ≡ BoardStuck stuck)
 
+-- one of them does, over the files that a plan reaches
 abbrev pub IsStuck : Option Command → Plan → Shelved → Type 0
-IsStuck command plan shelf = StepIsStuck command plan shelf ⊎ BoardIsStuck command plan shelf
+IsStuck command plan shelf =
+    let read : Kind → List ℕ → Type 0 = λ kind file. Reads kind file plan shelf in
+    StepStops command read ⊎ BoardStops command read
 
 -- a call ends with the exit of its cause, or with that of want of memory, or of a sink that fails
 abbrev pub MayExit : Exit → Exit → Type 0

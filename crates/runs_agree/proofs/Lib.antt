@@ -1,4 +1,3 @@
 pub mod RunsAlike
-pub mod BoardsAlike
 pub mod Sessions
 pub mod SaysBeginning

@@ -1,9 +1,7 @@
 -- A run on the board says the beginning of a layout's run.
-use Rattle.std.proofs.Common.{◌≡◌, ◌≤◌, ◌<◌, ℕ, zero, suc, ◌+◌, ◌-◌, true, false, List, [], ◌++◌}
-use Rattle.std.proofs.Common.{length, ltb, Some, refl, ap, sym, subst, ◌∙◌, arith}
+use Rattle.std.proofs.Common.{◌≡◌, ◌≤◌, ◌<◌, ℕ, zero, suc, ◌+◌, ◌-◌, true, false, List, ◌++◌}
+use Rattle.std.proofs.Common.{ltb, Some, refl, ap, sym, subst, ◌∙◌, arith}
 use Rattle.std.proofs.lemmas.Bool.Decides.{nat_tests}
-use Rattle.std.proofs.Math.Seq.{get_or-append_seam}
-use Rattle.board_terms.specs.Cadence.{listed}
 use Rattle.story_run.specs.declared.ending.End.{End}
 use Rattle.story_run.specs.declared.ending.End.TheVariants.{Over, Stuck}
 use Rattle.runs_agree.specs.Boards.{SaysRun}
@@ -15,9 +13,8 @@ use Rattle.joint_feed.proofs.Going.{same_state}
 use Rattle.joint_feed.specs.Stories.{Story, state_at}
 use Rattle.joint_run.specs.Joint.{Beside, joint_start_of}
 use Rattle.joint_run.specs.Run.{World}
-use Rattle.subsystem.proofs.Agreed.{run_last, run_starts}
+use Rattle.subsystem.proofs.Timekeeping.{reaches_end}
 use Rattle.story_run.specs.Running.{AreIn, EndsAt, GoesOnTo, is_over}
-use Rattle.story_run.specs.Starts.{starts_among}
 use Rattle.subsystem.specs.LayoutOutcomes.{lines_of}
 use Rattle.subsystem.specs.LayoutOutcomes as layout
 use Rattle.std.proofs.lemmas.List.{append_assoc}
@@ -47,27 +44,14 @@ module _ (s : Story) (t : KeepsTimeFrom (joint_start_of s.held) s.bytes s.edges 
       let below : on.1.cycle < 4096 + s.stop = grind (arith, nat_tests, open_still) in
       omega (arith, few, below)
 
-  -- the layout's run ends at the end stamp or later
-  run_reaches : (run : layout.Outcome) (q : layout.IsOutcome s run) → 4096 + s.stop ≤ q.world.cycle
-  run_reaches run q =
-      let xs = starts_among s run.steps in
-      let long = run_last s run q in
-      let last_index : length run.starts - 1 ≡ length xs = omega (arith, long) in
-      let last : listed run.starts (length run.starts - 1) ≡ q.world.cycle - 4096 =
-      ap (listed run.starts) last_index ∙ ap (λ (v : List ℕ). listed v (length xs)) (run_starts s run q)
-      ∙ get_or-append_seam xs (q.world.cycle - 4096) [] 0 in
-      let early = t.none_early run.steps q.world q.reached q.at in
-      let reaches = q.last.reaches in
-      omega (arith, last, early, reaches)
-
-  -- and not before the run on the board
+  -- a layout's run doesn't end before it
   not_shorter : (board : Outcome) (run : layout.Outcome) → IsOutcome s board → layout.IsOutcome s run → board.steps ≤ run.steps
   not_shorter board run p q =
       elim (ltb run.steps board.steps) as (λ b. ltb run.steps board.steps ≡ b → board.steps ≤ run.steps) [
         | true ↦ λ f.
             let at = on_at s Stamp board.steps run.steps p.goes_on (grind (arith, nat_tests, f)) in
             let same : q.world ≡ at.0 = same_state (sym q.reached ∙ at.1) in
-            let reaches = run_reaches run q in
+            let reaches = reaches_end s t run q in
             let over : is_over Stamp s q.world ≡ true = grind (arith, nat_tests, reaches) in
             let open_still : is_over Stamp s q.world ≡ false = ap (is_over Stamp s) same ∙ at.2 in
             absurd (cc (open_still, over))

@@ -1,9 +1,9 @@
 -- A session over a program that keeps its time ends where its run does.
 use Rattle.std.proofs.Common.{◌≡◌, ◌≤◌, ◌<◌, ℕ, zero, suc, ◌+◌, ◌-◌, Bool, true, false, ◌&&◌, List, [], ◌∷◌}
-use Rattle.std.proofs.Common.{◌++◌, length, ltb, Some, None, is_none, refl, ap, sym, ◌∙◌, arith}
+use Rattle.std.proofs.Common.{◌++◌, length, ltb, Some, None, is_none, refl, ap, ◌∙◌, arith}
 use Rattle.std.specs.Prelude.{if◌then◌else◌, nat_le, ◌||◌}
 use Rattle.std.proofs.lemmas.Bool.Decides.{nat_tests}
-use Rattle.std.proofs.lemmas.List.{get_or_append_left}
+use Rattle.std.proofs.lemmas.List.{append_assoc, get_or_append_left, length-append}
 use Rattle.std.proofs.Math.Seq.{get_or-append_seam}
 use Rattle.std.specs.declared.option.Option.{Option}
 use Rattle.board_terms.specs.Cadence.{listed}
@@ -15,11 +15,11 @@ use Rattle.joint_run.specs.Joint.{Beside, joint_start_of}
 use Rattle.joint_run.specs.Run.{World}
 use Rattle.story_run.specs.Starts.{start_stamp, starts_among}
 use Rattle.subsystem.specs.LayoutOutcomes.{IsOutcome, Outcome}
-use Rattle.subsystem.proofs.Going.{GoesOnTo, is_over}
+use Rattle.story_run.specs.declared.ending.Ending.TheVariants.{TickStart}
+use Rattle.story_run.specs.Running.{GoesOnTo, is_over}
 use Rattle.runs_agree.specs.Sessions.{EndsAfter}
-use Rattle.subsystem.proofs.Agreed.{run_last, run_starts}
+use Rattle.subsystem.proofs.Timekeeping.{reaches_end, run_last, run_starts}
 use Rattle.runs_agree.proofs.RunsAlike.{starts_stay}
-use Rattle.subsystem.proofs.Lines.{one_longer}
 use Rattle.story_run.proofs.Timekeeping.{still_near}
 
 module _ (s : Story) (t : KeepsTimeFrom (joint_start_of s.held) s.bytes s.edges s.events) (run : Outcome) (h : IsOutcome s run) where
@@ -30,32 +30,28 @@ module _ (s : Story) (t : KeepsTimeFrom (joint_start_of s.held) s.bytes s.edges 
       let early = t.none_early k w there on in
       let put : starts_among s (suc k) ≡ xs ++ (w.cycle - 4096) ∷ [] =
       ap (λ (o : Option (World Beside)). xs ++ start_stamp s o) there ∙ ap (λ b. xs ++ (if b then (w.cycle - 4096) ∷ [] else [])) on in
-      let long : length (starts_among s (suc k)) ≡ suc (length xs) = ap length put ∙ one_longer xs (w.cycle - 4096) in
-      let at : listed (starts_among s (suc k)) (length xs) ≡ w.cycle - 4096 =
-      ap (λ (v : List ℕ). listed v (length xs)) put ∙ get_or-append_seam xs (w.cycle - 4096) [] 0 in
-      let up : (run.steps - suc k) + suc k ≡ run.steps = omega (arith, below) in
-      let stay = starts_stay s (suc k) (run.steps - suc k) in
-      let few : length (starts_among s (suc k)) ≤ length (starts_among s ((run.steps - suc k) + suc k)) = stay.0 in
-      let same_length : length (starts_among s ((run.steps - suc k) + suc k)) ≡ length (starts_among s run.steps) =
-      ap (λ (n : ℕ). length (starts_among s n)) up in
+      let stay = starts_stay s (suc k) run.steps (omega (arith, below)) in
+      let all : starts_among s run.steps ≡ xs ++ (w.cycle - 4096) ∷ stay.0 =
+      stay.1 ∙ ap (λ v. v ++ stay.0) put ∙ append_assoc xs ((w.cycle - 4096) ∷ []) stay.0 in
+      let long : length (starts_among s run.steps) ≡ length xs + suc (length stay.0) =
+      ap length all ∙ length-append xs ((w.cycle - 4096) ∷ stay.0) in
       let last = run_last s run h in
-      let same : listed (starts_among s run.steps) (length xs) ≡ listed (starts_among s (suc k)) (length xs) =
-      ap (λ (n : ℕ). listed (starts_among s n) (length xs)) (sym up) ∙ stay.1 (length xs) (omega (arith, long)) in
-      let in_run : listed run.starts (length xs) ≡ listed (starts_among s run.steps) (length xs) =
+      let at : listed run.starts (length xs) ≡ w.cycle - 4096 =
       ap (λ (v : List ℕ). listed v (length xs)) (run_starts s run h)
-      ∙ get_or_append_left (starts_among s run.steps) ((h.world.cycle - 4096) ∷ []) 0 (length xs) (omega (arith, long, few, same_length)) in
-      let before = h.last.before (length xs) (omega (arith, long, few, same_length, last)) in
-      omega (arith, early, at, same, in_run, before)
+      ∙ get_or_append_left (starts_among s run.steps) ((h.world.cycle - 4096) ∷ []) 0 (length xs) (omega (arith, long))
+      ∙ ap (λ (v : List ℕ). listed v (length xs)) all ∙ get_or-append_seam xs (w.cycle - 4096) stay.0 0 in
+      let before = h.last.before (length xs) (omega (arith, long, last)) in
+      omega (arith, early, at, before)
 
   not_over : (b : Bool) (cycle : ℕ) → (b ≡ true → cycle < 4096 + s.stop) → (b && nat_le (4096 + s.stop) cycle) ≡ false
   not_over true cycle early = let l = early refl in grind (arith, nat_tests, l)
   not_over false cycle early = refl
 
   -- so the run goes on at each state before its last
-  open_before : (k : ℕ) → k < run.steps → (w : World Beside) → state_at s k ≡ Some w → is_over s w ≡ false
+  open_before : (k : ℕ) → k < run.steps → (w : World Beside) → state_at s k ≡ Some w → is_over TickStart s w ≡ false
   open_before k below w there = not_over (starts_tick s w) w.cycle (early_start k below w there)
 
-  goes_to : (k : ℕ) → k ≤ run.steps → GoesOnTo s k
+  goes_to : (k : ℕ) → k ≤ run.steps → GoesOnTo TickStart s k
   goes_to zero l = tt
   goes_to (suc k) l =
       let on = t.goes_on k in
@@ -83,20 +79,11 @@ module _ (s : Story) (t : KeepsTimeFrom (joint_start_of s.held) s.bytes s.edges 
       )
 
   -- at the last one both are over
-  over_at_end : is_over s h.world ≡ true
+  over_at_end : is_over TickStart s h.world ≡ true
   over_at_end =
-      let xs = starts_among s run.steps in
-      let w = h.world in
-      let long = run_last s run h in
-      let last_index : length run.starts - 1 ≡ length xs = omega (arith, long) in
-      let last : listed run.starts (length run.starts - 1) ≡ w.cycle - 4096 =
-      ap (listed run.starts) last_index ∙ ap (λ (v : List ℕ). listed v (length xs)) (run_starts s run h)
-      ∙ get_or-append_seam xs (w.cycle - 4096) [] 0 in
-      let early = t.none_early run.steps w h.reached h.at in
-      let reaches = h.last.reaches in
-      let at_end : 4096 + s.stop ≤ w.cycle = omega (arith, last, early, reaches) in
-      let reached : nat_le (4096 + s.stop) w.cycle ≡ true = grind (arith, nat_tests, at_end) in
-      ap (λ b. b && nat_le (4096 + s.stop) w.cycle) h.at ∙ reached
+      let at_end = reaches_end s t run h in
+      let reached : nat_le (4096 + s.stop) h.world.cycle ≡ true = grind (arith, nat_tests, at_end) in
+      ap (λ b. b && nat_le (4096 + s.stop) h.world.cycle) h.at ∙ reached
 
   none_at_end : next_state d run.steps ≡ None
   none_at_end =

@@ -1,6 +1,6 @@
--- Steps that follow one another at once.
-use Rattle.std.proofs.Common.{◌≡◌, ◌≤◌, ◌<◌, ℕ, suc, ◌+◌, ◌-◌, ◌==◌, Bool, true, false, List, [], ◌∷◌}
-use Rattle.std.proofs.Common.{◌++◌, map, leb, Some, Ok, refl, ap, sym, subst, ◌∙◌, arith}
+-- Steps that follow one another at once, of which nothing is to be reported.
+use Rattle.std.proofs.Common.{◌≡◌, ◌≤◌, ◌<◌, ℕ, suc, ◌+◌, ◌-◌, Bool, true, false, List, [], ◌∷◌, ◌++◌, map, leb, Some, refl}
+use Rattle.std.proofs.Common.{ap, sym, subst, ◌∙◌, arith}
 use Rattle.std.specs.Prelude.{if◌then◌else◌}
 use Rattle.std.proofs.lemmas.Bool.Decides.{nat_tests}
 use Rattle.std.proofs.lemmas.List.{append-nil}
@@ -15,20 +15,47 @@ use Rattle.joint_feed.specs.Course.{IsOnCourse}
 use Rattle.joint_feed.specs.Stories.{Story, state_at, starts_tick}
 use Rattle.joint_feed.specs.declared.ahead.Ahead.{Ahead}
 use Rattle.joint_feed.specs.declared.course.Course.{Course}
-use Rattle.joint_run.specs.declared.due.Seen.{Seen}
-use Rattle.joint_run.specs.declared.machine.Machine.{Machine}
-use Rattle.joint_run.specs.Due.{due_step, IsJointStep}
-use Rattle.joint_run.specs.History.{GoesOn as RunGoesOn, IsStepOfRun}
+use Rattle.joint_run.specs.History.{GoesOn as RunGoesOn}
 use Rattle.joint_run.specs.Joint.{Beside, joint_board, joint_start_of}
 use Rattle.joint_run.specs.Run.{World, run_at}
 use Rattle.story_run.specs.declared.ending.Ending.{Ending}
 use Rattle.story_run.specs.declared.ending.Ending.TheVariants.{TickStart, Stamp}
 use Rattle.story_run.specs.declared.ending.Halt.{Halt}
-use Rattle.story_run.specs.Answers.{MeetsNoTick, DecidesOver}
-use Rattle.story_run.specs.Gliding.{AreSameStarts, IsGoing, IsOnward, IsStepped, lines_at, lines_in, looked_since, looked_now}
+use Rattle.story_run.specs.Answers.{MeetsNoTick}
+use Rattle.story_run.specs.Gliding.{AreSameStarts, IsGoing, IsOnward, IsStepped, lines_at, lines_in, IsSilent}
 use Rattle.story_run.specs.Running.{GoesOnTo, log_at, logged}
 use Rattle.story_run.specs.Starts.{start_stamp, starts_among}
-use Rattle.story_run.proofs.Silent.{none_quiet, then_quiet}
+use Rattle.story_run.specs.Stretching.{CanFollow}
+
+no_starts : (e : Ending) (s : Story) (k : ℕ) → AreSameStarts e s k k
+no_starts TickStart s k = refl
+no_starts Stamp s k = tt
+
+then_starts : (e : Ending) (s : Story) (k n m : ℕ) → AreSameStarts e s k n → AreSameStarts e s n m → AreSameStarts e s k m
+then_starts TickStart s k n m a b = b ∙ a
+then_starts Stamp s k n m a b = tt
+
+pub none_quiet : (e : Ending) (wires : Bool) (s : Story) (k : ℕ) → IsSilent e wires s k k
+none_quiet e wires s k = record {
+  later = omega arith;
+  log = refl;
+  starts = no_starts e s k;
+  levels = λ on j l m. let same : j ≡ k = omega (arith, l, m) in ap (lines_at s) same;
+}
+
+pub then_quiet : (e : Ending) (wires : Bool) (s : Story) (k n m : ℕ) → IsSilent e wires s k n → IsSilent e wires s n m → IsSilent e wires s k m
+then_quiet e wires s k n m a b =
+    let first = a.later in
+    let second = b.later in
+    record {
+      later = omega (arith, first, second);
+      log = b.log ∙ a.log;
+      starts = then_starts e s k n m a.starts b.starts;
+      levels = λ on j l h. elim (leb j n) as (λ c. leb j n ≡ c → lines_at s j ≡ lines_at s k) [
+        | true ↦ λ f. a.levels on j l (grind (arith, nat_tests, f))
+        | false ↦ λ f. b.levels on j (grind (arith, nat_tests, f)) h ∙ a.levels on n first (omega arith)
+      ] refl;
+    }
 
 -- the wires at a state that the machine is at
 pub lines_here : (s : Story) (c : Course) (on : IsOnCourse s c) → lines_at s c.joint.steps ≡ Some (sight_of c.joint).lines
@@ -36,68 +63,15 @@ lines_here s c on =
     ap lines_in (here s c on)
     ∙ sym (ap (λ (v : Sight). Some v.lines) (same_sight c.joint on.world on.in_run.mcu on.in_run.outside on.in_run.cycle))
 
--- a look at the machine is one at the state that its step led to
-module _ (u : Halt) (s : Story) (old : Course) (new : Machine) (seen : Seen) (g : IsGoing u s old)
-    (is : IsJointStep old.ahead.due old.joint (due_step old.ahead.due old.joint) (Ok seen) new)
-    (run : IsStepOfRun old.ahead.due old.joint (Ok seen) new) where
-  next_is : new.steps ≡ suc old.joint.steps
-  next_is = one_more_step s old new seen g.run_so_far.on g.accepted.lawful.thin g.accepted.lawful.edges_in_order is run
-
-  goes_on : RunGoesOn s.held s.edges s.events old.ahead.made g.run_so_far.on.world seen new
-  goes_on = on s old new seen g.run_so_far.on g.accepted.lawful.thin g.accepted.lawful.edges_in_order is run
-
-  there : state_at s (suc old.joint.steps) ≡ Some goes_on.next
-  there =
-      let made = step s old new seen g.run_so_far.on g.accepted.lawful.thin g.accepted.lawful.edges_in_order is run in
-      let image : new.image.bytes ≡ s.bytes = ap (λ m. m.image.bytes) made.after ∙ g.run_so_far.on.image in
-      subst (λ (k : ℕ). state_at s k ≡ Some goes_on.next) next_is
-      (subst (λ (b : List ℕ). run_at (joint_board s.edges s.events) b (joint_start_of s.held) new.steps ≡ Some goes_on.next)
-      image goes_on.in_run.run)
-
-  pub looked_on : (before : List Watch) → map (looked new.steps (sight_of new)) before
-      ≡ looked_at (suc old.joint.steps) (state_at s (suc old.joint.steps)) before
-  looked_on before =
-      let sight : sight_of new ≡ sight_in goes_on.next =
-      same_sight new goes_on.next goes_on.in_run.mcu goes_on.in_run.outside goes_on.in_run.cycle in
-      ap (λ (n : ℕ). map (looked n (sight_of new)) before) next_is
-      ∙ ap (λ (v : Sight). map (looked (suc old.joint.steps) v) before) sight
-      ∙ sym (ap (λ (o : Option (World Beside)). looked_at (suc old.joint.steps) o before) there)
-
-pub stepped_now : (u : Halt) (s : Story) (old new : Course) (before : List Watch) → IsGoing u s old
-    → IsJointStep old.ahead.due old.joint (due_step old.ahead.due old.joint) (Ok new.seen) new.joint
-    → IsStepOfRun old.ahead.due old.joint (Ok new.seen) new.joint → 0 < new.seen.cycles → new.seen.cycles < 3
-    → new.ahead ≡ old.ahead → IsStepped s old new before (looked_now new before)
-stepped_now u s old new before g is run some few ahead = record {
-  step = is;
-  run = run;
-  some = some;
-  few = few;
-  ahead = ahead;
-  looked = looked_on u s old new.joint new.seen g is run before;
-}
-
--- after a later step the probes have looked
-pub looks_after : (k : ℕ) (c : Course) (before : List Watch) → k < c.joint.steps → looked_since k c before ≡ looked_now c before
-looks_after k c before later =
-    let off : (c.joint.steps == k) ≡ false = grind (arith, nat_tests, later) in
-    ap (λ b. if b then before else looked_now c before) off
-
-pub looks_none : (k : ℕ) (c : Course) (before : List Watch) → c.joint.steps ≡ k → looked_since k c before ≡ before
-looks_none k c before same =
-    let on : (c.joint.steps == k) ≡ true = grind (arith, nat_tests, same) in
-    ap (λ b. if b then before else looked_now c before) on
-
-pub looks_since : (k : ℕ) (c : Course) (before : List Watch) → (c.joint.steps ≡ k → ⊥) → looked_since k c before ≡ looked_now c before
-looks_since k c before other =
-    let off : (c.joint.steps == k) ≡ false = grind (arith, nat_tests, other) in
-    ap (λ b. if b then before else looked_now c before) off
+-- probes after a look at the machine
+abbrev pub looked_now : Course → List Watch → List Watch
+looked_now c probes = map (looked c.joint.steps (sight_of c.joint)) probes
 
 no_start : (b : Bool) (xs : List ℕ) (n : ℕ) → false ≡ b → xs ++ (if b then n ∷ [] else []) ≡ xs
 no_start true xs n off = absurd (cc off)
 no_start false xs n off = append-nil xs
 
-module _ (u : Halt) (s : Story) (old new : Course) (before after : List Watch) (g : IsGoing u s old)
-    (t : IsStepped s old new before after) where
+module _ (u : Halt) (s : Story) (old new : Course) (g : IsGoing u s old) (t : IsStepped old new) where
   abbrev with_ahead : Ahead → Course
   with_ahead ahead = record { joint = new.joint; ahead = ahead; seen = new.seen; fill = new.fill }
 
@@ -133,12 +107,34 @@ module _ (u : Halt) (s : Story) (old new : Course) (before after : List Watch) (
       ap logged there ∙ says g.run_so_far.on.world v first next
       ∙ ap (λ (o : Option (World Beside)). logged o ++ new.seen.items.items) (sym first)
 
-  -- where it took no event and said nothing, and must not halt, the run goes on
-  module _ (edges : new.seen.edges ≡ 0) (host : new.seen.host ≡ 0) (items : new.seen.items.items ≡ [])
-      (open_still : DecidesOver u.ending new.joint u.stop false) (tick : MeetsNoTick u.ending new.joint)
-      (levels : u.wires ≡ true → (sight_of new.joint).lines ≡ (sight_of old.joint).lines) where
+  goes_on : RunGoesOn s.held s.edges s.events old.ahead.made g.run_so_far.on.world new.seen new.joint
+  goes_on = on s old new.joint new.seen g.run_so_far.on g.accepted.lawful.thin g.accepted.lawful.edges_in_order t.step t.run
+
+  there : state_at s (suc old.joint.steps) ≡ Some goes_on.next
+  there =
+      let made = step s old new.joint new.seen g.run_so_far.on g.accepted.lawful.thin g.accepted.lawful.edges_in_order t.step t.run in
+      let image : new.joint.image.bytes ≡ s.bytes = ap (λ m. m.image.bytes) made.after ∙ g.run_so_far.on.image in
+      subst (λ (k : ℕ). state_at s k ≡ Some goes_on.next) next_step
+      (subst (λ (b : List ℕ). run_at (joint_board s.edges s.events) b (joint_start_of s.held) new.joint.steps ≡ Some goes_on.next)
+      image goes_on.in_run.run)
+
+  -- a look at each state is one at the machine, after those at the states before
+  pub looks_on : (first : List Watch) → looks s new.joint.steps first ≡ looked_now new (looks s old.joint.steps first)
+  looks_on first =
+      let before : List Watch = looks s old.joint.steps first in
+      let sight : sight_in goes_on.next ≡ sight_of new.joint =
+      sym (same_sight new.joint goes_on.next goes_on.in_run.mcu goes_on.in_run.outside goes_on.in_run.cycle) in
+      ap (λ (n : ℕ). looks s n first) next_step
+      ∙ ap (λ (o : Option (World Beside)). looked_at (suc old.joint.steps) o before) there
+      ∙ ap (λ (v : Sight). map (looked (suc old.joint.steps) v) before) sight
+      ∙ sym (ap (λ (n : ℕ). map (looked n (sight_of new.joint)) before) next_step)
+
+  -- if the next one can follow at once the run goes on
+  module _ (lines : Lines) (kept : u.wires ≡ true → (sight_of old.joint).lines ≡ lines) (can : CanFollow u lines new) where
     on_now : IsOnCourse s new
     on_now =
+        let edges = can.edges in
+        let host = can.host in
         subst (λ (a : Ahead). IsOnCourse s (with_ahead a)) (sym t.ahead)
         (on_with old.ahead g.run_so_far.on.fed (omega (arith, edges)) (omega (arith, host)))
 
@@ -151,7 +147,7 @@ module _ (u : Halt) (s : Story) (old new : Course) (before after : List Watch) (
       accepted = g.accepted;
       timely = g.timely;
       run_so_far = record { on = on_now; goes_on = goes_on_to };
-      not_over = sym (open_still s on_now.world g.stop (sym on_now.in_run.mcu) (sym on_now.in_run.cycle));
+      not_over = sym (can.before_end s on_now.world g.stop (sym on_now.in_run.mcu) (sym on_now.in_run.cycle));
     }
 
     same_starts : (e : Ending) → MeetsNoTick e new.joint → AreSameStarts e s old.joint.steps new.joint.steps
@@ -169,38 +165,30 @@ module _ (u : Halt) (s : Story) (old new : Course) (before after : List Watch) (
           | false ↦ λ f.
               let more = next_step in
               let same : j ≡ new.joint.steps = grind (arith, nat_tests, f, m, more) in
-              ap (lines_at s) same ∙ lines_here s new on_now ∙ ap (λ (v : Lines). Some v) (levels on) ∙ sym (lines_here s old g.run_so_far.on)
+              ap (lines_at s) same ∙ lines_here s new on_now ∙ ap (λ (v : Lines). Some v) (can.levels on ∙ sym (kept on))
+              ∙ sym (lines_here s old g.run_so_far.on)
         ] refl
 
-    pub one_onward : IsOnward u s old new before after
+    pub one_onward : IsOnward u s old new
     one_onward = record {
       going = goes_still;
       ahead = t.ahead;
       cycle = let a = next_cycle.0 in omega (arith, a);
       quiet = record {
         later = let a = next_step in omega (arith, a);
-        log = log_more on_now.world there_now ∙ ap (λ v. log_at s old.joint.steps ++ v) items ∙ append-nil (log_at s old.joint.steps);
-        starts = same_starts u.ending tick;
+        log = log_more on_now.world there_now ∙ ap (λ v. log_at s old.joint.steps ++ v) can.items ∙ append-nil (log_at s old.joint.steps);
+        starts = same_starts u.ending can.no_tick;
         levels = lines_still;
       };
-      looked = λ first e. t.looked ∙ ap (looked_at (suc old.joint.steps) (state_at s (suc old.joint.steps))) e
-          ∙ sym (ap (λ (n : ℕ). looks s n first) next_step);
     }
 
 -- no step was made yet
-pub none_onward : (u : Halt) (s : Story) (c : Course) (probes : List Watch) → IsGoing u s c → IsOnward u s c c probes probes
-none_onward u s c probes g = record {
-  going = g;
-  ahead = refl;
-  cycle = omega arith;
-  quiet = none_quiet u.ending u.wires s c.joint.steps;
-  looked = λ first e. e;
-}
+pub none_onward : (u : Halt) (s : Story) (c : Course) → IsGoing u s c → IsOnward u s c c
+none_onward u s c g = record { going = g; ahead = refl; cycle = omega arith; quiet = none_quiet u.ending u.wires s c.joint.steps }
 
 -- and some more
-pub then_onward : (u : Halt) (s : Story) (p q r : Course) (first second third : List Watch) → IsOnward u s p q first second
-    → IsOnward u s q r second third → IsOnward u s p r first third
-then_onward u s p q r first second third a b =
+pub then_onward : (u : Halt) (s : Story) (p q r : Course) → IsOnward u s p q → IsOnward u s q r → IsOnward u s p r
+then_onward u s p q r a b =
     let cycle_a = a.cycle in
     let cycle_b = b.cycle in
     record {
@@ -208,18 +196,4 @@ then_onward u s p q r first second third a b =
       ahead = b.ahead ∙ a.ahead;
       cycle = omega (arith, cycle_a, cycle_b);
       quiet = then_quiet u.ending u.wires s p.joint.steps q.joint.steps r.joint.steps a.quiet b.quiet;
-      looked = λ probes e. b.looked probes (a.looked probes e);
     }
-
-same_lines : (a b : Lines) → Some a ≡ Some b → a ≡ b
-same_lines a b h = cc h
-
--- wires that are sampled have kept their levels
-pub levels_kept : (u : Halt) (s : Story) (p q : Course) (first second : List Watch) (lines : Lines)
-    → IsGoing u s p → IsOnward u s p q first second
-    → (u.wires ≡ true → (sight_of p.joint).lines ≡ lines) → u.wires ≡ true → (sight_of q.joint).lines ≡ lines
-levels_kept u s p q first second lines g a level on =
-    let later = a.quiet.later in
-    same_lines (sight_of q.joint).lines (sight_of p.joint).lines
-    (sym (lines_here s q a.going.run_so_far.on) ∙ a.quiet.levels on q.joint.steps later (omega arith) ∙ lines_here s p g.run_so_far.on)
-    ∙ level on

@@ -1,20 +1,24 @@
--- Quiet joint steps, made at once, are steps that probes which rest needn't look at.
+-- Quiet joint steps, made at once, are steps that probes which rest needn't look at; and then comes one of any kind.
 use Rattle.std.proofs.Common.{◌≡◌, ◌≤◌, ◌<◌, ◌%◌, ◌&&◌, ◌==◌, ℕ, suc, zero, ◌+◌, Bool, true}
-use Rattle.std.proofs.Common.{false, not, List, refl, ap, sym, subst, ◌∙◌, arith}
+use Rattle.std.proofs.Common.{false, not, List, map, None, Some, Ok, Err, refl, ap, sym, subst, ◌∙◌, arith}
 use Rattle.std.specs.Prelude.{nat_le}
+use Rattle.std.specs.declared.option.Option.{Option}
 use Rattle.std.specs.declared.result.Result.{Result}
 use Rattle.std.proofs.lemmas.Bool.Decides.{nat_tests}
 use Rattle.board_terms.specs.declared.lines.Lines.{Lines}
-use Rattle.board_probes.specs.Probes.{Watch, sight_of}
+use Rattle.board_probes.specs.Looks.{looks}
+use Rattle.board_probes.specs.Probes.{Watch, looked, sight_of}
 use Rattle.board_probes.specs.Resting.{all_rest}
 use Rattle.fw_kernel.specs.declared.labels.TheConstants.{TICK}
 use Rattle.fw_logic.specs.JointRun.{DecidesTick}
-use Rattle.joint_feed.specs.Stories.{Story}
+use Rattle.joint_feed.proofs.Going.{no_further}
+use Rattle.joint_feed.specs.Stories.{Story, state_at}
 use Rattle.joint_feed.specs.declared.course.Course.{Course}
 use Rattle.joint_glide.specs.Uneventful.{is_at, AreUneventful, IsUneventful}
 use Rattle.joint_run.specs.Cycle.{outside_wires}
-use Rattle.joint_run.specs.Joint.{joint_board}
-use Rattle.joint_run.specs.Run.{seen}
+use Rattle.joint_run.specs.Due.{IsJointStep}
+use Rattle.joint_run.specs.Joint.{Beside, joint_board}
+use Rattle.joint_run.specs.Run.{World, seen as pins_seen}
 use Rattle.joint_run.specs.declared.due.Due.{Due}
 use Rattle.joint_run.specs.declared.due.Seen.{Seen}
 use Rattle.joint_run.specs.declared.machine.Machine.{Machine}
@@ -26,17 +30,17 @@ use Rattle.story_run.specs.declared.ending.Ending.{Ending}
 use Rattle.story_run.specs.declared.ending.Ending.TheVariants.{TickStart, Stamp}
 use Rattle.story_run.specs.declared.ending.Halt.{Halt}
 use Rattle.story_run.specs.Answers.{MeetsNoTick, DecidesOver}
-use Rattle.story_run.specs.Stretching.{HasMade, NoneHalts}
-use Rattle.story_run.proofs.Dozing.{HasDozed, dozes_on}
+use Rattle.story_run.specs.Gliding.{HasGlided, IsGoing, IsHeldUp, IsOnward, IsStepped}
+use Rattle.story_run.specs.Stretching.{CanFollow, HasMade, NoneHalts}
+use Rattle.story_run.proofs.Dozing.{HasDozed, dozes_on, looked_on, none_dozed}
 use Rattle.story_run.proofs.Over.{open_off_tick, reached_at}
-use Rattle.story_run.proofs.Quietly.{stepped_now}
-use Rattle.story_run.proofs.Reported.{onward_now}
+use Rattle.story_run.proofs.Quietly.{looked_now, next_cycle, one_onward, then_onward}
 
 -- a machine whose counter is elsewhere is at no tick start
 off_tick : (m : Machine) → is_at TICK m ≡ false → DecidesTick m false
 off_tick m off edges events w same =
     let at : (w.cpu.pc % 2048 == TICK) ≡ false = ap (λ (c : Cpu). c.pc % 2048 == TICK) same ∙ off in
-    sym (ap (λ b. b && not (takes_external (seen (joint_board edges events) w) w.cpu) && not (takes_timer w.cpu)) at)
+    sym (ap (λ b. b && not (takes_external (pins_seen (joint_board edges events) w) w.cpu) && not (takes_timer w.cpu)) at)
 
 -- and one whose cycle is before the end has not reached it
 no_halt : (e : Ending) (stop place to : ℕ) (m : Machine) → NoneHalts e stop place to → is_at place m ≡ false → m.cycle ≤ to
@@ -55,57 +59,140 @@ same_wires due m n q =
     let outside : n.outside ≡ m.outside = ap (λ (x : Machine). x.outside) q.parts in
     ap (λ p. outside_wires p n.outside) q.latch ∙ ap (λ (o : Outside). outside_wires m.mcu.p2 o) outside
 
+-- where the processor is stuck nothing has changed
+stuck_as : (due : Due) (old new : Machine) (o : Option (World Beside)) (stuck : Stuck) → IsJointStep due old o (Err stuck) new → new ≡ old
+stuck_as due old new None stuck h = h.1
+stuck_as due old new (Some w) stuck h = absurd h
+
 -- the machine in a run, where no event was taken
 abbrev pub course_at : Course → Machine → Seen → Course
 course_at c m reported = record { joint = m; ahead = c.ahead; seen = reported; fill = c.fill }
 
--- steps were made that probes needn't look at, and the wires are as they were after the first of them
-pub record HasSlept (u : Halt) (s : Story) (old p : Course) (before : List Watch) (m : Machine) : Type 0 where
+-- quiet steps were made that probes needn't look at, and the wires are as they were
+pub record HasSlept (u : Halt) (s : Story) (first : List Watch) (old : Course) (latest : ℕ) (p : Course) (probes : List Watch)
+    (m : Machine) : Type 0 where
   pub reported : Seen
-  pub dozed : HasDozed u s old (course_at p m reported) before
+  pub dozed : HasDozed u s first old latest (course_at p m reported) probes
+  pub cycle : p.joint.cycle ≤ m.cycle
   pub wires : (sight_of m).lines ≡ (sight_of p.joint).lines
 
-module _ (u : Halt) (s : Story) (old p : Course) (before : List Watch) (d : HasDozed u s old p before) where
-  not_yet : (m : Machine) → m ≡ p.joint → HasSlept u s old p before m
-  not_yet m same = record {
-    reported = p.seen;
-    dozed = subst (λ (n : Machine). HasDozed u s old (course_at p n p.seen) before) (sym same) d;
-    wires = ap (λ (n : Machine). (sight_of n).lines) same;
-  }
+module _ (u : Halt) (s : Story) (first : List Watch) (old : Course) (latest : ℕ) (p : Course) (probes : List Watch)
+    (d : HasDozed u s first old latest p probes) (clk rest : Bool) (level : (sight_of p.joint).lines.clk ≡ clk)
+    (at_rest : rest ≡ true → all_rest clk probes ≡ true) where
+  not_yet : (m : Machine) → m ≡ p.joint → HasSlept u s first old latest p probes m
+  not_yet m same =
+      subst (λ (n : Machine). HasSlept u s first old latest p probes n) (sym same)
+      (record { reported = p.seen; dozed = d; cycle = omega arith; wires = refl })
 
-  module _ (clk : Bool) (level : (sight_of p.joint).lines.clk ≡ clk) where
-    module _ (at_rest : all_rest clk before ≡ true) (place to : ℕ) (none : NoneHalts u.ending u.stop place to) where
-      slept : (k : ℕ) (m : Machine) → AreUneventful p.ahead.due place k p.joint m → m.cycle ≤ to → HasSlept u s old p before m
-      slept zero m e below = not_yet m e
-      slept (suc k) m h below =
-          let between = h.0 in
-          let q = h.2 in
-          let at : m.cycle ≡ between.cycle + q.seen.cycles = ap (λ (n : Machine). n.cycle) q.parts in
-          let some = q.some in
-          let sooner : between.cycle ≤ to = omega (arith, at, below) in
-          let later : between.cycle < m.cycle = omega (arith, at, some) in
-          let it = slept k between h.1 sooner in
-          let last = course_at p between it.reported in
-          let new = course_at p m q.seen in
-          let o = it.dozed in
-          let halt = no_halt u.ending u.stop place to m none h.3 below in
-          let same = same_wires p.ahead.due between m q in
-          let stepped = stepped_now u s last new o.between o.onward.going q.step q.run q.some q.few refl in
-          let onward = onward_now u s last new o.between o.onward.going stepped q.edges q.host q.items halt.0 halt.1 (λ sampled. same) in
-          record {
-            reported = q.seen;
-            dozed = dozes_on u s old last new before o onward later clk at_rest (ap (λ (l : Lines). l.clk) (same ∙ it.wires) ∙ level);
-            wires = same ∙ it.wires;
-          }
+  slept : all_rest clk probes ≡ true → (place to : ℕ) → NoneHalts u.ending u.stop place to → (k : ℕ) (m : Machine)
+      → AreUneventful p.ahead.due place k p.joint m → m.cycle ≤ to → HasSlept u s first old latest p probes m
+  slept resting place to none zero m e below = not_yet m e
+  slept resting place to none (suc k) m h below =
+      let between = h.0 in
+      let q = h.2 in
+      let at : m.cycle ≡ between.cycle + q.seen.cycles = ap (λ (n : Machine). n.cycle) q.parts in
+      let some = q.some in
+      let it = slept resting place to none k between h.1 (omega (arith, at, below)) in
+      let last = course_at p between it.reported in
+      let new = course_at p m q.seen in
+      let halt = no_halt u.ending u.stop place to m none h.3 below in
+      let same = same_wires p.ahead.due between m q in
+      let stepped : IsStepped last new = record { step = q.step; run = q.run; some = q.some; few = q.few; ahead = refl } in
+      let onward = one_onward u s last new it.dozed.onward.going stepped (sight_of between).lines (λ on. refl)
+      (record { edges = q.edges; host = q.host; items = q.items; before_end = halt.0; no_tick = halt.1; levels = λ on. same }) in
+      let so_far = it.cycle in
+      record {
+        reported = q.seen;
+        dozed = dozes_on u s first old latest last probes it.dozed new stepped clk resting
+            (ap (λ (l : Lines). l.clk) (same ∙ it.wires) ∙ level) onward;
+        cycle = omega (arith, at, so_far);
+        wires = same ∙ it.wires;
+      }
 
+  module _ (new : Course) (result : Result Seen Stuck) (made : HasMade u rest p result new) where
     -- the steps before the last one that was made
-    pub slept_on : (new : Course) (result : Result Seen Stuck) (rest : Bool) → (rest ≡ true → all_rest clk before ≡ true)
-        → (made : HasMade u rest p result new) → HasSlept u s old p before made.gone.last
-    slept_on new result rest at_rest made =
+    slept_on : HasSlept u s first old latest p probes made.gone.last
+    slept_on =
         let last = made.gone.last in
-        elim rest as (λ b. rest ≡ b → HasSlept u s old p before last) [
+        elim rest as (λ b. rest ≡ b → HasSlept u s first old latest p probes last) [
           | true ↦ λ f.
               slept (at_rest f) made.place (p.joint.cycle + made.most) made.before_halt made.gone.count
               last made.gone.quiet made.gone.within
           | false ↦ λ f. not_yet last (subst (λ k. AreUneventful p.ahead.due made.place k p.joint last) (made.alone f) made.gone.quiet)
         ] refl
+
+    abbrev last : Course
+    last = course_at p made.gone.last slept_on.reported
+
+    abbrev going : IsGoing u s last
+    going = slept_on.dozed.onward.going
+
+  -- after them the processor is stuck
+  module _ (new : Course) (stuck : Stuck) (made : HasMade u rest p (Err stuck) new) where
+    still : new.joint ≡ made.gone.last
+    still = stuck_as p.ahead.due made.gone.last new.joint _ stuck made.gone.step
+
+    pub none_there : state_at s (suc made.gone.last.steps) ≡ None
+    none_there =
+        let g = going new (Err stuck) made in
+        no_further s (last new (Err stuck) made) new.joint stuck g.run_so_far.on g.accepted.lawful.thin g.accepted.lawful.edges_in_order
+        made.gone.run
+
+    pub held : (after : List Watch) → after ≡ looks s new.joint.steps first → IsHeldUp u s first old new after stuck
+    held after looked = record {
+      last = last new (Err stuck) made;
+      onward = (slept_on new (Err stuck) made).dozed.onward;
+      joint = still;
+      ahead = made.ahead;
+      step = made.gone.step;
+      run = made.gone.run;
+      looked = looked;
+    }
+
+    pub held_unseen : new.joint.steps ≡ latest → IsHeldUp u s first old new probes stuck
+    held_unseen same =
+        held probes (subst (λ (m : Machine). m.steps ≡ latest → probes ≡ looks s m.steps first) (sym still)
+        (slept_on new (Err stuck) made).dozed.none same)
+
+    pub held_seen : (new.joint.steps ≡ latest → ⊥) → IsHeldUp u s first old new (looked_now new probes) stuck
+    held_seen other =
+        held (looked_now new probes)
+        (subst (λ (m : Machine). (m.steps ≡ latest → ⊥) → map (looked m.steps (sight_of m)) probes ≡ looks s m.steps first) (sym still)
+        (slept_on new (Err stuck) made).dozed.some other)
+
+  -- or there is one more step
+  module _ (new : Course) (made : HasMade u rest p (Ok new.seen) new) (some : 0 < new.seen.cycles) (few : new.seen.cycles < 3) where
+    abbrev before : HasSlept u s first old latest p probes made.gone.last
+    before = slept_on new (Ok new.seen) made
+
+    abbrev it : Course
+    it = last new (Ok new.seen) made
+
+    stepped : IsStepped it new
+    stepped = record { step = made.gone.step; run = made.gone.run; some = some; few = few; ahead = made.ahead }
+
+    pub later : p.joint.cycle < new.joint.cycle
+    later =
+        let so_far = before.cycle in
+        let more = (next_cycle u s it new (going new (Ok new.seen) made) stepped).0 in
+        omega (arith, so_far, more)
+
+    pub seen : looked_now new probes ≡ looks s new.joint.steps first
+    seen = looked_on u s first old latest it probes before.dozed new stepped
+
+    -- it may have something to be reported
+    pub glided : HasGlided u s first old new (looked_now new probes)
+    glided = record { last = it; onward = before.dozed.onward; stepped = stepped; looked = seen }
+
+    -- or the next one can follow at once
+    module _ (lines : Lines) (kept : u.wires ≡ true → (sight_of p.joint).lines ≡ lines) (can : CanFollow u lines new) where
+      onward : IsOnward u s it new
+      onward = one_onward u s it new (going new (Ok new.seen) made) stepped lines (λ on. before.wires ∙ kept on) can
+
+      pub dozed : all_rest clk probes ≡ true → (sight_of new.joint).lines.clk ≡ clk → HasDozed u s first old latest new probes
+      dozed resting now = dozes_on u s first old latest it probes before.dozed new stepped clk resting now onward
+
+      pub woken : (number : ℕ) → number ≡ new.joint.steps → (after : List Watch) → after ≡ looked_now new probes
+          → HasDozed u s first old number new after
+      woken number same after is =
+          none_dozed u s first old new number after (then_onward u s old it new before.dozed.onward onward) same (is ∙ seen)

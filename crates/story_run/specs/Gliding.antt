@@ -1,11 +1,10 @@
 -- Steps that are made one after another as long as nothing of them has to be reported.
-use Rattle.std.specs.Prelude.{◌≡◌, ◌≤◌, ◌<◌, ℕ, suc, Bool, true, false, ◌==◌, List, map, Some, None, Ok, Err}
-use Rattle.std.specs.Prelude.{if◌then◌else◌}
+use Rattle.std.specs.Prelude.{◌≡◌, ◌≤◌, ◌<◌, ℕ, suc, Bool, true, false, List, Some, None, Ok, Err}
 use Rattle.std.specs.declared.option.Option.{Option}
 use Rattle.std.specs.declared.result.Result.{Result}
 use Rattle.board_terms.specs.declared.lines.Lines.{Lines}
-use Rattle.board_probes.specs.Looks.{looked_at, looks}
-use Rattle.board_probes.specs.Probes.{Watch, looked, sight_in, sight_of}
+use Rattle.board_probes.specs.Looks.{looks}
+use Rattle.board_probes.specs.Probes.{Watch, sight_in}
 use Rattle.fw_logic.specs.JointRun.{KeepsTimeFrom}
 use Rattle.joint_feed.specs.Course.{IsOnCourse}
 use Rattle.joint_feed.specs.Stories.{Story, state_at}
@@ -66,54 +65,45 @@ pub record IsSilent (e : Ending) (wires : Bool) (s : Story) (k n : ℕ) : Type 0
   pub starts : AreSameStarts e s k n
   pub levels : wires ≡ true → (j : ℕ) → k ≤ j → j ≤ n → lines_at s j ≡ lines_at s k
 
--- probes after a look at the present state; or as they were, if it is the one after step k
-abbrev pub looked_now : Course → List Watch → List Watch
-looked_now c probes = map (looked c.joint.steps (sight_of c.joint)) probes
+-- the run goes on at its present state, and the probes have looked at each state up to it
+pub record IsUnderWay (u : Halt) (s : Story) (first : List Watch) (c : Course) (probes : List Watch) : Type 0 where
+  pub going : IsGoing u s c
+  pub looked : probes ≡ looks s c.joint.steps first
 
-abbrev pub looked_since : ℕ → Course → List Watch → List Watch
-looked_since k c probes = if c.joint.steps == k then probes else looked_now c probes
-
--- a step was made, and the probes have looked at the state that it led to; what it took of the events isn't counted yet
-pub record IsStepped (s : Story) (old new : Course) (before after : List Watch) : Type 0 where
+-- a step was made; what it took of the events isn't counted yet
+pub record IsStepped (old new : Course) : Type 0 where
   pub step : IsJointStep old.ahead.due old.joint (due_step old.ahead.due old.joint) (Ok new.seen) new.joint
   pub run : IsStepOfRun old.ahead.due old.joint (Ok new.seen) new.joint
   pub some : 0 < new.seen.cycles
   pub few : new.seen.cycles < 3
   pub ahead : new.ahead ≡ old.ahead
-  pub looked : after ≡ looked_at (suc old.joint.steps) (state_at s (suc old.joint.steps)) before
 
--- steps were made, none of which took an event, and of which nothing is to be reported; the probes are as after a look at
--- each
-pub record IsOnward (u : Halt) (s : Story) (old new : Course) (before after : List Watch) : Type 0 where
+-- steps were made, none of which took an event, and of which nothing is to be reported
+pub record IsOnward (u : Halt) (s : Story) (old new : Course) : Type 0 where
   pub going : IsGoing u s new
   pub ahead : new.ahead ≡ old.ahead
   pub cycle : old.joint.cycle ≤ new.joint.cycle
   pub quiet : IsSilent u.ending u.wires s old.joint.steps new.joint.steps
-  pub looked : (first : List Watch) → before ≡ looks s old.joint.steps first → after ≡ looks s new.joint.steps first
 
--- steps of this kind were made, and then one of any kind
-pub record HasGlided (u : Halt) (s : Story) (old new : Course) (before after : List Watch) : Type 0 where
+-- steps of this kind were made, and then one of any kind; the probes are as after a look at each
+pub record HasGlided (u : Halt) (s : Story) (first : List Watch) (old new : Course) (probes : List Watch) : Type 0 where
   pub last : Course
-  pub between : List Watch
-  pub onward : IsOnward u s old last before between
-  pub stepped : IsStepped s last new between after
+  pub onward : IsOnward u s old last
+  pub stepped : IsStepped last new
+  pub looked : probes ≡ looks s new.joint.steps first
 
 -- steps of this kind were made, and then the processor was stuck: the machine has not changed since
-pub record IsHeldUp (u : Halt) (s : Story) (old new : Course) (before after : List Watch) (stuck : Stuck) : Type 0 where
+pub record IsHeldUp (u : Halt) (s : Story) (first : List Watch) (old new : Course) (probes : List Watch) (stuck : Stuck)
+    : Type 0 where
   pub last : Course
-  pub onward : IsOnward u s old last before after
+  pub onward : IsOnward u s old last
   pub joint : new.joint ≡ last.joint
   pub ahead : new.ahead ≡ last.ahead
   pub step : IsJointStep last.ahead.due last.joint (due_step last.ahead.due last.joint) (Err stuck) new.joint
   pub run : IsStepOfRun last.ahead.due last.joint (Err stuck) new.joint
-
--- a stretch of steps, and whether the next one can follow at once
-abbrev pub IsStretch : Halt → Story → Course → List Watch → Result Bool Stuck → Course → List Watch → Type 0
-IsStretch u s old before (Ok true) new after = IsOnward u s old new before after
-IsStretch u s old before (Ok false) new after = HasGlided u s old new before after
-IsStretch u s old before (Err stuck) new after = IsHeldUp u s old new before after stuck
+  pub looked : probes ≡ looks s new.joint.steps first
 
 -- a glide goes on up to such a step
-abbrev pub IsGlide : Halt → Story → Course → List Watch → Result (Unit {0}) Stuck → Course → List Watch → Type 0
-IsGlide u s old before (Ok done) new after = HasGlided u s old new before after
-IsGlide u s old before (Err stuck) new after = IsHeldUp u s old new before after stuck
+abbrev pub IsGlide : Halt → Story → List Watch → Course → Result (Unit {0}) Stuck → Course → List Watch → Type 0
+IsGlide u s first old (Ok done) new probes = HasGlided u s first old new probes
+IsGlide u s first old (Err stuck) new probes = IsHeldUp u s first old new probes stuck

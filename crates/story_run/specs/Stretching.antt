@@ -1,5 +1,5 @@
 -- Steps that are made at once: quiet ones, and then one of any kind.
-use Rattle.std.specs.Prelude.{◌≡◌, ◌<◌, ℕ, ◌+◌, Bool, true, false, [], Ok, Err}
+use Rattle.std.specs.Prelude.{◌≡◌, ◌<◌, ℕ, ◌+◌, Bool, true, false, []}
 use Rattle.std.specs.declared.result.Result.{Result}
 use Rattle.board_terms.specs.declared.lines.Lines.{Lines}
 use Rattle.board_probes.specs.Probes.{sight_of}
@@ -37,15 +37,3 @@ pub record CanFollow (u : Halt) (lines : Lines) (c : Course) : Type 0 where
   pub before_end : DecidesOver u.ending c.joint u.stop false
   pub no_tick : MeetsNoTick u.ending c.joint
   pub levels : u.wires ≡ true → (sight_of c.joint).lines ≡ lines
-
--- steps were made, with an answer to whether the next one can follow at once
-pub record HasMadeSome (u : Halt) (lines : Lines) (rest : Bool) (old : Course) (answer : Bool) (new : Course)
-    : Type 0 where
-  pub made : HasMade u rest old (Ok new.seen) new
-  pub some : 0 < new.seen.cycles
-  pub few : new.seen.cycles < 3
-  pub follows : answer ≡ true → CanFollow u lines new
-
-abbrev pub IsMade : Halt → Lines → Bool → Course → Result Bool Stuck → Course → Type 0
-IsMade u lines rest old (Ok answer) new = HasMadeSome u lines rest old answer new
-IsMade u lines rest old (Err stuck) new = HasMade u rest old (Err stuck) new

@@ -1,12 +1,11 @@
 //! Steps of a run, one after another, as long as nothing of them has to be counted or reported. Probes that rest look only if
 //! they would miss something.
 
-ghost use Rattle.std.specs.Prelude.{◌≡◌, ◌<◌, ◌≤◌, List, [], true, map, Ok};
+ghost use Rattle.std.specs.Prelude.{◌≡◌, ◌≤◌, List, [], true, map};
 ghost use Rattle.joint_feed.specs.Stories.{Story};
 ghost use Rattle.board_probes.specs.Probes.{Watch, sight_of};
-ghost use Rattle.board_probes.specs.Resting.{all_rest};
-ghost use Rattle.story_run.specs.Gliding.{IsGlide, IsGoing, IsStretch, looked_since};
-ghost use Rattle.story_run.specs.Stretching.{CanFollow, IsMade};
+ghost use Rattle.story_run.specs.Gliding.{IsGlide, IsUnderWay};
+ghost use Rattle.story_run.specs.Stretching.{CanFollow};
 
 use crate::ending::{Ending, Halt, must_halt};
 use crate::stretching::make_steps;
@@ -48,13 +47,15 @@ fn are_levels(joint: &Joint, lines: Lines) -> bool
     joint.lines() == lines
 }
 
-/// Whether probes needn't look at this state, if they rest while the clock has this level or not: they do, and it has.
+/// Whether probes needn't look at this state: the next step can follow at once, they rest while the clock has this level, and
+/// it has.
 #[inline(always)]
-fn is_passed_over(rest: bool, clk: bool, joint: &Joint) -> bool
+fn is_passed_over(follows: bool, rest: bool, clk: bool, joint: &Joint) -> bool
+    ensures follows { result ≡ true → follows ≡ true }
     ensures rest { result ≡ true → rest ≡ true }
     ensures level { result ≡ true → (sight_of joint.now).lines.clk ≡ clk }
 {
-    rest && is_clock(joint, clk)
+    follows && rest && is_clock(joint, clk)
 }
 
 /// Whether the wires, if they are sampled, have the levels that they had.
@@ -77,110 +78,51 @@ fn can_follow(course: &Course, halt: Halt, lines: Lines) -> bool
         && keeps_levels(halt.wires, lines, &course.joint)
 }
 
-/// Makes joint steps: one, or, if the probes rest, quiet ones before it. Answers whether the next one can follow at
-/// once.
-#[inline(always)]
-fn goes_quietly<const SITE: u8>(
-    course: &mut Course,
-    halt: Halt,
-    lines: Lines,
-    rest: bool,
-) -> Result<bool, Stuck>
-    requires going { (s : Story) × IsGoing halt s course.old }
-    requires range { halt.stop ≤ 240000000 }
-    ensures made { IsMade halt lines rest course.old result course.new }
-{
-    match make_steps::<SITE>(course, halt, rest) {
-        Err(stuck) => match halt.ending {
-            // A program that keeps its time never comes to a byte without an instruction.
-            Ending::TickStart => unreachable!(),
-            Ending::Stamp => Err(stuck),
-        },
-        Ok(()) => Ok(can_follow(course, halt, lines)),
-    }
-}
-
-/// Makes joint steps up to one that probes must look at, and so answers for the last of them: the first step, if they
-/// don't rest while the clock has this level; else the first one after which it has the other, or the next can't
-/// follow at once. A look at that state comes to the same as one at each.
-#[inline(always)]
-fn goes_unseen<const SITE: u8>(
-    course: &mut Course,
-    halt: Halt,
-    lines: Lines,
-    rest: bool,
-    clk: bool,
-) -> Result<bool, Stuck>
-    requires going { (s : Story) × IsGoing halt s course.old }
-    requires range { halt.stop ≤ 240000000 }
-    requires levels { halt.wires ≡ true → (sight_of course.old.joint).lines ≡ lines }
-    requires level { (sight_of course.old.joint).lines.clk ≡ clk }
-    ensures stretch { (s : Story) → IsGoing halt s course.old → (before : List Watch) → (rest ≡ true → all_rest clk before ≡ true)
-        → IsStretch halt s course.old before result course.new (looked_since course.old.joint.steps course.new before) }
-    ensures later { result ≡ Ok true → course.old.joint.cycle < course.new.joint.cycle }
-{
-    'steps: loop {
-        match goes_quietly::<SITE>(course, halt, lines, rest) {
-            Err(stuck) => return Err(stuck),
-            Ok(false) => return Ok(false),
-            Ok(true) => {}
-        }
-        if !is_passed_over(rest, clk, &course.joint) {
-            return Ok(true);
-        }
-    }
-}
-
-/// Makes joint steps up to one that the probes must look at, and they look. Answers whether the next step can follow at
-/// once.
-#[inline(always)]
-fn goes_on<const SITE: u8>(
-    course: &mut Course,
-    halt: Halt,
-    lines: Lines,
-    probes: &mut Vec<Box<dyn Probe>>,
-) -> Result<bool, Stuck>
-    requires going { (s : Story) × IsGoing halt s course.old }
-    requires range { halt.stop ≤ 240000000 }
-    requires levels { halt.wires ≡ true → (sight_of course.old.joint).lines ≡ lines }
-    ensures stretch { (s : Story) → IsGoing halt s course.old
-        → IsStretch halt s course.old (map (λ b. watch b) probes.old.items) result course.new (map (λ b. watch b) probes.new.items) }
-    ensures later { result ≡ Ok true → course.old.joint.cycle < course.new.joint.cycle }
-{
-    let first = course.joint.steps();
-    let clk = course.joint.lines().clk;
-    let rest = all_rest(probes, clk);
-    let onward = goes_unseen::<SITE>(course, halt, lines, rest, clk);
-    let steps = course.joint.steps();
-    // If the processor was stuck at once there is nothing new to look at.
-    if steps == first {
-        return onward;
-    }
-    let _ = look_all(probes, steps, &course.joint);
-    onward
-}
-
 /// Makes joint steps up to one that took an event, said something, led to a halt or changed wires that are sampled; of what
-/// each of them led to the probes know what a look would have shown them. What the last one took and said is left in the
-/// course. If the processor is stuck the steps before are made, and what is left is of no use. `SITE`, from 4, is a
-/// number that no other place of the program gives.
+/// each of them led to the probes know what a look would have shown them. While they rest they look only at a state in
+/// which the clock has another level than at their last look, and at the last state. What the last step took and said
+/// is left in the course. If the processor is stuck the steps before are made, and what is left is of no use. `SITE`, from
+/// 4, is a number that no other place of the program gives.
 #[inline(always)]
 pub(crate) fn glide<const SITE: u8>(
     course: &mut Course,
     halt: Halt,
     probes: &mut Vec<Box<dyn Probe>>,
 ) -> Result<(), Stuck>
-    requires going { (s : Story) × IsGoing halt s course.old }
+    requires way { (s : Story) × (first : List Watch) × IsUnderWay halt s first course.old (map (λ b. watch b) probes.old.items) }
     requires range { halt.stop ≤ 240000000 }
-    ensures glide { (s : Story) → IsGoing halt s course.old
-        → IsGlide halt s course.old (map (λ b. watch b) probes.old.items) result course.new (map (λ b. watch b) probes.new.items) }
+    ensures glide { (s : Story) (first : List Watch) → IsUnderWay halt s first course.old (map (λ b. watch b) probes.old.items)
+        → IsGlide halt s first course.old result course.new (map (λ b. watch b) probes.new.items) }
 {
     let lines = course.joint.lines();
-    'stretches: loop {
-        match goes_on::<SITE>(course, halt, lines, probes) {
-            Err(stuck) => return Err(stuck),
-            Ok(false) => return Ok(()),
-            Ok(true) => {}
+    let mut clk = lines.clk;
+    let mut rest = all_rest(probes, clk);
+    let mut latest = course.joint.steps();
+    'steps: loop {
+        match make_steps::<SITE>(course, halt, rest) {
+            Err(stuck) => match halt.ending {
+                // A program that keeps its time never comes to a byte without an instruction.
+                Ending::TickStart => unreachable!(),
+                Ending::Stamp => {
+                    let steps = course.joint.steps();
+                    // If the processor was stuck at once there is nothing new to look at.
+                    if steps != latest {
+                        let _ = look_all(probes, steps, &course.joint);
+                    }
+                    return Err(stuck);
+                }
+            },
+            Ok(()) => {}
+        }
+        let follows = can_follow(course, halt, lines);
+        if !is_passed_over(follows, rest, clk, &course.joint) {
+            latest = course.joint.steps();
+            let _ = look_all(probes, latest, &course.joint);
+            if !follows {
+                return Ok(());
+            }
+            clk = course.joint.lines().clk;
+            rest = all_rest(probes, clk);
         }
     }
 }

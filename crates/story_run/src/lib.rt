@@ -7,14 +7,12 @@
 //! our own.
 #![tactic(auto)]
 
-mod advancing;
 mod beginning;
 mod ending;
 mod gliding;
 mod reporting;
 mod stretching;
 
-pub use advancing::advance;
 pub use beginning::begin_run;
 pub use ending::{End, Ending, Halt};
 pub use reporting::{Reporter, make_run};

@@ -11,8 +11,8 @@ ghost use Rattle.story_run.specs.Looking.{BrokeOff};
 ghost use Rattle.story_run.specs.Ready.{IsReady};
 ghost use Rattle.story_run.specs.Reports.{IsReportedTo};
 
-use crate::advancing::advance;
 use crate::ending::{End, Ending, Halt, is_over};
+use crate::gliding::glide;
 use board_probes::Probe;
 use joint_feed::Course;
 use key_file::Feed;
@@ -77,10 +77,11 @@ pub fn make_run<F: Feed, O, E, T: Reporter<O, E>, const SITE: u8>(
         wires: T::WIRES,
     };
     'steps: while !is_over(ending, &course.joint, stop) {
-        match advance::<F, SITE>(course, feed, fill, halt, probes) {
+        match glide::<SITE>(course, halt, probes) {
             Err(stuck) => return Ok(End::Stuck(stuck)),
             Ok(()) => {}
         }
+        course.ahead.count(feed, &course.seen);
         match reporter.report(out, course) {
             Err(fault) => return Err(fault),
             Ok(()) => {}

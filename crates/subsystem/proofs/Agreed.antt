@@ -1,14 +1,12 @@
 -- The log of a run is the one that the model expects: its last state is a tick start of the joint run, and its starts are
 -- the starts of the joint run.
-use Rattle.std.proofs.Common.{◌≡◌, ◌≤◌, ◌<◌, ℕ, suc, ◌+◌, ◌-◌, List, [], ◌∷◌, ◌++◌, length, ap, sym, subst, ◌∙◌, arith}
-use Rattle.std.specs.Prelude.{if◌then◌else◌}
-use Rattle.std.specs.declared.option.Option.{Option}
+use Rattle.std.proofs.Common.{◌≡◌, ◌≤◌, ℕ, ◌+◌, ◌-◌, List, length, ap, sym, ◌∙◌, arith}
 use Rattle.board_terms.specs.Cadence.{listed}
 use Rattle.fw_kernel.specs.declared.labels.TheConstants.{TICK}
 use Rattle.fw_logic.proofs.Numbers.{same_start}
 use Rattle.fw_logic.specs.JointRun.{KeepsTimeFrom}
 use Rattle.joint_feed.specs.Stories.{Story}
-use Rattle.joint_run.specs.Joint.{Beside, joint_board, joint_start_of}
+use Rattle.joint_run.specs.Joint.{joint_board, joint_start_of}
 use Rattle.joint_run.specs.Run.{Board, World}
 use Rattle.joint_run.specs.Starts.{IsStart}
 use Rattle.agreement.proofs.Upto.{whole_up_to}
@@ -16,9 +14,7 @@ use Rattle.agreement.specs.Agreement.{AgreesFrom}
 use Rattle.link_model.specs.Expected.{Whole, expected}
 use Rattle.link_model.specs.Machine.{KeyboardMachine}
 use Rattle.subsystem.specs.LayoutOutcomes.{IsOutcome, lines_of, Outcome}
-use Rattle.story_run.specs.Starts.{start_stamp, starts_among}
-use Rattle.subsystem.proofs.Lines.{one_longer}
-use Rattle.subsystem.proofs.Timekeeping.{numbered}
+use Rattle.subsystem.proofs.Timekeeping.{ends_at, starts_at}
 
 -- start n of a run has one stamp
 one_stamp : (d : Board) (bytes : List ℕ) (from : World d.State) (n a b : ℕ) → IsStart d TICK bytes from n a
@@ -28,35 +24,6 @@ one_stamp d bytes from n a b p q =
     same_start d TICK bytes from p.steps q.steps p.state q.state p.reached q.reached p.at q.at (p.number ∙ sym q.number) in
     let cycle : 4096 + a ≡ 4096 + b = sym p.cycle ∙ ap (λ (w : World d.State). w.cycle) same ∙ q.cycle in
     omega (arith, cycle)
-
--- the run's starts are those at the states before its last one, and this one's
-pub run_starts : (s : Story) (run : Outcome) (h : IsOutcome s run) → run.starts ≡ starts_among s run.steps ++ (h.world.cycle - 4096) ∷ []
-run_starts s run h =
-    h.starts ∙ ap (λ (o : Option (World Beside)). starts_among s run.steps ++ start_stamp s o) h.reached
-    ∙ ap (λ b. starts_among s run.steps ++ (if b then (h.world.cycle - 4096) ∷ [] else [])) h.at
-
-pub run_last : (s : Story) (run : Outcome) → IsOutcome s run → length run.starts ≡ suc (length (starts_among s run.steps))
-run_last s run h = ap length (run_starts s run h) ∙ one_longer (starts_among s run.steps) (h.world.cycle - 4096)
-
-module _ (s : Story) (t : KeepsTimeFrom (joint_start_of s.held) s.bytes s.edges s.events) (run : Outcome) (h : IsOutcome s run) where
-  -- the run's last state is the tick start of the last number
-  ends_at : IsStart (joint_board s.edges s.events) TICK s.bytes (joint_start_of s.held) (length run.starts - 1) (h.world.cycle - 4096)
-  ends_at =
-      let count = (numbered s t run.steps).0 in
-      let long = run_last s run h in
-      let last : length (starts_among s run.steps) ≡ length run.starts - 1 = omega (arith, long) in
-      let early = t.none_early run.steps h.world h.reached h.at in
-      record { steps = run.steps; state = h.world; reached = h.reached; at = h.at; number = sym count ∙ last; cycle = omega (arith, early) }
-
-  -- its starts are those of the joint run
-  starts_at : (j : ℕ) → j ≤ length run.starts - 1
-      → IsStart (joint_board s.edges s.events) TICK s.bytes (joint_start_of s.held) j (listed run.starts j)
-  starts_at j l =
-      let long = run_last s run h in
-      let e : length run.starts ≡ length (starts_among s (suc run.steps)) = ap length h.starts in
-      let below : j < length (starts_among s (suc run.steps)) = omega (arith, l, long, e) in
-      subst (λ (v : List ℕ). IsStart (joint_board s.edges s.events) TICK s.bytes (joint_start_of s.held) j (listed v j))
-      (sym h.starts) ((numbered s t (suc run.steps)).1 j below)
 
 -- the log is that of the model at the run's own starts, for any keyboard with which the joint run agrees
 pub log_as_expected : {S : Type 0} (kb : KeyboardMachine S) (s : Story) → KeepsTimeFrom (joint_start_of s.held) s.bytes s.edges s.events

@@ -26,8 +26,7 @@ use Rattle.subsystem.specs.LayoutOutcomes.{IsOutcome, Outcome, lines_of}
 use Rattle.subsystem.specs.LogReports.{HasNoted, HasPut}
 use Rattle.subsystem.specs.Texts.{log_text}
 use Rattle.subsystem.proofs.Ends.{comes_to, ends, outcome_at, reported_whole}
-use Rattle.subsystem.proofs.Lines.{are_lines}
-use Rattle.subsystem.proofs.Room.{log_text-append}
+use Rattle.subsystem.proofs.Lines.{are_lines, log_text-append}
 use Rattle.subsystem.proofs.Reported.{reported_quiet, reported_step}
 
 -- the run has reached an outcome, whose log a sink has taken and which is counted

@@ -16,7 +16,8 @@ use Rattle.story_run.specs.Running.{IsOverAfter, log_at, logged}
 use Rattle.story_run.specs.Starts.{start_stamp, starts_among}
 use Rattle.subsystem.specs.LayoutOutcomes.{IsOutcome, Outcome, lines_of}
 use Rattle.subsystem.specs.Progress.{line_so_far, lines_so_far}
-use Rattle.subsystem.proofs.Lines.{lines_whole, one_longer}
+use Rattle.subsystem.proofs.Lines.{lines_whole}
+use Rattle.subsystem.proofs.Ticks.{one_longer}
 use Rattle.subsystem.proofs.Begun.{before_end}
 use Rattle.subsystem.proofs.Reported.{still_reported}
 

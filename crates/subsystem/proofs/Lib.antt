@@ -1,10 +1,7 @@
 pub mod Agreed
-pub mod Beginning
 pub mod Ends
 pub mod Lines
-pub mod Room
 pub mod Begun
-pub mod Going
 pub mod Came
 pub mod Reported
 pub mod Reporters

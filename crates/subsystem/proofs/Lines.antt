@@ -1,19 +1,23 @@
 -- The lines of the log, as starts and items come.
-use Rattle.std.proofs.Common.{◌≡◌, ◌≤◌, ◌<◌, ℕ, suc, ◌+◌, ◌-◌, List, [], ◌∷◌, ◌++◌, length, map, drop}
-use Rattle.std.proofs.Common.{get_or, drop-cons, refl, ap, sym, ◌∙◌, arith, add-one, inl, inr}
-use Rattle.std.proofs.lemmas.List.{length-append}
+use Rattle.std.proofs.Common.{◌≡◌, ◌≤◌, ◌<◌, ℕ, suc, ◌+◌, ◌-◌, ◌*◌, List, [], ◌∷◌, ◌++◌, length, map, drop}
+use Rattle.std.proofs.Common.{append_assoc, length-append, get_or, drop-cons, refl, ap, sym, ◌∙◌, arith, inl, inr}
+use Rattle.std.specs.Prelude.{Bool, count_by, cond}
 use Rattle.std.specs.Fmt.{decimal}
+use Rattle.std.proofs.lemmas.List.{length-map}
+use Rattle.std.proofs.lemmas.List.Sums.{sum_by-append}
 use Rattle.board_terms.specs.Cadence.{begun, listed}
 use Rattle.host_turn.specs.declared.stamped.Stamped.{Stamped}
 use Rattle.io_edge.proofs.Pieces.{AreLines, EndsLine, lines_after}
 use Rattle.link_model.specs.declared.line.LogLine.{LogLine}
 use Rattle.pc_tables.specs.Items.{text_of}
 use Rattle.subsystem.specs.Account.{in_tick}
+use Rattle.subsystem.specs.Counts.{is_beep, is_port, is_word, with_lines}
 use Rattle.subsystem.specs.Progress.{line_so_far}
 use Rattle.story_run.specs.Running.{AreIn}
 use Rattle.subsystem.specs.LayoutOutcomes.{line_of, lines_of}
 use Rattle.subsystem.specs.Texts.{line_text, log_text}
-use Rattle.subsystem.proofs.Ticks.{begun_later, all_begun}
+use Rattle.subsystem.specs.declared.counts.Counts.{Counts}
+use Rattle.subsystem.proofs.Ticks.{all_begun, begun_later, one_longer}
 
 -- the text of the log is of whole lines
 pub line_ends : (line : LogLine) → EndsLine (line_text line)
@@ -22,9 +26,6 @@ line_ends line = (decimal line.tick ++ 32 ∷ text_of line.item, refl)
 pub are_lines : (lines : List LogLine) → AreLines (log_text lines)
 are_lines [] = inl refl
 are_lines (line ∷ lines) = lines_after (line_text line) (log_text lines) (inr (line_ends line)) (are_lines lines)
-
-pub one_longer : (starts : List ℕ) (next : ℕ) → length (starts ++ next ∷ []) ≡ suc (length starts)
-one_longer starts next = length-append starts (next ∷ []) ∙ add-one (length starts)
 
 -- a later start changes no line
 line_later : (starts : List ℕ) (next : ℕ) (s : Stamped) → s.cycle < 4096 + next → line_so_far (starts ++ next ∷ []) s ≡ line_so_far starts s
@@ -73,3 +74,32 @@ pub lines_left : (tick : ℕ) (items : List Stamped) (i : ℕ) (d : Stamped) →
 lines_left tick items i d within =
     let e : suc i ≡ i + 1 = omega arith in
     ap (map (in_tick tick)) (drop-cons items i d within ∙ ap (λ k. get_or items i d ∷ drop k items) e)
+
+-- the text of more lines
+pub log_text-append : (xs ys : List LogLine) → log_text (xs ++ ys) ≡ log_text xs ++ log_text ys
+log_text-append [] ys = refl
+log_text-append (x ∷ xs) ys =
+    ap (λ v. line_text x ++ v) (log_text-append xs ys) ∙ sym (append_assoc (line_text x) (log_text xs) (log_text ys))
+
+count-append : (p : LogLine → Bool) (xs ys : List LogLine) → count_by p (xs ++ ys) ≡ count_by p xs + count_by p ys
+count-append p xs ys = sum_by-append (λ x. cond (p x) 1 0) xs ys
+
+-- the counts of more lines
+pub with_lines-append : (c : Counts) (xs ys : List LogLine) → with_lines (with_lines c xs) ys ≡ with_lines c (xs ++ ys)
+with_lines-append c xs ys =
+    let a = count-append is_port xs ys in
+    let b = count-append is_word xs ys in
+    let d = count-append is_beep xs ys in
+    let p : c.ports + count_by is_port xs + count_by is_port ys ≡ c.ports + count_by is_port (xs ++ ys) = omega (arith, a) in
+    let w : c.words + count_by is_word xs + count_by is_word ys ≡ c.words + count_by is_word (xs ++ ys) = omega (arith, b) in
+    let e : c.beeps + count_by is_beep xs + count_by is_beep ys ≡ c.beeps + count_by is_beep (xs ++ ys) = omega (arith, d) in
+    cc (p, w, e)
+
+-- a step more, with its lines
+pub short_more : {X : Type 0} (before all : List LogLine) (f : X → LogLine) (items : List X) (k n : ℕ)
+    → all ≡ before ++ map f items → length before ≤ 16 * k → length items ≤ 16 → k < n → length all ≤ 16 * n
+short_more before all f items k n e short few more =
+    let a = ap length e in
+    let b = length-append before (map f items) in
+    let d = length-map items f in
+    omega (arith, a, b, d, short, few, more)

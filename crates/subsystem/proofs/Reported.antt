@@ -1,5 +1,5 @@
 -- What is reported after one stretch of steps.
-use Rattle.std.proofs.Common.{◌≡◌, ◌≤◌, ◌<◌, ◌^◌, ℕ, suc, ◌+◌, ◌-◌, ◌*◌, ◌/◌, true, false, List, [], ◌∷◌, ◌++◌}
+use Rattle.std.proofs.Common.{◌≡◌, ◌<◌, ◌^◌, ℕ, suc, ◌+◌, ◌-◌, ◌/◌, true, false, List, [], ◌∷◌, ◌++◌}
 use Rattle.std.proofs.Common.{length, map, drop, Some, ap, sym, subst, ◌∙◌, arith}
 use Rattle.std.specs.Prelude.{if◌then◌else◌}
 use Rattle.std.proofs.lemmas.List.{append-nil, map-append}
@@ -13,7 +13,8 @@ use Rattle.joint_feed.specs.declared.course.Course.{Course}
 use Rattle.joint_run.specs.Joint.{Beside, log_of, joint_start_of}
 use Rattle.joint_run.specs.Run.{World}
 use Rattle.link_model.specs.declared.line.LogLine.{LogLine}
-use Rattle.story_run.specs.declared.ending.Ending.TheVariants.{TickStart}
+use Rattle.story_run.specs.declared.ending.Ending.{Ending}
+use Rattle.story_run.specs.declared.ending.Ending.TheVariants.{TickStart, Stamp}
 use Rattle.story_run.specs.Advance.{IsAtReport}
 use Rattle.story_run.specs.Running.{log_at, logged, step_says}
 use Rattle.story_run.specs.Starts.{start_stamp, starts_among}
@@ -22,14 +23,10 @@ use Rattle.story_run.proofs.Said.{Said}
 use Rattle.story_run.proofs.Steps.{said_by, step_said}
 use Rattle.subsystem.specs.Account.{in_tick}
 use Rattle.subsystem.specs.Progress.{line_so_far, lines_to, lines_so_far}
-use Rattle.io_edge.proofs.Pieces.{said_then_said}
-use Rattle.io_edge.specs.Said.{IsBrokenOff, IsSaid, Shown}
-use Rattle.subsystem.specs.Counts.{none_counted, with_lines}
-use Rattle.subsystem.specs.Putting.{IsLogBrokenAt, step_lines}
-use Rattle.subsystem.specs.Texts.{log_text}
-use Rattle.subsystem.specs.declared.counts.Counts.{Counts}
-use Rattle.subsystem.proofs.Lines.{are_lines, lines_later, lines_now}
-use Rattle.subsystem.proofs.Room.{log_text-append, short_more, with_lines-append}
+use Rattle.subsystem.specs.LogReports.{HasNoted}
+use Rattle.subsystem.specs.Putting.{step_lines}
+use Rattle.subsystem.specs.declared.starts.Starts.{Starts}
+use Rattle.subsystem.proofs.Lines.{lines_later, lines_now}
 use Rattle.subsystem.proofs.Begun.{begun_among, few_among, few_before}
 
 module _ (s : Story) where
@@ -84,6 +81,20 @@ reported_step s t k =
     ∙ ap (λ l. lines_so_far s k ++ l) (sym (lines_now starts w.cycle v.cycle said.more (begun_among s t k w from.1) said.each))
     ∙ ap (λ l. lines_so_far s k ++ map (in_tick (length starts - 1)) l) (sym says)
 
+-- the lines of what a step says, in the tick of the last of these starts
+abbrev pub lines_of_step : Course → List ℕ → List LogLine
+lines_of_step c starts = map (in_tick (length starts - 1)) c.seen.items.items
+
+-- what is reported of one step more, by the starts that were noted: `last` steps were made before it, and it led to this state
+pub record IsOneMore (s : Story) (k : ℕ) (c : Course) (last : ℕ) (world : World Beside) (starts : List ℕ) : Type 0 where
+  pub few : length starts < 2 ^ 32
+  pub room : length starts < s.stop / 2048 + 2
+  pub later : k < c.joint.steps
+  pub lines : lines_so_far s c.joint.steps ≡ lines_so_far s k ++ lines_of_step c starts
+  pub says : lines_of_step c starts ≡ step_lines s last
+  pub still : lines_so_far s k ≡ lines_so_far s last
+  pub more : starts ++ start_stamp s (Some world) ≡ starts_among s (suc c.joint.steps)
+
 module _ (s : Story) (k : ℕ) (c : Course) (b : IsAtReport TickStart false s k c) where
   abbrev starts : List ℕ
   starts = starts_among s (suc k)
@@ -92,91 +103,40 @@ module _ (s : Story) (k : ℕ) (c : Course) (b : IsAtReport TickStart false s k 
   items = c.seen.items.items
 
   -- no tick started since
-  starts_same : starts_among s (suc b.last) ≡ starts
-  starts_same = b.quiet.starts
+  same : starts_among s c.joint.steps ≡ starts
+  same = ap (starts_among s) b.steps ∙ b.quiet.starts
 
-  steps_later : k < c.joint.steps
-  steps_later = let l = b.quiet.later in let e = b.steps in omega (arith, l, e)
-
-  -- there are few
-  pub few_starts : length starts < 2 ^ 32
-  few_starts =
-      let few = few_among s k b.from b.there in
+  pub one_more_by : IsOneMore s k c b.last b.run_so_far.on.world starts
+  one_more_by =
+      let silent = b.quiet.later in
+      let number = b.steps in
+      let few = few_among s (suc k) in
       let most = b.run_so_far.on.few in
       let near = b.near in
-      let later = steps_later in
-      omega (arith, few, most, near, later)
-
-  -- what the last step said, in the tick of the last start
-  said_now : map (in_tick (length starts - 1)) items ≡ map (line_so_far starts) items
-  said_now = lines_now starts b.from.cycle c.joint.cycle items (begun_among s b.timely k b.from b.there) b.items
-
-  pub reported_more : lines_so_far s c.joint.steps ≡ lines_so_far s k ++ map (in_tick (length starts - 1)) items
-  reported_more =
+      let all = few_before s b.timely c.joint.steps b.run_so_far.goes_on in
+      let length_same : length (starts_among s c.joint.steps) ≡ length starts = ap length same in
       let line = map (line_so_far starts) in
-      ap (λ (n : ℕ). lines_to s (starts_among s n) c.joint.steps) b.steps
-      ∙ ap (λ (v : List ℕ). lines_to s v c.joint.steps) starts_same
-      ∙ ap line (b.said ∙ ap (λ (l : List Stamped). l ++ items) b.quiet.log)
-      ∙ map-append (line_so_far starts) (log_at s k) items
-      ∙ ap (λ v. v ++ line items) (all_reported s b.timely k b.from b.there)
-      ∙ ap (λ v. lines_so_far s k ++ v) (sym said_now)
-
-  -- which is what that step says
-  pub step_reported : map (in_tick (length starts - 1)) items ≡ step_lines s b.last
-  step_reported =
       let says : step_says s b.last ≡ items =
       ap (drop (length (log_at s b.last))) (sym (ap (log_at s) b.steps) ∙ b.said) ∙ drop-append_seam (log_at s b.last) items in
-      ap (map (in_tick (length starts - 1))) (sym says)
-      ∙ ap (λ (v : List ℕ). map (in_tick (length v - 1)) (step_says s b.last)) (sym starts_same)
+      record {
+        few = omega (arith, few, most, near, silent, number);
+        room = omega (arith, all, length_same);
+        later = omega (arith, silent, number);
+        lines = ap (λ (v : List ℕ). lines_to s v c.joint.steps) same
+            ∙ ap line (b.said ∙ ap (λ (l : List Stamped). l ++ items) b.quiet.log)
+            ∙ map-append (line_so_far starts) (log_at s k) items
+            ∙ ap (λ v. v ++ line items) (all_reported s b.timely k b.from b.there)
+            ∙ ap (λ v. lines_so_far s k ++ v)
+            (sym (lines_now starts b.from.cycle c.joint.cycle items (begun_among s b.timely k b.from b.there) b.items));
+        says = ap (map (in_tick (length starts - 1))) (sym says)
+            ∙ ap (λ (v : List ℕ). map (in_tick (length v - 1)) (step_says s b.last)) (sym b.quiet.starts);
+        still = reported_quiet s b.timely k b.last b.quiet;
+        more = ap (λ (v : List ℕ). v ++ start_stamp s (Some b.run_so_far.on.world)) (sym same)
+            ∙ ap (λ (o : Option (World Beside)). starts_among s c.joint.steps ++ start_stamp s o) (sym (here s c b.run_so_far.on));
+      }
 
-  -- and before it nothing was reported since
-  pub reported_still : lines_so_far s k ≡ lines_so_far s b.last
-  reported_still = reported_quiet s b.timely k b.last b.quiet
-
-  -- a start at the present state is put after
-  pub starts_more : (noted : List ℕ)
-      → noted ≡ starts ++ start_stamp s (Some b.run_so_far.on.world) → noted ≡ starts_among s (suc c.joint.steps)
-  starts_more noted is =
-      is ∙ ap (λ (v : List ℕ). v ++ start_stamp s (Some b.run_so_far.on.world)) (sym starts_same ∙ ap (starts_among s) (sym b.steps))
-      ∙ ap (λ (o : Option (World Beside)). starts_among s c.joint.steps ++ start_stamp s o) (sym (here s c b.run_so_far.on))
-
-  -- a put of its lines broke off
-  pub broken_now : (first now next : Shown)
-      → IsSaid first now (log_text (lines_so_far s k)) → IsBrokenOff now next (log_text (map (in_tick (length starts - 1)) items))
-      → IsLogBrokenAt s first next b.last
-  broken_now first now next said broken = record {
-    between = now;
-    said = subst (λ (l : List LogLine). IsSaid first now (log_text l)) reported_still said;
-    broken = subst (λ (l : List LogLine). IsBrokenOff now next (log_text l)) step_reported broken;
-  }
-
-  -- or they are said
-  pub said_more : (first now next : Shown)
-      → IsSaid first now (log_text (lines_so_far s k)) → IsSaid now next (log_text (map (in_tick (length starts - 1)) items))
-      → IsSaid first next (log_text (lines_so_far s c.joint.steps))
-  said_more first now next said put =
-      let old = lines_so_far s k in
-      let new = map (in_tick (length starts - 1)) items in
-      subst (λ (l : List LogLine). IsSaid first next (log_text l)) (sym reported_more)
-      (subst (λ t. IsSaid first next t) (sym (log_text-append old new))
-      (said_then_said first now next (log_text old) (log_text new) (are_lines old) said put))
-
-  -- counted
-  pub counts_more : (before after : Counts)
-      → before ≡ with_lines none_counted (lines_so_far s k) → after ≡ with_lines before (map (in_tick (length starts - 1)) items)
-      → after ≡ with_lines none_counted (lines_so_far s c.joint.steps)
-  counts_more before after so_far is =
-      let new = map (in_tick (length starts - 1)) items in
-      is ∙ ap (λ v. with_lines v new) so_far ∙ with_lines-append none_counted (lines_so_far s k) new
-      ∙ ap (with_lines none_counted) (sym reported_more)
-
-  pub short_now : length items ≤ 16 → length (lines_so_far s k) ≤ 16 * k → length (lines_so_far s c.joint.steps) ≤ 16 * c.joint.steps
-  short_now few short =
-      short_more (lines_so_far s k) (lines_so_far s c.joint.steps) (in_tick (length starts - 1)) items k c.joint.steps reported_more short few steps_later
-
-  -- the list of starts has room
-  pub room_now : length starts < s.stop / 2048 + 2
-  room_now =
-      let all = few_before s b.timely c.joint.steps b.run_so_far.goes_on in
-      let same : length (starts_among s c.joint.steps) ≡ length starts = ap length (ap (starts_among s) b.steps ∙ starts_same) in
-      omega (arith, all, same)
+pub one_more : (e : Ending) (s : Story) (k : ℕ) (c : Course) (it : Starts) (b : IsAtReport e false s k c) → HasNoted e s k it
+    → IsOneMore s k c b.last b.run_so_far.on.world it.stamps.items
+one_more TickStart s k c it b noted =
+    subst (λ (v : List ℕ). IsOneMore s k c b.last b.run_so_far.on.world v) (sym noted.starts) (one_more_by s k c b)
+one_more Stamp s k c it b noted = absurd (cc noted.ending)

@@ -1,10 +1,39 @@
 -- How many starts are at or before a cycle, as starts come one after the other.
-use Rattle.std.proofs.Common.{◌≡◌, ◌≤◌, ◌<◌, ℕ, zero, suc, ◌+◌, true, false, List, [], ◌∷◌, ◌++◌, length, refl, ap, ◌∙◌, arith, add-one}
+use Rattle.std.proofs.Common.{◌≡◌, ◌≤◌, ◌<◌, ℕ, zero, suc, ◌+◌, Bool, true, false, List, [], ◌∷◌, ◌++◌, length}
+use Rattle.std.proofs.Common.{leb, refl, ap, sym, subst, ◌∙◌, arith, add-one}
 use Rattle.std.specs.Prelude.{nat_le, if◌then◌else◌}
 use Rattle.std.proofs.lemmas.Bool.Decides.{nat_tests}
-use Rattle.std.proofs.lemmas.List.{get_or_append_left}
+use Rattle.std.proofs.lemmas.List.{append-nil, get_or_append_left, length-append}
 use Rattle.std.proofs.Math.Seq.{get_or-append_seam}
 use Rattle.board_terms.specs.Cadence.{begun, listed}
+use Rattle.mcs48_core.specs.Status.{digit}
+
+pub one_longer : (starts : List ℕ) (next : ℕ) → length (starts ++ next ∷ []) ≡ suc (length starts)
+one_longer starts next = length-append starts (next ∷ []) ∙ add-one (length starts)
+
+-- something is so of each start of a list, by its number
+abbrev pub AreEach : (ℕ → ℕ → Type 0) → List ℕ → Type 0
+AreEach P starts = (j : ℕ) → j < length starts → P j (listed starts j)
+
+each_with : (P : ℕ → ℕ → Type 0) (starts : List ℕ) (next : ℕ) → AreEach P starts → P (length starts) next → AreEach P (starts ++ next ∷ [])
+each_with P starts next all one j below =
+    let long : length (starts ++ next ∷ []) ≡ suc (length starts) = one_longer starts next in
+    elim (leb (length starts) j) as (λ b. leb (length starts) j ≡ b → P j (listed (starts ++ next ∷ []) j)) [
+      | true ↦ λ f. let e : j ≡ length starts = grind (arith, nat_tests, f, below, long) in
+          subst (λ (i : ℕ). P i (listed (starts ++ next ∷ []) i)) (sym e)
+          (subst (P (length starts)) (sym (get_or-append_seam starts next [] 0)) one)
+      | false ↦ λ f. let m : j < length starts = grind (arith, nat_tests, f) in
+          subst (P j) (sym (get_or_append_left starts (next ∷ []) 0 j m)) (all j m)
+    ] refl
+
+pub each_with_if : (P : ℕ → ℕ → Type 0) (b : Bool) (starts : List ℕ) (next : ℕ) → AreEach P starts → (b ≡ true → P (length starts) next)
+    → AreEach P (starts ++ (if b then next ∷ [] else []))
+each_with_if P true starts next all one = each_with P starts next all (one refl)
+each_with_if P false starts next all one = subst (AreEach P) (sym (append-nil starts)) all
+
+pub longer_if : (b : Bool) (starts : List ℕ) (next : ℕ) → length (starts ++ (if b then next ∷ [] else [])) ≡ length starts + digit b
+longer_if true starts next = let e = one_longer starts next in omega (arith, e)
+longer_if false starts next = let e = ap length (append-nil starts) in omega (arith, e)
 
 -- starts that agree below a number have begun alike
 begun_alike : (f g : ℕ → ℕ) (cycle n : ℕ) → ((j : ℕ) → j < n → f j ≡ g j) → begun f cycle n ≡ begun g cycle n

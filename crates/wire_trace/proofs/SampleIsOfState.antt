@@ -1,7 +1,6 @@
 -- A sample of the machine is one of the state that its last step led to, and is heard as after the step before.
-use Rattle.std.proofs.Common.{◌≡◌, ◌≤◌, ◌<◌, ℕ, zero, suc, true, Some, None, Ok, Err, OnErr, refl, ap, sym, subst, ◌∙◌, arith}
+use Rattle.std.proofs.Common.{◌≡◌, ◌≤◌, ◌<◌, ℕ, zero, suc, true, Some, None, refl, ap, sym, subst, ◌∙◌, arith}
 use Rattle.std.specs.declared.option.Option.{Option}
-use Rattle.std.specs.declared.result.Result.{Result}
 use Rattle.std.proofs.lemmas.Bool.Decides.{nat_tests}
 use Rattle.board_terms.specs.declared.lines.Lines.{Lines}
 use Rattle.board_probes.proofs.Sights.{same_sight}
@@ -26,11 +25,6 @@ use Rattle.wire_trace.specs.HeardSoFar.{HasHeard}
 use Rattle.wire_trace.specs.Text.{sample_text}
 use Rattle.wire_trace.specs.Trace.{changes_to, text_in}
 use Rattle.wires_heard.specs.Hearing.{heard_in, heard_to, sample_in}
-
--- what follows from what is so where it failed
-pub on_err : {A E P Q : Type 0} (result : Result A E) → (P → Q) → OnErr result P → OnErr result Q
-on_err (Ok a) f p = tt
-on_err (Err e) f p = f p
 
 -- the last sample is none of a later cycle
 abbrev IsHeardBy : Option Sample → ℕ → Type 0

@@ -1,4 +1,4 @@
-use Rattle.runs_agree.proofs.BoardsAlike.{boards_alike}
+use Rattle.board_run.proofs.Alike.{boards_alike}
 use Rattle.runs_agree.proofs.boards_are_alike.Goals as goal
 
 pub returns : goal.returns

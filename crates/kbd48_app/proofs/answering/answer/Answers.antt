@@ -1,47 +1,58 @@
 use Rattle.std.proofs.Common.{sym, ◌∙◌, ap, Some}
-use Rattle.kbd48_app.proofs.BoardsAreSaid.{board_spoken}
-use Rattle.kbd48_app.proofs.AnswersAreSpoken.{debug_spoken, file_spoken, pair_spoken, probe_spoken, sample_spoken}
+use Rattle.app_answers.specs.FileAnswers.{file_said}
+use Rattle.app_words.specs.Kinds.{kind_of}
+use Rattle.app_words.specs.declared.words.Command.TheVariants.{OverFile, OverPair, Debug, Probe, Board}
+use Rattle.kbd48_app.specs.Plans.{Boards, Fetches, Gives, debug_plan, pair_plan, probe_plan, program_plan}
+use Rattle.kbd48_app.proofs.AnswersAreSpoken.{sample_spoken, spoken_as, unsaid_as}
+use Rattle.kbd48_app.proofs.WordsAreNames.{named_1, named_2, named_3, named_4}
 use Rattle.kbd48_app.proofs.answering.answer.Goals as goal
 
 pub returns-in-Some-OverFile-clause-ends : goal.returns-in-Some-OverFile-clause-ends
 returns-in-Some-OverFile-clause-ends g c =
-    file_spoken c.args.words.now (g.F.Shelf.in_memory c.args.shelf.now) _ c.in-Some-OverFile.command c.index-words-1.result
-    _ _ c.over_file.result c.to_say-in-Some-OverFile.result
-    (g.K.Sink.shown c.args.out.now)
+    unsaid_as c.args.words.now (g.F.Shelf.in_memory c.args.shelf.now) _ (OverFile c.in-Some-OverFile.command) _ _ _
     (sym c.read_command.ensures.command ∙ (c.in-Some-OverFile.is ∙ ap (λ f. Some f) c.in-Some-OverFile.field-0-is))
-    (rw c.in-Some-OverFile.field-0-is at c.in-Some-OverFile.ensures.named) c.index-words-1.is c.deref.ensures
-    c.to_say-in-Some-OverFile.ensures c.over_file.ensures.ends
+    (named_1 c.args.words.now
+    (λ name. Fetches (kind_of c.in-Some-OverFile.command) name (λ bytes. Gives (file_said c.in-Some-OverFile.command bytes)))
+    c.index-words-1.result _ (rw c.in-Some-OverFile.field-0-is at c.in-Some-OverFile.ensures.named) c.index-words-1.is c.deref.ensures)
+    c.to_say-in-Some-OverFile.result c.over_file.result
+    (g.K.Sink.shown c.args.out.now)
+    c.to_say-in-Some-OverFile.ensures (c.over_file.ensures.ends _)
 
 pub returns-in-Some-OverPair-clause-ends : goal.returns-in-Some-OverPair-clause-ends
 returns-in-Some-OverPair-clause-ends g c =
-    pair_spoken c.args.words.now (g.F.Shelf.in_memory c.args.shelf.now) _ c.in-Some-OverPair.command
-    c.index-words-1-in-Some-OverPair.result c.index-words-2.result _ _ _ _ c.over_pair.result
-    (g.K.Sink.shown c.args.out.now)
-    (g.K.Sink.shown c.over_pair.new.out)
+    spoken_as c.args.words.now (g.F.Shelf.in_memory c.args.shelf.now) _ (OverPair c.in-Some-OverPair.command) _ _ _
     (sym c.read_command.ensures.command ∙ (c.in-Some-OverPair.is ∙ ap (λ f. Some f) c.in-Some-OverPair.field-0-is))
+    (named_2 c.args.words.now (pair_plan c.in-Some-OverPair.command) c.index-words-1-in-Some-OverPair.result c.index-words-2.result _ _
     (rw c.in-Some-OverPair.field-0-is at c.in-Some-OverPair.ensures.named) c.index-words-1-in-Some-OverPair.is c.index-words-2.is
-    c.deref-in-Some-OverPair.ensures c.deref-in-Some-OverPair-2.ensures c.over_pair.ensures.ends
+    c.deref-in-Some-OverPair.ensures c.deref-in-Some-OverPair-2.ensures)
+    c.over_pair.result
+    (g.K.Sink.shown c.args.out.now)
+    (g.K.Sink.shown c.over_pair.new.out) c.over_pair.ensures.ends
 
 pub returns-in-Some-Debug-clause-ends : goal.returns-in-Some-Debug-clause-ends
 returns-in-Some-Debug-clause-ends g c =
-    debug_spoken c.args.words.now (g.F.Shelf.in_memory c.args.shelf.now) _ c.index-words-1-in-Some-Debug.result
-    c.index-words-2-in-Some-Debug.result c.index-words-3.result _ _ _ _ _ c.over_debug.result c.to_say-in-Some-Debug.result
-    (g.K.Sink.shown c.args.out.now)
+    unsaid_as c.args.words.now (g.F.Shelf.in_memory c.args.shelf.now) _ Debug _ _ _
     (sym c.read_command.ensures.command ∙ (c.in-Some-Debug.is ∙ ap (λ f. Some f) c.in-Some-Debug.field-0-is))
-    (rw c.in-Some-Debug.field-0-is at c.in-Some-Debug.ensures.named) c.index-words-1-in-Some-Debug.is c.index-words-2-in-Some-Debug.is
-    c.index-words-3.is c.deref-in-Some-Debug.ensures c.deref-in-Some-Debug-2.ensures c.deref-in-Some-Debug-3.ensures
+    (named_3 c.args.words.now debug_plan c.index-words-1-in-Some-Debug.result c.index-words-2-in-Some-Debug.result c.index-words-3.result
+    _ _ _ (rw c.in-Some-Debug.field-0-is at c.in-Some-Debug.ensures.named)
+    c.index-words-1-in-Some-Debug.is c.index-words-2-in-Some-Debug.is c.index-words-3.is
+    c.deref-in-Some-Debug.ensures c.deref-in-Some-Debug-2.ensures c.deref-in-Some-Debug-3.ensures)
+    c.to_say-in-Some-Debug.result c.over_debug.result
+    (g.K.Sink.shown c.args.out.now)
     c.to_say-in-Some-Debug.ensures c.over_debug.ensures.ends
 
 pub returns-in-Some-Probe-clause-ends : goal.returns-in-Some-Probe-clause-ends
 returns-in-Some-Probe-clause-ends g c =
-    probe_spoken c.args.words.now (g.F.Shelf.in_memory c.args.shelf.now) _ c.in-Some-Probe.fill c.index-words-1-in-Some-Probe.result
-    c.index-words-2-in-Some-Probe.result c.index-words-3-in-Some-Probe.result c.index-words-4.result
-    _ _ _ _ _ _ c.over_probe.result c.to_say-in-Some-Probe.result
-    (g.K.Sink.shown c.args.out.now)
+    unsaid_as c.args.words.now (g.F.Shelf.in_memory c.args.shelf.now) _ (Probe c.in-Some-Probe.fill) _ _ _
     (sym c.read_command.ensures.command ∙ (c.in-Some-Probe.is ∙ ap (λ f. Some f) c.in-Some-Probe.field-0-is))
-    (rw c.in-Some-Probe.field-0-is at c.in-Some-Probe.ensures.named) c.index-words-1-in-Some-Probe.is c.index-words-2-in-Some-Probe.is
-    c.index-words-3-in-Some-Probe.is c.index-words-4.is c.deref-in-Some-Probe.ensures c.deref-in-Some-Probe-2.ensures
-    c.deref-in-Some-Probe-3.ensures c.deref-in-Some-Probe-4.ensures c.to_say-in-Some-Probe.ensures c.over_probe.ensures.ends
+    (named_4 c.args.words.now (probe_plan c.in-Some-Probe.fill) c.index-words-1-in-Some-Probe.result
+    c.index-words-2-in-Some-Probe.result c.index-words-3-in-Some-Probe.result c.index-words-4.result
+    _ _ _ _ (rw c.in-Some-Probe.field-0-is at c.in-Some-Probe.ensures.named)
+    c.index-words-1-in-Some-Probe.is c.index-words-2-in-Some-Probe.is c.index-words-3-in-Some-Probe.is c.index-words-4.is
+    c.deref-in-Some-Probe.ensures c.deref-in-Some-Probe-2.ensures c.deref-in-Some-Probe-3.ensures c.deref-in-Some-Probe-4.ensures)
+    c.to_say-in-Some-Probe.result c.over_probe.result
+    (g.K.Sink.shown c.args.out.now)
+    c.to_say-in-Some-Probe.ensures c.over_probe.ensures.ends
 
 pub returns-in-Some-Sample-clause-ends : goal.returns-in-Some-Sample-clause-ends
 returns-in-Some-Sample-clause-ends g c =
@@ -53,11 +64,13 @@ returns-in-Some-Sample-clause-ends g c =
 
 pub returns-in-Some-Board-clause-ends : goal.returns-in-Some-Board-clause-ends
 returns-in-Some-Board-clause-ends g c =
-    board_spoken c.args.words.now (g.F.Shelf.in_memory c.args.shelf.now) _ c.in-Some-Board.wanted c.index-words-1-in-Some-Board.result
-    c.index-words-2-in-Some-Board.result c.index-words-3-in-Some-Board.result _ _ _ _ _ c.over_board.result
-    (g.K.Sink.shown c.args.out.now)
-    (g.K.Sink.shown c.over_board.new.out)
+    spoken_as c.args.words.now (g.F.Shelf.in_memory c.args.shelf.now) _ (Board c.in-Some-Board.wanted) _ _ _
     (sym c.read_command.ensures.command ∙ (c.in-Some-Board.is ∙ ap (λ f. Some f) c.in-Some-Board.field-0-is))
-    (rw c.in-Some-Board.field-0-is at c.in-Some-Board.ensures.named) c.index-words-1-in-Some-Board.is c.index-words-2-in-Some-Board.is
-    c.index-words-3-in-Some-Board.is c.deref-in-Some-Board.ensures c.deref-in-Some-Board-2.ensures
-    c.deref-in-Some-Board-3.ensures c.over_board.ensures.ends
+    (named_3 c.args.words.now (program_plan (Boards c.in-Some-Board.wanted)) c.index-words-1-in-Some-Board.result
+    c.index-words-2-in-Some-Board.result c.index-words-3-in-Some-Board.result
+    _ _ _ (rw c.in-Some-Board.field-0-is at c.in-Some-Board.ensures.named)
+    c.index-words-1-in-Some-Board.is c.index-words-2-in-Some-Board.is c.index-words-3-in-Some-Board.is
+    c.deref-in-Some-Board.ensures c.deref-in-Some-Board-2.ensures c.deref-in-Some-Board-3.ensures)
+    c.over_board.result
+    (g.K.Sink.shown c.args.out.now)
+    (g.K.Sink.shown c.over_board.new.out) c.over_board.ensures.ends

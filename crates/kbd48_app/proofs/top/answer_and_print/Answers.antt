@@ -4,9 +4,8 @@ use Rattle.kbd48_app.proofs.top.answer_and_print.Goals as goal
 
 pub returns-clause-says : goal.returns-clause-says
 returns-clause-says g c =
-    let h = has_ended (map string_bytes c.args.words.now) (g.F.Shelf.in_memory c.args.shelf.now) _ _ _ c.answer-answer.result
-    _ _ _ _ c.answer-answer.ensures.ends c.conclude.ensures.concludes in
-    (h.0, h.1.0, h.1.1, h.1.2)
+    has_ended (map string_bytes c.args.words.now) (g.F.Shelf.in_memory c.args.shelf.now) _ _ _ c.answer-answer.result
+    _ _ _ _ c.answer-answer.ensures.ends c.conclude.ensures.concludes
 
 pub returns-clause-read : goal.returns-clause-read
 returns-clause-read g c = λ is. c.answer-answer.ensures.read (read_of c.answer-answer.result _ _ _ c.conclude.ensures.concludes is)

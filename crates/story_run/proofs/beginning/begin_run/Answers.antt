@@ -1,11 +1,9 @@
 use Rattle.std.proofs.Common.{rules, sym, subst, ◌∙◌}
 use Rattle.fw_compile.specs.Image.{image_of}
 use Rattle.fw_logic.specs.JointRun.{KeepsTime}
-use Rattle.key_file.specs.Accepted.{IsAcceptedFor}
 use Rattle.layout_reader.specs.Layouts.{IsKeyLayout}
 use Rattle.story_run.specs.declared.ending.Ending.TheVariants.{TickStart}
-use Rattle.story_run.proofs.Loop.{same_story}
-use Rattle.story_run.proofs.Ready.{ready_at_start}
+use Rattle.story_run.proofs.Loop.{ready_at_start, same_story}
 use Rattle.story_run.proofs.beginning.begin_run.Goals as goal
 
 pub returns-clause-run : goal.returns-clause-run

@@ -1,56 +1,122 @@
-use Rattle.std.proofs.Common.{Ok, map, ap, sym, arith}
-use Rattle.story_run.proofs.Dozing.{stretch_off, stretch_on, then_glided, then_held}
-use Rattle.story_run.proofs.Quietly.{levels_kept, none_onward, then_onward}
-use Rattle.story_run.proofs.Timekeeping.{soon}
+use Rattle.std.proofs.Common.{◌≡◌, true, List, suc, ap, sym, subst, ◌∙◌, arith}
+use Rattle.board_terms.specs.declared.lines.Lines.{Lines}
+use Rattle.board_probes.specs.Probes.{Watch}
+use Rattle.story_run.specs.Gliding.{HasGlided, IsHeldUp, IsTimely}
+use Rattle.story_run.proofs.Dozing.{as_seen, none_dozed}
+use Rattle.story_run.proofs.Quietly.{none_onward}
+use Rattle.story_run.proofs.Slept.{dozed, glided, held_seen, held_unseen, later, none_there, woken}
+use Rattle.story_run.proofs.Timekeeping.{never_stuck, soon}
 use Rattle.story_run.proofs.gliding.glide.Given as given
 use Rattle.story_run.proofs.gliding.glide.Goals as goal
 
-pub stretches-init : goal.stretches-init
-stretches-init g c = λ s is. none_onward c.args.halt s c.args.course.now _ is
-
-pub goes_on-requires-clause-going : goal.goes_on-requires-clause-going
-goes_on-requires-clause-going g c = (c.requires.going.0, (c.stretches.invariant c.requires.going.0 c.requires.going.1).going)
-
-pub goes_on-requires-clause-range : goal.goes_on-requires-clause-range
-goes_on-requires-clause-range g c = c.requires.range
-
-pub goes_on-requires-clause-levels : goal.goes_on-requires-clause-levels
-goes_on-requires-clause-levels g c =
-    levels_kept c.args.halt c.requires.going.0 c.args.course.now c.stretches.course _ _ c.lines-lines.result c.requires.going.1
-    (c.stretches.invariant c.requires.going.0 c.requires.going.1) (λ on. sym c.lines-lines.ensures.wires)
-
-pub returns-in-Err : goal.returns-in-Err
-returns-in-Err g c = record {
-  glide = λ s is.
-      let so_far = c.stretches.invariant s is in
-      then_held c.args.halt s c.args.course.now c.stretches.course c.goes_on.new.course _ _ _ c.in-Err.stuck
-      so_far (c.in-Err.ensures.stretch s so_far.going);
+pub steps-init : goal.steps-init
+steps-init g c = record {
+  dozed = λ s first way. none_dozed c.args.halt s first c.args.course.now c.args.course.now c.steps-latest.result _
+      (none_onward c.args.halt s c.args.course.now way.going) c.steps-latest.ensures.steps way.looked;
+  resting = λ on. sym c.all_rest-rest.ensures ∙ on;
+  level = ap (λ (l : Lines). l.clk) (sym c.lines-lines.ensures.wires);
+  levels = λ on. sym c.lines-lines.ensures.wires;
 }
 
-pub stretches-smaller : goal.stretches-smaller
-stretches-smaller g c =
-    let near = soon c.args.halt c.requires.going.0 c.stretches.course (c.stretches.invariant c.requires.going.0 c.requires.going.1).going in
-    let later = c.in-Ok-true.ensures.later (ap (λ b. Ok b) c.in-Ok-true.field-0-test) in
-    omega (arith, near, later)
+pub make_steps-requires-clause-going : goal.make_steps-requires-clause-going
+make_steps-requires-clause-going g c =
+    let way = c.requires.way in
+    (way.0, (c.steps.invariant.dozed way.0 way.1 way.2).onward.going)
 
-pub stretches-preserved : goal.stretches-preserved
-stretches-preserved g c = λ s is.
-    let so_far = c.stretches.invariant s is in
-    let new = c.goes_on.new.course in
-    then_onward c.args.halt s c.args.course.now c.stretches.course new _ _ _ so_far
-    (stretch_on c.args.halt s c.stretches.course new
-    (map (λ b. (given.Probe-dyn g (b.vtable, b.value)).watch b.value) c.stretches.probes.items)
-    (map (λ b. (given.Probe-dyn g (b.vtable, b.value)).watch b.value) c.goes_on.new.probes.items)
-    c.in-Ok-true.field-0 c.in-Ok-true.field-0-test (c.in-Ok-true.ensures.stretch s so_far.going))
+pub unreachable-requires : goal.unreachable-requires
+unreachable-requires g c =
+    let way = c.requires.way in
+    let inv = c.steps.invariant in
+    never_stuck way.0 (suc c.in-Err.ensures.made.gone.last.steps) (subst (λ v. IsTimely v way.0) c.in-TickStart.is way.2.going.timely)
+    (none_there c.args.halt way.0 way.1 c.args.course.now c.steps.latest c.steps.course _ (inv.dozed way.0 way.1 way.2)
+    c.steps.clk c.steps.rest inv.level inv.resting c.make_steps.new.course c.in-Err.stuck c.in-Err.ensures.made)
 
-pub returns-in-Ok-false : goal.returns-in-Ok-false
-returns-in-Ok-false g c = record {
-  glide = λ s is.
-      let so_far = c.stretches.invariant s is in
-      let new = c.goes_on.new.course in
-      then_glided c.args.halt s c.args.course.now c.stretches.course new _ _ _ so_far
-      (stretch_off c.args.halt s c.stretches.course new
-      (map (λ b. (given.Probe-dyn g (b.vtable, b.value)).watch b.value) c.stretches.probes.items)
-      (map (λ b. (given.Probe-dyn g (b.vtable, b.value)).watch b.value) c.goes_on.new.probes.items)
-      c.in-Ok-false.field-0 c.in-Ok-false.field-0-test (c.in-Ok-false.ensures.stretch s so_far.going));
+pub returns-then-steps-latest : goal.returns-then-steps-latest
+returns-then-steps-latest g c = record {
+  glide = λ s first way.
+      let inv = c.steps.invariant in
+      let new = c.make_steps.new.course in
+      subst (λ (ws : List Watch). IsHeldUp c.args.halt s first c.args.course.now new ws c.in-Err.stuck)
+      (sym (as_seen c.steps.probes.items (λ b. (given.Probe-dyn g (b.vtable, b.value)).watch b.value) new c.steps-steps.result _
+      c.steps-steps.ensures.steps c.look_all.ensures.looked))
+      (held_seen c.args.halt s first c.args.course.now c.steps.latest c.steps.course _ (inv.dozed s first way)
+      c.steps.clk c.steps.rest inv.level inv.resting new c.in-Err.stuck c.in-Err.ensures.made
+      (λ same. c.if-steps-latest.true (c.steps-steps.ensures.steps ∙ same)));
 }
+
+pub returns-else-steps-latest : goal.returns-else-steps-latest
+returns-else-steps-latest g c = record {
+  glide = λ s first way.
+      let inv = c.steps.invariant in
+      held_unseen c.args.halt s first c.args.course.now c.steps.latest c.steps.course _ (inv.dozed s first way)
+      c.steps.clk c.steps.rest inv.level inv.resting c.make_steps.new.course c.in-Err.stuck c.in-Err.ensures.made
+      (sym c.steps-steps.ensures.steps ∙ c.if-steps-latest.false);
+}
+
+pub returns-then-not-follows : goal.returns-then-not-follows
+returns-then-not-follows g c = record {
+  glide = λ s first way.
+      let inv = c.steps.invariant in
+      let new = c.make_steps.new.course in
+      let number = c.steps-latest-then-not-is_passed_over in
+      subst (λ (ws : List Watch). HasGlided c.args.halt s first c.args.course.now new ws)
+      (sym (as_seen c.steps.probes.items (λ b. (given.Probe-dyn g (b.vtable, b.value)).watch b.value) new number.result _
+      number.ensures.steps c.look_all-then-not-is_passed_over.ensures.looked))
+      (glided c.args.halt s first c.args.course.now c.steps.latest c.steps.course _ (inv.dozed s first way)
+      c.steps.clk c.steps.rest inv.level inv.resting new c.in-Ok.ensures.made c.in-Ok.ensures.some c.in-Ok.ensures.few);
+}
+
+pub steps-smaller-then-not-is_passed_over : goal.steps-smaller-then-not-is_passed_over
+steps-smaller-then-not-is_passed_over g c =
+    let way = c.requires.way in
+    let inv = c.steps.invariant in
+    let so_far = inv.dozed way.0 way.1 way.2 in
+    let near = soon c.args.halt way.0 c.steps.course so_far.onward.going in
+    let more = later c.args.halt way.0 way.1 c.args.course.now c.steps.latest c.steps.course _ so_far
+    c.steps.clk c.steps.rest inv.level inv.resting c.make_steps.new.course c.in-Ok.ensures.made c.in-Ok.ensures.some c.in-Ok.ensures.few in
+    omega (arith, near, more)
+
+pub steps-smaller : goal.steps-smaller
+steps-smaller g c =
+    let way = c.requires.way in
+    let inv = c.steps.invariant in
+    let so_far = inv.dozed way.0 way.1 way.2 in
+    let near = soon c.args.halt way.0 c.steps.course so_far.onward.going in
+    let more = later c.args.halt way.0 way.1 c.args.course.now c.steps.latest c.steps.course _ so_far
+    c.steps.clk c.steps.rest inv.level inv.resting c.make_steps.new.course c.in-Ok.ensures.made c.in-Ok.ensures.some c.in-Ok.ensures.few in
+    omega (arith, near, more)
+
+pub steps-preserved-then-not-is_passed_over : goal.steps-preserved-then-not-is_passed_over
+steps-preserved-then-not-is_passed_over g c =
+    let inv = c.steps.invariant in
+    let new = c.make_steps.new.course in
+    let number = c.steps-latest-then-not-is_passed_over in
+    let follows : c.can_follow-follows.result ≡ true = cc c.if-not-follows.false in
+    let can = c.can_follow-follows.ensures follows in
+    record {
+      dozed = λ s first way.
+          woken c.args.halt s first c.args.course.now c.steps.latest c.steps.course _ (inv.dozed s first way)
+          c.steps.clk c.steps.rest inv.level inv.resting new c.in-Ok.ensures.made c.in-Ok.ensures.some c.in-Ok.ensures.few
+          c.lines-lines.result inv.levels can number.result number.ensures.steps _
+          (as_seen c.steps.probes.items (λ b. (given.Probe-dyn g (b.vtable, b.value)).watch b.value) new number.result _
+          number.ensures.steps c.look_all-then-not-is_passed_over.ensures.looked);
+      resting = λ on. sym c.all_rest-rest-then-not-is_passed_over.ensures ∙ on;
+      level = ap (λ (l : Lines). l.clk) (sym c.lines-clk.ensures.wires);
+      levels = can.levels;
+    }
+
+pub steps-preserved : goal.steps-preserved
+steps-preserved g c =
+    let inv = c.steps.invariant in
+    let passed : c.is_passed_over.result ≡ true = cc c.if-not-is_passed_over.false in
+    let can = c.can_follow-follows.ensures (c.is_passed_over.ensures.follows passed) in
+    let now = c.is_passed_over.ensures.level passed in
+    record {
+      dozed = λ s first way.
+          dozed c.args.halt s first c.args.course.now c.steps.latest c.steps.course _ (inv.dozed s first way)
+          c.steps.clk c.steps.rest inv.level inv.resting c.make_steps.new.course c.in-Ok.ensures.made c.in-Ok.ensures.some
+          c.in-Ok.ensures.few c.lines-lines.result inv.levels can (inv.resting (c.is_passed_over.ensures.rest passed)) now;
+      resting = inv.resting;
+      level = now;
+      levels = can.levels;
+    }

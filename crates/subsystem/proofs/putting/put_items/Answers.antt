@@ -7,9 +7,8 @@ use Rattle.pc_tables.specs.declared.item.Item.TheVariants.{Port}
 use Rattle.subsystem.specs.Account.{in_tick}
 use Rattle.subsystem.specs.Counts.{with_lines}
 use Rattle.subsystem.specs.Texts.{line_text, log_text}
-use Rattle.subsystem.proofs.Lines.{line_ends, lines_left}
+use Rattle.subsystem.proofs.Lines.{line_ends, lines_left, with_lines-append}
 use Rattle.io_edge.proofs.Taken.{on_err}
-use Rattle.subsystem.proofs.Room.{with_lines-append}
 use Rattle.subsystem.proofs.putting.put_items.Goals as goal
 
 pub returns-in_err-put_line-clause-broken : goal.returns-in_err-put_line-clause-broken

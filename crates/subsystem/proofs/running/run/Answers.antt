@@ -4,7 +4,7 @@ use Rattle.fw_compile.specs.Image.{image_of}
 use Rattle.fw_logic.specs.JointRun.{KeepsTime}
 use Rattle.joint_feed.specs.Stories.{Story, story}
 use Rattle.subsystem.specs.LayoutOutcomes.{IsOutcome, outcome}
-use Rattle.subsystem.proofs.Beginning.{begins}
+use Rattle.subsystem.proofs.Begun.{begins}
 use Rattle.story_run.specs.declared.ending.Ending.TheVariants.{TickStart}
 use Rattle.story_run.proofs.Looked.{looked_by, some_looked, some_looked_to_break}
 use Rattle.subsystem.proofs.Came.{came_kept}

@@ -1,7 +1,7 @@
 use Rattle.std.proofs.Common.{ap, sym, subst, ◌∙◌}
 use Rattle.story_run.specs.declared.ending.Ending.TheVariants.{Stamp}
 use Rattle.story_run.specs.Ready.{IsReady}
-use Rattle.story_run.proofs.Ready.{ready_at_start}
+use Rattle.story_run.proofs.Loop.{ready_at_start}
 use Rattle.joint_feed.specs.Filled.{filled_story}
 use Rattle.key_file.specs.Accepted.{IsAccepted}
 use Rattle.board_run.proofs.board.ProgramRun.new.Goals as goal

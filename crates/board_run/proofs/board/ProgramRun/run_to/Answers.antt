@@ -16,37 +16,26 @@ use Rattle.board_run.proofs.Ends.{ends}
 use Rattle.board_run.proofs.ReportedByStamp.{said_to}
 use Rattle.board_run.proofs.board.ProgramRun.run_to.Goals as goal
 
-pub make_run-requires-clause-ready : goal.make_run-requires-clause-ready
-make_run-requires-clause-ready g c = c.self.invariant
+pub make_run-requires : goal.make_run-requires
+make_run-requires g c = record { ready = c.self.invariant; reported = none_said (g.K.Sink.shown c.args.out.now) }
 
-pub make_run-requires-clause-reported : goal.make_run-requires-clause-reported
-make_run-requires-clause-reported g c =
-    none_said (g.K.Sink.shown c.args.out.now)
-
-pub returns-clause-run : goal.returns-clause-run
-returns-clause-run g c =
-    let s = run_of c.self.inside.course (g.F.Feed.feeds c.self.inside.feed).history in
-    let new = c.make_run.new.course in
-    subst (λ (t : Story). IsOutcome t (ending t (record { end = c.in_ok-end.end; joint = new.joint }))) c.self.view_is
-    (ends s new c.in_ok-end.end c.in_ok-end.ensures.ended)
-
-pub returns-clause-said : goal.returns-clause-said
-returns-clause-said g c =
+pub returns : goal.returns
+returns g c =
     let s = run_of c.self.inside.course (g.F.Feed.feeds c.self.inside.feed).history in
     let x = g.K.Sink.shown c.args.out.now in
     let y = g.K.Sink.shown c.make_run.new.out in
-    let k = c.make_run.new.course.joint.steps in
-    subst (λ (t : Story). IsSaid x y (log_text (log_at t k))) c.self.view_is (said_to Stamp s k x y c.in_ok-end.ensures.reported)
-
-pub returns-clause-looked : goal.returns-clause-looked
-returns-clause-looked g c =
-    let k = c.make_run.new.course.joint.steps in
-    looked_by _ _ c.self.view_is _ _ k k refl c.in_ok-end.ensures.looked
-
-pub returns-clause-looked_so_far : goal.returns-clause-looked_so_far
-returns-clause-looked_so_far g c =
+    let new = c.make_run.new.course in
+    let k = new.joint.steps in
     let r = c.in_ok-end.ensures in
-    some_looked _ _ c.self.view_is _ _ Stamp c.make_run.new.course.joint.steps r.ended.run_so_far.goes_on r.looked
+    record {
+      run = subst (λ (t : Story). IsOutcome t (ending t (record { end = c.in_ok-end.end; joint = new.joint }))) c.self.view_is
+          (ends s new c.in_ok-end.end r.ended);
+      said = subst (λ (t : Story). IsSaid x y (log_text (log_at t k))) c.self.view_is (said_to Stamp s k x y r.reported);
+      broken = tt;
+      looked = looked_by _ _ c.self.view_is _ _ k k refl r.looked;
+      looked_so_far = some_looked _ _ c.self.view_is _ _ Stamp k r.ended.run_so_far.goes_on r.looked;
+      looked_to_break = tt;
+    }
 
 pub returns-in_err-end-clause-broken : goal.returns-in_err-end-clause-broken
 returns-in_err-end-clause-broken g c =

@@ -32,32 +32,37 @@ pub returns-in_err-put_header-clause-looked_to_break : goal.returns-in_err-put_h
 returns-in_err-put_header-clause-looked_to_break g c =
     on_err c.from_residual.result _ (inl (record { broken = c.in_err-put_header.ensures.broken; looked = refl }))
 
-pub make_run-requires-clause-ready : goal.make_run-requires-clause-ready
-make_run-requires-clause-ready g c = c.self.invariant
-
-pub make_run-requires-clause-reported : goal.make_run-requires-clause-reported
-make_run-requires-clause-reported g c =
-    let s = run_of c.self.inside.course (g.F.Feed.feeds c.self.inside.feed).history in (
-      heard_none s c.new-changes.result.decoder c.new-changes.ensures.silent,
-      none_said (g.K.Sink.shown c.put_header.new.out),
-    )
-
-pub returns-clause-run : goal.returns-clause-run
-returns-clause-run g c =
+pub make_run-requires : goal.make_run-requires
+make_run-requires g c =
     let s = run_of c.self.inside.course (g.F.Feed.feeds c.self.inside.feed).history in
+    record {
+      ready = c.self.invariant;
+      reported = (
+        heard_none s c.new-changes.result.decoder c.new-changes.ensures.silent,
+        none_said (g.K.Sink.shown c.put_header.new.out),
+      );
+    }
+
+pub returns : goal.returns
+returns g c =
+    let s = run_of c.self.inside.course (g.F.Feed.feeds c.self.inside.feed).history in
+    let x = g.K.Sink.shown c.args.out.now in
+    let y = g.K.Sink.shown c.put_header.new.out in
+    let z = g.K.Sink.shown c.make_run.new.out in
     let new = c.make_run.new.course in
-    subst (λ (t : Story). IsOutcome t (ending t (record { end = c.in_ok-end.end; joint = new.joint }))) c.self.view_is
-    (ends s new c.in_ok-end.end c.in_ok-end.ensures.ended)
-
-pub returns-clause-looked : goal.returns-clause-looked
-returns-clause-looked g c =
-    let k = c.make_run.new.course.joint.steps in
-    looked_by _ _ c.self.view_is _ _ k k refl c.in_ok-end.ensures.looked
-
-pub returns-clause-looked_so_far : goal.returns-clause-looked_so_far
-returns-clause-looked_so_far g c =
+    let k = new.joint.steps in
     let r = c.in_ok-end.ensures in
-    some_looked _ _ c.self.view_is _ _ Stamp c.make_run.new.course.joint.steps r.ended.run_so_far.goes_on r.looked
+    record {
+      run = subst (λ (t : Story). IsOutcome t (ending t (record { end = c.in_ok-end.end; joint = new.joint }))) c.self.view_is
+          (ends s new c.in_ok-end.end r.ended);
+      said = subst (λ (t : Story). IsSaid x z (trace_to t k)) c.self.view_is
+          (said_then_said x y z header (changes_to s k) header_is_lines c.in_ok-put_header.ensures.said
+          (reported_all Stamp s c.make_run.new.reporter.decoder y z k r.reported));
+      broken = tt;
+      looked = looked_by _ _ c.self.view_is _ _ k k refl r.looked;
+      looked_so_far = some_looked _ _ c.self.view_is _ _ Stamp k r.ended.run_so_far.goes_on r.looked;
+      looked_to_break = tt;
+    }
 
 pub returns-in_err-end-clause-broken : goal.returns-in_err-end-clause-broken
 returns-in_err-end-clause-broken g c =
@@ -78,14 +83,3 @@ returns-in_err-end-clause-looked_to_break g c =
     let z = g.K.Sink.shown c.make_run.new.out in
     on_err c.from_residual-in_err-end.result _
     (broke_after_header _ _ c.self.view_is x y z _ _ c.in_ok-put_header.ensures.said c.in_err-end.ensures.broken)
-
-pub returns-clause-said : goal.returns-clause-said
-returns-clause-said g c =
-    let s = run_of c.self.inside.course (g.F.Feed.feeds c.self.inside.feed).history in
-    let x = g.K.Sink.shown c.args.out.now in
-    let y = g.K.Sink.shown c.put_header.new.out in
-    let z = g.K.Sink.shown c.make_run.new.out in
-    let k = c.make_run.new.course.joint.steps in
-    subst (λ (t : Story). IsSaid x z (trace_to t k)) c.self.view_is
-    (said_then_said x y z header (changes_to s k) header_is_lines c.in_ok-put_header.ensures.said
-    (reported_all Stamp s c.make_run.new.reporter.decoder y z k c.in_ok-end.ensures.reported))

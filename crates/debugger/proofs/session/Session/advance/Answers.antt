@@ -1,34 +1,44 @@
-use Rattle.std.proofs.Common.{◌≡◌, ◌<◌, ◌+◌, ◌^◌, ℕ, List, Some, sym, subst, ◌∙◌, arith}
+use Rattle.std.proofs.Common.{ℕ, List, ap, sym, subst, ◌∙◌, arith}
 use Rattle.joint_feed.specs.Course.{IsOnCourse}
 use Rattle.joint_feed.specs.Filled.{filled_story}
-use Rattle.joint_feed.specs.Stories.{state_at}
-use Rattle.joint_run.specs.Joint.{Beside}
-use Rattle.joint_run.specs.Run.{World}
 use Rattle.debugger.specs.Advance.{DecidesSessionOver}
 use Rattle.debugger.specs.Making.{IsAdvanced, RestAt}
-use Rattle.debugger.specs.Sessions.{Debuggee, Sitting, sitting}
+use Rattle.debugger.specs.Sessions.{Sitting, sitting}
 use Rattle.debugger.specs.Striding.{HasStrode}
 use Rattle.debugger.proofs.Making.{advanced, over_advanced, stays}
-use Rattle.debugger.proofs.SessionStates.{here, over_now}
+use Rattle.debugger.proofs.SessionStates.{debuggee_in, over_now, room_there}
 use Rattle.debugger.proofs.session.Session.advance.Goals as goal
 
-pub returns-then-is_past : goal.returns-then-is_past
-returns-then-is_past c = λ before at_rest.
-    over_advanced c.args.left c.args.self.now before (over_now c.args.self.now c.is_past.result c.is_past.ensures c.if-is_past.true)
+pub returns-then-is_past-clause-advanced : goal.returns-then-is_past-clause-advanced
+returns-then-is_past-clause-advanced c = λ before at_rest.
+    over_advanced c.args.self.now.debuggee c.args.left c.args.self.now.steps before
+    (over_now c.args.self.now c.is_past.result c.is_past.ensures c.if-is_past.true)
+
+pub overflow_sub-room : goal.overflow_sub-room
+overflow_sub-room c =
+    let it = debuggee_in c.self.inside.course.fill c.self.inside.image.bytes c.self.inside.history c.self.inside.latest in
+    let room = room_there c.args.self.now it c.self.inside.course c.self.invariant.0 c.self.view_is _ c.is_past.ensures c.if-is_past.false in
+    let end = c.end.ensures.end in
+    omega (arith, room, end)
+
+pub overflow_sub-room-2 : goal.overflow_sub-room-2
+overflow_sub-room-2 c =
+    let it = debuggee_in c.self.inside.course.fill c.self.inside.image.bytes c.self.inside.history c.self.inside.latest in
+    let room = room_there c.args.self.now it c.self.inside.course c.self.invariant.0 c.self.view_is _ c.is_past.ensures c.if-is_past.false in
+    let end = c.end.ensures.end in
+    let now = c.cycle.ensures.cycle in
+    omega (arith, room, end, now)
 
 pub stride-requires-clause-near : goal.stride-requires-clause-near
 stride-requires-clause-near c =
-    let it : Debuggee = record {
-      story = filled_story c.self.inside.course.fill c.self.inside.image.bytes c.self.inside.history;
-      latest = c.self.inside.latest;
-    } in
-    let on = c.self.invariant.0 in
-    let near =
-    subst (λ (t : Sitting). (w : World Beside) → state_at t.debuggee.story t.steps ≡ Some w → w.cycle + c.quiet_room-most.result < 2 ^ 62)
-    (sym c.self.view_is)
-    c.quiet_room-most.ensures.near on.world (here it c.self.inside.course on) in
-    let now = on.in_run.cycle in
-    omega (arith, near, now)
+    let it = debuggee_in c.self.inside.course.fill c.self.inside.image.bytes c.self.inside.history c.self.inside.latest in
+    let room = room_there c.args.self.now it c.self.inside.course c.self.invariant.0 c.self.view_is _ c.is_past.ensures c.if-is_past.false in
+    let end = c.end.ensures.end in
+    let now = c.cycle.ensures.cycle in
+    let within = c.quiet_room-most.ensures.within in
+    let few = c.self.invariant.1 in
+    let stop = c.end.ensures.accepted.end_in_range in
+    omega (arith, room, end, now, within, few, stop)
 
 pub invariant_of-self : goal.invariant_of-self
 invariant_of-self c =
@@ -44,33 +54,29 @@ invariant_of-self c =
       c.self.invariant.1,
     )
 
-pub returns : goal.returns
-returns c = λ before at_rest.
+pub returns-clause-debuggee : goal.returns-clause-debuggee
+returns-clause-debuggee c =
+    ap (λ (fill : ℕ). debuggee_in fill c.self.inside.image.bytes c.self.inside.history c.self.inside.latest) c.stride.ensures.fill
+    ∙ ap (λ (t : Sitting). t.debuggee) c.self.view_is
+
+pub returns-clause-advanced : goal.returns-clause-advanced
+returns-clause-advanced c = λ before at_rest.
     let h = c.self.inside.history in
-    let it : Debuggee = record {
-      story = filled_story c.self.inside.course.fill c.self.inside.image.bytes h;
-      latest = c.self.inside.latest;
-    } in
+    let it = debuggee_in c.self.inside.course.fill c.self.inside.image.bytes h c.self.inside.latest in
     let old = c.self.inside.course in
     let new = c.stride.new.course in
     let most = c.quiet_room-most.result in
-    let on = c.self.invariant.0 in
     let a = c.stride.ensures.accepted.lawful in
-    let strode : HasStrode it.story most old c.stride.result new =
-    subst (λ (bytes : List ℕ). HasStrode (filled_story old.fill bytes h) most old c.stride.result new)
-    c.self.invariant.0.image c.stride.ensures.strode in
     let over : DecidesSessionOver (sitting it old.joint.steps) c.is_past.result =
     subst (λ (t : Sitting). DecidesSessionOver t c.is_past.result) (sym c.self.view_is) c.is_past.ensures in
-    let room =
-    subst (λ (t : Sitting). (w : World Beside)
-    → state_at t.debuggee.story t.steps ≡ Some w → w.cycle + most < t.debuggee.story.stop + t.debuggee.latest) (sym c.self.view_is)
-    c.quiet_room-most.ensures.room on.world (here it old on) in
-    let now = on.in_run.cycle in
-    subst (λ (fill : ℕ). IsAdvanced c.args.left c.args.self.now before
-    (sitting (record { story = filled_story fill c.self.inside.image.bytes h; latest = c.self.inside.latest }) new.joint.steps))
-    (sym c.stride.ensures.fill)
-    (subst (λ (t : Sitting). IsAdvanced c.args.left t before (sitting it new.joint.steps)) c.self.view_is
-    (advanced it c.args.left most c.args.rest old new c.stride.result on a.thin a.edges_in_order
+    let room = room_there c.args.self.now it old c.self.invariant.0 c.self.view_is _ c.is_past.ensures c.if-is_past.false in
+    let end = c.end.ensures.end in
+    let now = c.cycle.ensures.cycle in
+    let within = c.quiet_room-most.ensures.within in
+    subst (λ (t : Sitting). IsAdvanced t.debuggee c.args.left t.steps before new.joint.steps) c.self.view_is
+    (advanced it c.args.left most c.args.rest old new c.stride.result c.self.invariant.0 a.thin a.edges_in_order
     (λ w there. sym (over w there) ∙ c.if-is_past.false)
-    (omega (arith, room, now)) c.quiet_room-most.ensures.few c.quiet_room-most.ensures.alone strode before
-    (λ resting. subst (λ (t : Sitting). RestAt t.debuggee t.steps before) (sym c.self.view_is) (at_rest resting))))
+    (omega (arith, room, end, now, within)) c.quiet_room-most.ensures.few c.quiet_room-most.ensures.alone
+    (subst (λ (bytes : List ℕ). HasStrode (filled_story old.fill bytes h) most old c.stride.result new)
+    c.self.invariant.0.image c.stride.ensures.strode) before
+    (λ resting. subst (λ (t : Sitting). RestAt t.debuggee t.steps before) (sym c.self.view_is) (at_rest resting)))

@@ -10,7 +10,7 @@ use Rattle.subsystem.specs.Agreement.{IsAsExpected}
 use Rattle.subsystem.specs.Ending.{ending}
 use Rattle.subsystem.specs.Putting.{IsLogBrokenAt, IsLogBrokenOff}
 use Rattle.subsystem.specs.LayoutOutcomes.{IsOutcome}
-use Rattle.subsystem.proofs.Beginning.{begins}
+use Rattle.subsystem.proofs.Begun.{begins}
 use Rattle.subsystem.proofs.Came.{HasCome, broken_whole, came}
 use Rattle.subsystem.proofs.Timekeeping.{keeps_cadence}
 use Rattle.key_file.proofs.Lawful.{lawful_for}

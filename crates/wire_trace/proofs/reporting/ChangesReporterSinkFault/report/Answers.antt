@@ -1,5 +1,5 @@
-use Rattle.std.proofs.lemmas.Result.{on_ok_weaker}
-use Rattle.wire_trace.proofs.SampleIsOfState.{broken_now, heard_now, on_err, rises_now, said_now}
+use Rattle.std.proofs.lemmas.Result.{on_err_weaker, on_ok_weaker}
+use Rattle.wire_trace.proofs.SampleIsOfState.{broken_now, heard_now, rises_now, said_now}
 use Rattle.wire_trace.proofs.reporting.ChangesReporterSinkFault.report.Goals as goal
 
 pub put_sample-requires : goal.put_sample-requires
@@ -28,7 +28,7 @@ returns-clause-reported g c = λ e s first k b h.
 pub returns-clause-broken : goal.returns-clause-broken
 returns-clause-broken g c = λ e s first k b h.
     let old = c.args.self.now.decoder in
-    on_err c.put_sample.result
+    on_err_weaker c.put_sample.result
     (broken_now e s k c.args.course.now b old h.0 c.cycle-cycle.result c.lines-lines.result
     c.cycle-cycle.ensures.cycle c.lines-lines.ensures.wires
     (g.K.Sink.shown first)

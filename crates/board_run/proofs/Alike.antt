@@ -1,6 +1,5 @@
 -- What is run has one run on the board.
-use Rattle.std.proofs.Common.{◌≡◌, ◌<◌, ℕ, suc, true, false, List, ltb, Some, refl, ap, sym, subst, ◌∙◌, arith}
-use Rattle.std.proofs.lemmas.Bool.Decides.{nat_tests}
+use Rattle.std.proofs.Common.{◌≡◌, ◌<◌, ℕ, suc, false, List, Some, refl, ap, sym, subst, ◌∙◌, arith}
 use Rattle.story_run.specs.declared.ending.End.{End}
 use Rattle.story_run.specs.declared.ending.End.TheVariants.{Over, Stuck}
 use Rattle.board_run.specs.BoardOutcomes.{IsOutcome, Outcome}
@@ -31,13 +30,9 @@ module _ (s : Story) where
 
   same_steps : (a b : Outcome) → IsOutcome s a → IsOutcome s b → a.steps ≡ b.steps
   same_steps a b p q =
-      elim (ltb a.steps b.steps) as (λ c. ltb a.steps b.steps ≡ c → a.steps ≡ b.steps) [
-        | true ↦ λ e. absurd (not_before a b.steps q.world p q.goes_on q.reached (grind (arith, nat_tests, e)))
-        | false ↦ λ e. elim (ltb b.steps a.steps) as (λ c. ltb b.steps a.steps ≡ c → a.steps ≡ b.steps) [
-          | true ↦ λ f. absurd (not_before b a.steps p.world q p.goes_on p.reached (grind (arith, nat_tests, f)))
-          | false ↦ λ f. grind (arith, nat_tests, e, f)
-        ] refl
-      ] refl
+      let first = not_before a b.steps q.world p q.goes_on q.reached in
+      let second = not_before b a.steps p.world q p.goes_on p.reached in
+      grind (arith, first, second)
 
   same_end : (k : ℕ) (w : World Beside) (d e : End) → EndsAt Stamp s k w d → EndsAt Stamp s k w e → d ≡ e
   same_end k w Over Over h g = refl
