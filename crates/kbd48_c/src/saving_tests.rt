@@ -10,31 +10,33 @@ use crate::status::{BAD_SIZE, BAD_STATE, DONE, NOT_OPEN, NOT_SAVED, OTHER_VERSIO
 fn a_keyboard_is_loaded_as_it_was_saved_and_other_bytes_are_refused(rt: HostRuntime) {
     let alloc = rt.alloc();
     let (mut handle, mut other) = (Handle::none(alloc), Handle::none(alloc));
-    let (mut buffer, mut again) = ([7u8; 3080], [7u8; 3080]);
+    let (mut short, mut long) = ([7u8; 3076], [7u8; 3080]);
+    let (mut saved, mut again) = ([7u8; 3077], [7u8; 3077]);
     let mut passed = 0;
     let mut spot = Spot {
         counter: 7,
         byte: 7,
     };
-    assert!(rt; kbd48_save(alloc, &mut handle, &mut buffer) == NOT_OPEN);
+    assert!(rt; kbd48_save(alloc, &mut handle, &mut saved) == NOT_OPEN);
     assert!(rt; kbd48_open_sample(alloc, &mut handle) == DONE);
     assert!(rt; kbd48_run(alloc, &mut handle, 400_000, true, &mut passed, &mut spot) == ROSE);
-    assert!(rt; kbd48_save(alloc, &mut handle, &mut buffer[..3076]) == BAD_SIZE);
-    assert!(rt; buffer[0] == 7);
-    assert!(rt; kbd48_save(alloc, &mut handle, &mut buffer) == DONE);
-    assert!(rt; buffer[3077] == 7);
-    assert!(rt; kbd48_load(alloc, &mut other, &buffer) == BAD_SIZE);
-    assert!(rt; kbd48_load(alloc, &mut other, &buffer[..3077]) == DONE);
+    assert!(rt; kbd48_save(alloc, &mut handle, &mut short) == BAD_SIZE && short[0] == 7);
+    assert!(rt; kbd48_save(alloc, &mut handle, &mut long) == DONE && long[3077] == 7);
+    assert!(rt; kbd48_save(alloc, &mut handle, &mut saved) == DONE);
+    assert!(rt; kbd48_load(alloc, &mut other, &long) == BAD_SIZE);
+    assert!(rt; kbd48_load(alloc, &mut other, &saved) == DONE);
     assert!(rt; kbd48_save(alloc, &mut other, &mut again) == DONE);
-    assert!(rt; buffer[..] == again[..]);
+    assert!(rt; saved[..] == again[..]);
     for (at, byte, status) in [
         (0, 0, NOT_SAVED),
         (7, 2, OTHER_VERSION),
         (124, 16, BAD_STATE),
     ] {
-        let was = buffer[at];
-        buffer[at] = byte;
-        assert!(rt; kbd48_load(alloc, &mut other, &buffer[..3077]) == status);
-        buffer[at] = was;
+        let mut changed = saved;
+        match changed.get_mut(at) {
+            Some(there) => *there = byte,
+            None => assert!(rt; false),
+        }
+        assert!(rt; kbd48_load(alloc, &mut other, &changed) == status);
     }
 }

@@ -246,7 +246,10 @@ fn other_bytes_are_refused_by_name(rt: HostRuntime) -> Result<(), AllocError> {
     ];
     for (at, byte, why) in changes {
         let mut other = in_use(alloc)?.save();
-        other.as_mut_slice()[at] = byte;
+        match other.as_mut_slice().get_mut(at) {
+            Some(there) => *there = byte,
+            None => assert!(rt; false),
+        }
         assert!(rt; is_refused(alloc, other.as_slice(), why));
     }
     Ok(())
