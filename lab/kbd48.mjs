@@ -385,7 +385,7 @@ export class Keyboard {
     return this.#byte(PLACES.one) | this.#byte(PLACES.two) << 1;
   }
 
-  /** How often the interrupt line rose in the last call that made a step. */
+  /** How often the interrupt line rose in the last run, which may be of no step, or in the last call of the host's that wasn't refused. */
   rises() { return this.#long('kbd48_rises'); }
 
   /** How many items were lost and not reported yet. */

@@ -1,10 +1,10 @@
 //! The call.
 
-ghost use Rattle.std.specs.Prelude.{◌≡◌, ℕ, ◌≤◌, length, map, pos, take, string_bytes, IfOk, IfSome};
+ghost use Rattle.std.specs.Prelude.{◌≡◌, ◌≢◌, ◌⊎◌, ℕ, ◌≤◌, length, map, pos, take, string_bytes, IfNone, IfOk, IfSome};
 ghost use Rattle.board_probes.specs.Probes.{address_kind, cell_kind, line_kind, register_kind, unarmed};
 ghost use Rattle.app_words.specs.Exits.{status_of};
 ghost use Rattle.kbd48_call.specs.Calls.{IsCall};
-ghost use Rattle.kbd48_call.specs.Pieces.{piece_in, shelf_in};
+ghost use Rattle.kbd48_call.specs.Pieces.{HasBadPiece, piece_in, shelf_in};
 
 use crate::pieces::{Named, Piece, Untaken, shelf_of, words_of};
 use app_words::Exit;
@@ -84,6 +84,7 @@ fn run(
 fn put_text(taken: &[u8], text: &mut [u8]) -> Option<usize>
     ensures written { IfSome result (λ n. take n text.new ≡ taken.now) }
     ensures within { IfSome result (λ n. n ≤ length text.old) }
+    ensures unchanged { IfNone result (text.new ≡ text.old) }
 {
     if taken.len() > text.len() {
         return None;
@@ -94,7 +95,8 @@ fn put_text(taken: &[u8], text: &mut [u8]) -> Option<usize>
 
 /// The program from its words and its files to its text and its exit. Words and files are pieces of `bytes`. If the room
 /// for the text is full, the exit is 6, as of a sink that failed. The result is 0 if there is an answer, 2 if there is no
-/// memory for words, files and probes, and 5 if a piece isn't one of the bytes or a name or a word is no UTF-8 text.
+/// memory for words, files and probes, and 5 if a piece isn't one of the bytes or a name or a word is no UTF-8 text. Text
+/// and `said` are written only if it is 0.
 #[unsafe(no_mangle)]
 pub extern "C" fn kbd48_call(
     alloc: Global,
@@ -107,16 +109,20 @@ pub extern "C" fn kbd48_call(
     ensures said { result ≡ pos 0 → IsCall (map (piece_in bytes.now) words.now) (shelf_in bytes.now files.now)
         (length text.old) (take said.new.length text.new) said.new.exit }
     ensures within { result ≡ pos 0 → said.new.length ≤ length text.old }
+    ensures status { (result ≡ pos 0) ⊎ (result ≡ pos 2) ⊎ (result ≡ pos 5) }
+    ensures faulty { result ≡ pos 5 → HasBadPiece bytes.now words.now files.now }
+    ensures sound { result ≡ pos 0 → ¬ (HasBadPiece bytes.now words.now files.now) }
+    ensures unchanged { result ≢ pos 0 → (text.new ≡ text.old) × (said.new ≡ said.old) }
 {
     let words = match words_of(alloc, bytes, words) {
         Ok(words) => words,
         Err(Untaken::Memory) => return NO_MEMORY,
-        Err(Untaken::Piece) => return NO_SUCH_PIECE,
+        Err(Untaken::BadPiece) => return NO_SUCH_PIECE,
     };
     let mut shelf = match shelf_of(alloc, bytes, files) {
         Ok(shelf) => shelf,
         Err(Untaken::Memory) => return NO_MEMORY,
-        Err(Untaken::Piece) => return NO_SUCH_PIECE,
+        Err(Untaken::BadPiece) => return NO_SUCH_PIECE,
     };
     match run(alloc, &words, &mut shelf, text.len()) {
         Ok((sink, exit)) => match put_text(sink.taken(), text) {
