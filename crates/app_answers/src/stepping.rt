@@ -7,19 +7,9 @@ ghost use Rattle.app_answers.specs.FileAnswers.{run_said};
 ghost use Rattle.app_answers.specs.Stepping.{after_steps, WentOn, Stopped};
 
 use app_words::Refusal;
-use mcs48_core::{Mcu, Pins, Stuck, reset, state_text};
+use mcs48_core::{ALL_HIGH, Mcu, Stuck, reset, state_text};
 use mcs48_isa::Image;
 use std::alloc::Global;
-
-/// All pins high.
-const HIGH: Pins = Pins {
-    p1: 0xff,
-    p2: 0xff,
-    bus: 0xff,
-    t0: true,
-    t1: true,
-    int_pin: true,
-};
 
 /// The processor after a run, and the machine cycles that the run took.
 #[derive(Drop)]
@@ -38,7 +28,7 @@ fn run(image: &Image, count: u32) -> Result<Ran, Stuck>
     let mut mcu = reset();
     let mut cycles = 0;
     for _step in 0..count {
-        match mcu.step(image, HIGH) {
+        match mcu.step(image, ALL_HIGH) {
             Ok(spent) => cycles += u64::from(spent),
             Err(stuck) => return Err(stuck),
         }

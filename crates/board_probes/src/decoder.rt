@@ -6,14 +6,8 @@ ghost use Rattle.board_probes.specs.Transfers.{completed, heard, is_later_than, 
 
 use crate::heard::{Fall, Kept, Transfer, push_fall, transfer_by};
 use arrayvec::ArrayVec;
-use board_terms::Lines;
+use board_terms::{HIGH, Lines};
 use std::marker::Model;
-
-/// Both wires are high.
-const HIGH: Lines = Lines {
-    clk: true,
-    dat: true,
-};
 
 /// Reads the bytes that pass from samples of the two wires. It keeps the last sample and the last eleven falls of the
 /// clock, which is what a clause sees.

@@ -37,21 +37,12 @@ fn is_at(arms: Option<Arms>, mcu: &Mcu) -> bool
     }
 }
 
-/// The value of a register, 0 to 7, of the selected bank.
-fn register_of(mcu: &Mcu, number: u16) -> u8
-    requires { number < 8 }
-    ensures { result ≡ register number mcu.now }
-{
-    let bank = if mcu.psw >> 4 & 1 == 1 { 24 } else { 0 };
-    mcu.ram[bank + number as usize]
-}
-
 /// Whether the register of these arms has their value. It is out of line, so that a look without arms is short.
 #[inline(never)]
 fn holds_register(arms: Arms, mcu: &Mcu) -> bool
     ensures { result ≡ met_by register_kind arms mcu.now }
 {
-    arms.a < 8 && register_of(mcu, arms.a) == arms.b
+    arms.a < 8 && mcu.register(arms.a as u8) == arms.b
 }
 
 /// The same if there are arms.

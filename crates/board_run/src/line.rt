@@ -6,13 +6,11 @@ ghost use Rattle.io_edge.specs.Said.{IsBrokenOff, IsSaid};
 ghost use Rattle.story_run.specs.Running.{AreIn};
 
 use arrayvec::ArrayVec;
+use board_terms::STAMP_0;
 use hex_text::{append, begun};
 use host_turn::Stamped;
 use io_edge::{Sink, SinkFault, say};
 use pc_tables::item_line;
-
-/// The cycle of stamp 0.
-const FIRST_STAMP: u64 = 4_096;
 
 /// The line of an item: its cycle as a stamp in decimal, which begins with a minus before stamp 0, a space, the item's
 /// text, LF.
@@ -20,13 +18,13 @@ fn stamped_line(stamped: Stamped) -> ArrayVec<u8, 40>
     requires near { stamped.cycle < 2 ^ 32 }
     ensures line { result.items ≡ line_text stamped }
 {
-    if stamped.cycle < FIRST_STAMP {
-        let before = FIRST_STAMP - stamped.cycle;
+    if stamped.cycle < STAMP_0 {
+        let before = STAMP_0 - stamped.cycle;
         let mut line = begun(b"-");
         append(&mut line, &item_line(before as u32, stamped.item));
         return line;
     }
-    let stamp = stamped.cycle - FIRST_STAMP;
+    let stamp = stamped.cycle - STAMP_0;
     begun(&item_line(stamp as u32, stamped.item))
 }
 

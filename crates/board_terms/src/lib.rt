@@ -12,10 +12,12 @@ mod laws;
 mod lines;
 mod matrix;
 mod place;
+mod time;
 
 pub use event::{Edge, HostAct, HostEvent};
 pub use frame::{Frame, byte_of, frame_of};
 pub use laws::{edges_shown, first_edges_shown};
-pub use lines::Lines;
+pub use lines::{HIGH, Lines};
 pub use matrix::Matrix;
 pub use place::Place;
+pub use time::{STAMP_0, TICK_CYCLES};

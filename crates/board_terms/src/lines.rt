@@ -9,3 +9,9 @@ pub struct Lines {
     /// The data wire's level.
     pub dat: bool,
 }
+
+/// Both wires are high, as they are if nobody pulls them.
+pub const HIGH: Lines = Lines {
+    clk: true,
+    dat: true,
+};

@@ -6,11 +6,9 @@ ghost use Rattle.cycle_cert.specs.Certificates.{bound_in};
 ghost use Rattle.cycle_cert.specs.Tables.{IsWithin};
 
 use crate::bound::Bound;
+use mcs48_isa::PLACES;
 use std::alloc::{AllocError, Global};
 use std::marker::Model;
-
-/// The places of a program memory.
-const PLACES: usize = 2048;
 
 /// A certified place, 0 to 2,047, with its bound, and the line that gives it, counted from 1.
 #[derive(Clone, Copy, Drop)]

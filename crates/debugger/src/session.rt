@@ -10,6 +10,7 @@ ghost use Rattle.debugger.specs.Making.{IsAdvanced, RestAt};
 
 use crate::debuggee::Debuggee;
 use crate::striding::stride;
+use board_terms::STAMP_0;
 use fw_logic::at_tick;
 use int09::Bios;
 use joint_feed::Course;
@@ -50,17 +51,16 @@ fn is_end(starts: bool, cycle: u64, stop: u64, latest: u64) -> bool
     requires latest { latest ≤ latest_start }
     ensures { result ≡ ((starts && nat_le (4096 + stop) cycle) || nat_le (stop + latest) cycle) }
 {
-    starts && cycle >= 4096 + stop || cycle >= stop + latest
+    starts && cycle >= STAMP_0 + stop || cycle >= stop + latest
 }
 
 /// Whether a processor whose pin INT is high is stuck in its next step.
 fn sticks(image: &Image, mcu: &Mcu) -> bool
     ensures { result ≡ sticks image.now.bytes mcu.now }
 {
-    let enters = !mcu.svc && mcu.tim_on && mcu.rq;
     let place = (mcu.pc % 2048) as usize;
     let next = ((mcu.pc + 1) % 2048) as usize;
-    !enters && decode([image.bytes[place], image.bytes[next]]).is_none()
+    !mcu.takes_timer() && decode([image.bytes[place], image.bytes[next]]).is_none()
 }
 
 /// How many cycles quiet steps may take together that have this room before the run's end, so that with one step more they

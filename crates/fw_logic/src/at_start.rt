@@ -18,16 +18,9 @@ pub fn at_tick(joint: &Joint) -> bool
     is_at_tick_start(joint.mcu())
 }
 
-/// Whether a processor whose pin INT is high enters the service of the timer's interrupt in its next step.
-fn takes_timer(mcu: &Mcu) -> bool
-    ensures { result ≡ takes_timer mcu.now }
-{
-    !mcu.svc && mcu.tim_on && mcu.rq
-}
-
-/// Whether such a processor is at a tick start. The counter is looked at first: in most steps it is elsewhere.
+/// Whether a processor whose pin INT is high is at a tick start. The counter is looked at first: in most steps it is elsewhere.
 fn is_at_tick_start(mcu: &Mcu) -> bool
     ensures { result ≡ (mcu.now.pc % 2048 == TICK && not (takes_timer mcu.now)) }
 {
-    mcu.pc % 2048 == TICK && !takes_timer(mcu)
+    mcu.pc % 2048 == TICK && !mcu.takes_timer()
 }

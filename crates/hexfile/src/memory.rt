@@ -8,10 +8,7 @@ ghost use Rattle.hexfile.specs.Rules.{first_broken};
 
 use crate::fault::Rule;
 use crate::record::Record;
-use mcs48_isa::Image;
-
-/// The places of a program memory.
-pub(crate) const PLACES: usize = 2048;
+use mcs48_isa::{Image, PLACES};
 
 /// Each place with the byte that the file gave to it, or none.
 pub(crate) type Memory = [Option<u8>; PLACES];

@@ -6,11 +6,11 @@ ghost use Rattle.hexfile.specs.Record.{said_by, record_of, record_in};
 ghost use Rattle.hexfile.specs.Hex.{hex_of, after_line, fault_at};
 
 use crate::fault::{HexFault, Rule, number_of};
-use crate::memory::{PLACES, image_of};
+use crate::memory::image_of;
 use crate::progress::{Progress, broken_by, obey};
 use crate::record::{LONGEST, decoded, parsed};
 use arrayvec::ArrayVec;
-use mcs48_isa::Image;
+use mcs48_isa::{Image, PLACES};
 use text_lines::next_line;
 
 /// The bytes of a line. None if it has no record: it is no colon with pairs of digits, or has more of them than a

@@ -7,12 +7,9 @@ ghost use Rattle.host_turn.specs.Rest.{is_due as is_due_at};
 
 use crate::desk::Desk;
 use arrayvec::ArrayVec;
-use board_terms::{HostAct, HostEvent};
+use board_terms::{HostAct, HostEvent, STAMP_0};
 use ctl_core::Port as HostPort;
 use pc_tables::Item;
-
-/// The cycle of stamp 0.
-const FIRST_STAMP: u64 = 4096;
 
 /// Whether there is a next event and its stamp is reached in cycle `now`.
 pub(crate) fn is_due(now: u64, next: Option<HostEvent>) -> bool
@@ -20,7 +17,7 @@ pub(crate) fn is_due(now: u64, next: Option<HostEvent>) -> bool
 {
     match next {
         None => false,
-        Some(event) => now >= FIRST_STAMP && event.stamp <= now - FIRST_STAMP,
+        Some(event) => now >= STAMP_0 && event.stamp <= now - STAMP_0,
     }
 }
 

@@ -5,7 +5,7 @@ ghost use Rattle.ctl_core.specs.Controller.{is_disabled};
 ghost use Rattle.host_turn.specs.Host.{waits};
 ghost use Rattle.host_wakes.specs.Wakes.{event_wake, read_wake, break_wake, take_wake, link_wake, wakes, SleepsTo};
 
-use board_terms::{HostAct, HostEvent};
+use board_terms::{HostAct, HostEvent, STAMP_0};
 use ctl_core::Controller;
 use ctl_link::{Link, Passing};
 use host_turn::Desk;
@@ -46,7 +46,7 @@ fn event_stir(next: Option<HostEvent>, core: &Controller, end: u64) -> u64
     if is_waiting(event.act, core) {
         end
     } else {
-        later(event.stamp, 4096, end)
+        later(event.stamp, STAMP_0, end)
     }
 }
 

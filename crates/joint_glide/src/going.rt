@@ -9,6 +9,9 @@ use crate::stretch::stretch;
 use joint_run::{Due, Joint, Seen};
 use mcs48_core::Stuck;
 
+/// No place of a program, which has 2,048: with it in the place of a tick's, quiet steps stop at none.
+pub const NOWHERE: u16 = 2048;
+
 /// Makes joint steps by the events that are handed in: quiet ones, in at most `most` cycles together, none of which leads
 /// to the place `tick` of the program, and then one of any kind, which is reported in `seen`. There may be no quiet one. If
 /// the processor is stuck, the steps before count, and `seen` is of no use.

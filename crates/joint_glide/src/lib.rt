@@ -13,5 +13,5 @@ mod law;
 mod still;
 mod stretch;
 
-pub use going::go_on;
+pub use going::{NOWHERE, go_on};
 pub use law::calls_are_joint_steps;

@@ -6,12 +6,9 @@ ghost use Rattle.joint_run.specs.Cycle.{outside_wires};
 ghost use Rattle.joint_run.specs.Due.{made_first};
 ghost use Rattle.joint_run.specs.Joint.{lights_of};
 
-use board_terms::{Edge, HostEvent};
+use board_terms::{Edge, HostEvent, STAMP_0};
 use host_wakes::sleeps_to;
 use joint_run::{Due, Joint, lights};
-
-/// Cycle 4,096 is stamp 0.
-const FIRST_STAMP: u64 = 4096;
 
 /// The cycle in which the first of these edges is made, or the end, if that comes first.
 fn edge_or(edges: &[Edge], end: u64) -> u64
@@ -20,7 +17,7 @@ fn edge_or(edges: &[Edge], end: u64) -> u64
 {
     match edges {
         [] => end,
-        [edge, ..] => edge.stamp.saturating_add(FIRST_STAMP).min(end),
+        [edge, ..] => edge.stamp.saturating_add(STAMP_0).min(end),
     }
 }
 

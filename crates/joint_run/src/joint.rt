@@ -51,33 +51,6 @@ fn reset_filled(fill: u8) -> Mcu
     mcu
 }
 
-/// A processor of its own in the same state.
-fn copied_mcu(mcu: &Mcu) -> Mcu
-    ensures { result ≡ mcu.now }
-{
-    Mcu {
-        pc: mcu.pc,
-        a: mcu.a,
-        psw: mcu.psw,
-        f1: mcu.f1,
-        mb: mcu.mb,
-        ram: mcu.ram,
-        t: mcu.t,
-        pre: mcu.pre,
-        tf: mcu.tf,
-        run: mcu.run,
-        ext_on: mcu.ext_on,
-        tim_on: mcu.tim_on,
-        rq: mcu.rq,
-        svc: mcu.svc,
-        p1: mcu.p1,
-        p2: mcu.p2,
-        bus: mcu.bus,
-        clk: mcu.clk,
-        last_t1: mcu.last_t1,
-    }
-}
-
 impl Joint {
     /// The machine at power-on, with this program, with INT 09h at its start and with cleared memory.
     pub fn power_on(image: &Image, bios: Bios) -> Joint
@@ -133,7 +106,7 @@ impl Joint {
                     bytes: self.machine.image.bytes,
                 },
                 matrix: self.machine.matrix.copied(),
-                mcu: copied_mcu(&self.machine.mcu),
+                mcu: self.machine.mcu.copied(),
                 outside: self.machine.outside.copied(bios),
                 cycle: self.machine.cycle,
                 steps: self.machine.steps,

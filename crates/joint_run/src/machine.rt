@@ -12,7 +12,7 @@ ghost use Rattle.mcs48_core.specs.Step.{stepped, IsStep};
 use crate::due::{Due, Seen};
 use crate::outside::Outside;
 use arrayvec::ArrayVec;
-use board_terms::{Edge, Matrix};
+use board_terms::{Edge, Matrix, STAMP_0};
 use host_turn::Stamped;
 use mcs48_core::{Mcu, Pins, Stuck};
 use mcs48_isa::Image;
@@ -39,7 +39,7 @@ fn make_edges(matrix: &mut Matrix, cycle: u64, edges: &[Edge]) -> u8
     match edges {
         [] => 0,
         [edge, rest @ ..] => {
-            if cycle < 4096 || edge.stamp > cycle - 4096 {
+            if cycle < STAMP_0 || edge.stamp > cycle - STAMP_0 {
                 return 0;
             }
             matrix.edge(edge.place, edge.down);
@@ -56,7 +56,7 @@ fn is_one_due(cycle: u64, edges: &[Edge]) -> bool
 {
     match edges {
         [] => false,
-        [edge, ..] => edge.stamp.saturating_add(4096) <= cycle,
+        [edge, ..] => edge.stamp.saturating_add(STAMP_0) <= cycle,
     }
 }
 

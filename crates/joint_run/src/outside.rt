@@ -12,7 +12,7 @@ ghost use Rattle.ctl_wire.specs.Wires.{joined};
 ghost use Rattle.joint_run.specs.Cycle.{is_let_go, is_quiet, looked_outside, outside_cycle, outside_wires};
 
 use arrayvec::ArrayVec;
-use board_terms::{HostEvent, Lines};
+use board_terms::{HIGH, HostEvent, Lines};
 use ctl_link::{Link, LinkEnd};
 use ctl_wire::{Wire, drive_of, fall};
 use host_turn::{Desk, Stamped};
@@ -46,12 +46,6 @@ pub(crate) fn latch(p2: u8) -> Lines
         dat: p2 >> 1 & 1 == 1,
     }
 }
-
-/// Both wires are high, if nobody pulls them.
-const HIGH: Lines = Lines {
-    clk: true,
-    dat: true,
-};
 
 /// The wires, with what the keyboard and the controller drive. It is out of line, since the link is free in most
 /// cycles.

@@ -10,12 +10,10 @@ use crate::going::{Spot, put_spot};
 use crate::handle::Handle;
 use crate::queueing::stamp_of;
 use crate::status::{DONE, KEY_DUE, NOT_OPEN, run_status};
+use board_terms::STAMP_0;
 use edge_queue::EdgeQueue;
 use live_board::{Keyboard, RunEnd};
 use std::alloc::Global;
-
-/// The cycle that is stamp 0.
-const STAMP_0: u64 = 4096;
 
 /// From this cycle on no step is made.
 const LAST: u64 = 1 << 62;

@@ -6,11 +6,8 @@ ghost use Rattle.kbd48_c.specs.Queueing.{push_status, queue_after, queued_status
 ghost use Rattle.kbd48_c.specs.Statuses.{done};
 
 use crate::status::{DONE, FULL, NO_SUCH_PLACE, REPEATED};
-use board_terms::Place;
+use board_terms::{Place, STAMP_0};
 use edge_queue::{EdgeQueue, NotQueued};
-
-/// The cycle that is stamp 0.
-const STAMP_0: u64 = 4096;
 
 /// The stamp of a cycle; what comes before stamp 0 counts as then.
 pub(crate) fn stamp_of(cycle: u64) -> u64

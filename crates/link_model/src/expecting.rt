@@ -9,9 +9,9 @@ ghost use Rattle.link_model.specs.Expected.{expected, expected_log};
 ghost use Rattle.link_model.specs.Machine.{keyboard};
 
 use crate::line::LogLine;
-use crate::lines::{FIRST_STAMP, log_lines};
+use crate::lines::log_lines;
 use crate::whole::Together;
-use board_terms::{Edge, HostEvent};
+use board_terms::{Edge, HostEvent, STAMP_0};
 use key_file::History;
 use layout_reader::Layout;
 use std::alloc::{AllocError, Global};
@@ -51,7 +51,7 @@ fn expect_events(
     ensures { IfOk result (λ lines. lines.items ≡ expected (keyboard layout.now) edges.now host.now (listed starts.now) (length starts.now - 1)) }
 {
     let mut together = Together::new(alloc, layout.rate())?;
-    together.wait(host, FIRST_STAMP + starts[0])?;
+    together.wait(host, STAMP_0 + starts[0])?;
     for n in 0..starts.len() - 1 {
         together.next(alloc, layout, edges, host, starts, n)?;
     }

@@ -5,14 +5,9 @@ ghost use Rattle.board_terms.specs.Cadence.{KeepsCadenceTo, listed, tick_of};
 ghost use Rattle.link_model.specs.Expected.{lines as lines_of};
 
 use crate::line::LogLine;
+use board_terms::{STAMP_0, TICK_CYCLES};
 use host_turn::Stamped;
 use std::alloc::{AllocError, Global};
-
-/// The cycle of stamp 0.
-pub(crate) const FIRST_STAMP: u64 = 4096;
-
-/// The cycles of a tick, up to five at its end.
-const TICK: u64 = 2048;
 
 /// What was said, each item with its tick.
 pub(crate) fn log_lines(
@@ -45,7 +40,7 @@ fn tick_at(starts: &[u64], cycle: u64) -> u32
 {
     let last = starts.len() - 1;
     let n = near_tick(cycle, last);
-    let begun = if FIRST_STAMP + starts[n] <= cycle {
+    let begun = if STAMP_0 + starts[n] <= cycle {
         n + 1
     } else {
         n
@@ -57,5 +52,5 @@ fn tick_at(starts: &[u64], cycle: u64) -> u32
 fn near_tick(cycle: u64, last: usize) -> usize
     ensures { result ≡ min ((cycle - 4096) / 2048) last }
 {
-    (cycle.saturating_sub(FIRST_STAMP) / TICK).min(last as u64) as usize
+    (cycle.saturating_sub(STAMP_0) / TICK_CYCLES).min(last as u64) as usize
 }

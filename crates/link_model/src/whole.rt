@@ -4,10 +4,9 @@ ghost use Rattle.std.specs.Prelude.{◌≡◌};
 ghost use Rattle.link_model.specs.Machine.{met_as as met_as_of};
 
 use crate::layering::Layering;
-use crate::lines::FIRST_STAMP;
 use crate::running::Running;
 use crate::seeing::tick_edges;
-use board_terms::{Edge, HostEvent, Place};
+use board_terms::{Edge, HostEvent, Place, STAMP_0};
 use byte_time::{Meeting, meeting_of};
 use host_turn::Stamped;
 use kbd_model::{Meeting as KeyboardMeeting, TickModel};
@@ -160,7 +159,7 @@ impl Together {
         requires { 4096 ≤ end }
         ensures { IfOk result (λ u. self.new ≡ record self.old { side = quietly host.now (end - 4096) 4096 self.old.side }) }
     {
-        self.side.run_on(host, FIRST_STAMP, end)?;
+        self.side.run_on(host, STAMP_0, end)?;
         Ok(())
     }
 
@@ -184,8 +183,8 @@ impl Together {
         ensures known { IfOk result (λ u. ForSome self.new.keys.keyboard.repeats (λ r. HasCode layout.now r.place)) }
     {
         let seen = tick_edges(alloc, edges, starts, n)?;
-        let start = FIRST_STAMP + starts[n];
-        let end = FIRST_STAMP + starts[n + 1];
+        let start = STAMP_0 + starts[n];
+        let end = STAMP_0 + starts[n + 1];
         self.tick(alloc, layout, host, seen.as_slice(), start, end)?;
         Ok(())
     }

@@ -8,10 +8,10 @@ ghost use Rattle.live_board.specs.Heard.{IsKeptLog};
 ghost use Rattle.live_board.specs.Pasts.{Past, acted};
 ghost use Rattle.live_board.specs.States.{HasPast};
 
-use crate::parts::{LAST, Parts, STAMP_0};
+use crate::parts::{LAST, Parts};
 use crate::refused::Refused;
 use arrayvec::ArrayVec;
-use board_terms::{Edge, HostAct, HostEvent, Place};
+use board_terms::{Edge, HostAct, HostEvent, Place, STAMP_0};
 
 /// How many edges can wait for a step.
 const EDGES: usize = 4;

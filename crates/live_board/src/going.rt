@@ -13,10 +13,8 @@ ghost use Rattle.live_board.specs.States.{HasPast};
 use crate::irq::Irq;
 use crate::parts::{LAST, Parts};
 use crate::ran::{Ran, RunEnd};
+use joint_glide::{NOWHERE, go_on};
 use mcs48_core::Stuck;
-
-/// No place of a program, which has 2,048: quiet steps stop at none.
-const NO_PLACE: u16 = 2048;
 
 /// Whether the interrupt line rose and is watched.
 fn has_risen(watched: bool, was: Irq, is: Irq) -> bool
@@ -55,7 +53,7 @@ impl Parts {
         ensures log_unchanged { OnErr result ((self.new.heard ≡ self.old.heard) × (self.new.rises ≡ self.old.rises)) }
     {
         let at_fall = self.at_fall();
-        joint_glide::go_on(&mut self.joint, &self.due, &mut self.seen, NO_PLACE, most)?;
+        go_on(&mut self.joint, &self.due, &mut self.seen, NOWHERE, most)?;
         self.end_step(was, at_fall);
         Ok(())
     }

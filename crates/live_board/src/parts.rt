@@ -17,16 +17,13 @@ ghost use Rattle.live_board.specs.States.{HasPast};
 use crate::heard::Heard;
 use crate::irq::Irq;
 use arrayvec::ArrayVec;
-use board_terms::{Edge, HostAct};
+use board_terms::{Edge, HostAct, STAMP_0};
 use int09::Bios;
 use joint_bytes::Transfer;
 use joint_run::{Due, Joint, Seen};
 use mcs48_core::Stuck;
 use mcs48_isa::Image;
 use std::alloc::{AllocError, Global};
-
-/// The cycle that is stamp 0.
-pub(crate) const STAMP_0: u64 = 4096;
 
 /// From this cycle on no step is made.
 pub(crate) const LAST: u64 = 1 << 62;

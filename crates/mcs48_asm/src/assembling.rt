@@ -18,12 +18,9 @@ use crate::names::{Names, define_names, names_in};
 use crate::places::{place_after, start_of};
 use crate::text_hash::TextHash;
 use indexmap::IndexMap;
-use mcs48_isa::Image;
+use mcs48_isa::{Image, PLACES};
 use std::alloc::{AllocError, Global};
 use text_lines::next_line;
-
-/// The places of a program memory.
-const PLACES: usize = 2048;
 
 /// The image of lines, or their first fault, if names mean this.
 fn outcome_of<'a>(alloc: Global, names: &Names<'a>, text: &'a [u8]) -> Result<Image, AsmFault>

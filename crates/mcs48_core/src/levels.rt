@@ -11,3 +11,13 @@ pub struct Pins {
     pub t1: bool,
     pub int_pin: bool,
 }
+
+/// All pins are high: nothing outside pulls one.
+pub const ALL_HIGH: Pins = Pins {
+    p1: 0xff,
+    p2: 0xff,
+    bus: 0xff,
+    t0: true,
+    t1: true,
+    int_pin: true,
+};

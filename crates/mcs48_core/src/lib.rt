@@ -21,7 +21,7 @@ mod text;
 mod timer;
 
 pub use law::a_path_of_thirty_six_instructions;
-pub use levels::Pins;
+pub use levels::{ALL_HIGH, Pins};
 pub use processor::{Count, Mcu};
 pub use resetting::reset;
 pub use stepping::Stuck;

@@ -1,5 +1,7 @@
 //! The processor's state.
 
+ghost use Rattle.std.specs.Prelude.{◌≡◌};
+
 use std::marker::Model;
 
 /// How the timer runs: not at all, on the machine cycles through the prescaler, or on the falls of T1.
@@ -56,4 +58,33 @@ impl Model for Mcu {
     ghost view = { cpu_of };
 
     ghost invariant = { IsSound };
+}
+
+impl Mcu {
+    /// A processor of its own in the same state.
+    pub fn copied(&self) -> Mcu
+        ensures { result ≡ self.now }
+    {
+        Mcu {
+            pc: self.pc,
+            a: self.a,
+            psw: self.psw,
+            f1: self.f1,
+            mb: self.mb,
+            ram: self.ram,
+            t: self.t,
+            pre: self.pre,
+            tf: self.tf,
+            run: self.run,
+            ext_on: self.ext_on,
+            tim_on: self.tim_on,
+            rq: self.rq,
+            svc: self.svc,
+            p1: self.p1,
+            p2: self.p2,
+            bus: self.bus,
+            clk: self.clk,
+            last_t1: self.last_t1,
+        }
+    }
 }

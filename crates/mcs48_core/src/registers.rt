@@ -104,8 +104,8 @@ impl Mcu {
         if bit_of(self.psw, 4) { 24 } else { 0 }
     }
 
-    /// Rr.
-    pub(crate) fn register(&self, r: u8) -> u8
+    /// Rr, of the selected bank.
+    pub fn register(&self, r: u8) -> u8
         requires { r < 8 }
         ensures { result ≡ register r self.now }
     {

@@ -51,7 +51,7 @@ impl Mcu {
 
     /// Whether an interrupt of the timer is due, if no external one is. Most often none is requested.
     #[inline(always)]
-    pub(crate) fn takes_timer(&self) -> bool
+    pub fn takes_timer(&self) -> bool
         ensures { result ≡ takes_timer self.now }
     {
         self.rq && !self.svc && self.tim_on

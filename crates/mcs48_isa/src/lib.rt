@@ -16,7 +16,7 @@ mod operation;
 
 pub use decoding::{decode, row};
 pub use encoding::encode;
-pub use image::Image;
+pub use image::{Image, PLACES};
 pub use listing::list;
 pub use op_texts::op_text;
 pub use operation::{AluOp, Code, ControlOp, Decoded, FlowOp, MoveOp, Op, PortOp, Row, UnaryOp};

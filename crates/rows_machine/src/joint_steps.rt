@@ -1,7 +1,7 @@
 //! Small programs on the board, worked out by hand.
 
 use arrayvec::ArrayVec;
-use board_terms::{Edge, HostAct, HostEvent, Lines, Place};
+use board_terms::{Edge, HIGH, HostAct, HostEvent, Lines, Place};
 use int09::Bios;
 use joint_run::{Due, Joint, Seen, Stamped};
 use mcs48_isa::Image;
@@ -46,11 +46,6 @@ fn run_to(rt: &impl Abort, joint: &mut Joint, cycle: u64) {
     }
     assert_eq!(rt; joint.cycle(), cycle);
 }
-
-const HIGH: Lines = Lines {
-    clk: true,
-    dat: true,
-};
 
 #[test]
 fn lamps_are_said_in_the_first_cycle_of_their_step(rt: HostRuntime) -> Result<(), Fail> {

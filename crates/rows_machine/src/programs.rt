@@ -7,21 +7,11 @@ use board_run::{End, Ended, ProgramRun};
 use io_edge::MemSink;
 use key_file::{History, ListFeed, read_history};
 use layout_reader::us84_layout;
-use mcs48_core::{Mcu, Pins, reset};
+use mcs48_core::{ALL_HIGH, Mcu, reset};
 use mcs48_isa::Image;
 use std::alloc::{AllocError, Global};
 use std::process::Abort;
 use std::test::Fail;
-
-/// All pins high.
-const HIGH: Pins = Pins {
-    p1: 0xff,
-    p2: 0xff,
-    bus: 0xff,
-    t0: true,
-    t1: true,
-    int_pin: true,
-};
 
 /// The history of a key file for the sample layout.
 fn history_of(rt: &impl Abort, alloc: Global, keys: &[u8]) -> Result<History, AllocError>
@@ -100,7 +90,7 @@ fn a_program_that_leaves_port_2_runs_as_the_processor_alone(rt: HostRuntime) -> 
             if cycles >= 4096 {
                 break;
             }
-            match mcu.step(&image, HIGH) {
+            match mcu.step(&image, ALL_HIGH) {
                 Ok(spent) => cycles += u64::from(spent),
                 Err(place) => {
                     end = End::Stuck(place);

@@ -3,7 +3,7 @@
 use arrayvec::ArrayVec;
 use board_terms::{Edge, HostAct, HostEvent, Place};
 use int09::Bios;
-use joint_glide::go_on;
+use joint_glide::{NOWHERE, go_on};
 use joint_run::{Due, Joint, Seen};
 use mcs48_isa::Image;
 use std::process::Abort;
@@ -14,9 +14,6 @@ const BEGINNINGS: [u8; 32] = [
     0x00, 0x04, 0x04, 0x08, 0x0a, 0x14, 0x16, 0x17, 0x23, 0x25, 0x26, 0x27, 0x36, 0x37, 0x39, 0x3a,
     0x42, 0x45, 0x46, 0x55, 0x56, 0x62, 0x77, 0x83, 0x8a, 0x93, 0x96, 0x9a, 0xbf, 0xc6, 0xef, 0xf8,
 ];
-
-/// A place that no counter is at.
-const NOWHERE: u16 = 2048;
 
 /// The next byte of a row that begins with a seed.
 fn draw(seed: &mut u32) -> u8 {

@@ -14,22 +14,12 @@ use joint_run::{Due, Joint};
 use key_file::{History, read_history};
 use layout_reader::{Layout, us84_layout};
 use mcs48_asm::assemble;
-use mcs48_core::{Count, Mcu, Pins, reset};
+use mcs48_core::{ALL_HIGH, Count, Mcu, reset};
 use mcs48_isa::Image;
 use pc_tables::item_line;
 use std::alloc::{AllocError, Global};
 use std::process::Abort;
 use std::test::Fail;
-
-/// All pins high: no key is down and no wire is pulled.
-const HIGH: Pins = Pins {
-    p1: 0xff,
-    p2: 0xff,
-    bus: 0xff,
-    t0: true,
-    t1: true,
-    int_pin: true,
-};
 
 /// The next of a row of bytes that begins with a seed.
 fn draw(seed: &mut u32) -> u8 {
@@ -82,7 +72,7 @@ fn to_first_start(mcu: &mut Mcu) -> Result<u32, Fail> {
         if mcu.svc && mcu.pc == TICK {
             break;
         }
-        cycles = cycles.wrapping_add(u32::from(mcu.step(&image, HIGH)?));
+        cycles = cycles.wrapping_add(u32::from(mcu.step(&image, ALL_HIGH)?));
     }
     Ok(cycles)
 }

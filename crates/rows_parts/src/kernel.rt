@@ -6,19 +6,9 @@ use fw_kernel::cells::{
 };
 use fw_kernel::{KERNEL, SOURCE, TICK, WAIT};
 use mcs48_asm::assemble;
-use mcs48_core::{Pins, reset};
+use mcs48_core::{ALL_HIGH, reset};
 use mcs48_isa::{FlowOp, Image, Op, decode};
 use std::test::Fail;
-
-/// All pins high: no key is down, and both wires are released.
-const HIGH: Pins = Pins {
-    p1: 0xff,
-    p2: 0xff,
-    bus: 0xff,
-    t0: true,
-    t1: true,
-    int_pin: true,
-};
 
 /// Jumps to the labels, at places that the kernel leaves free.
 const JUMPS: &str = "        ORG 7F0H\n        JMP tick\n        JMP wait\n";
@@ -109,7 +99,7 @@ fn ticks_keep_the_cadence_and_pull_no_wire_in_the_test(rt: HostRuntime) {
             least = least.saturating_add(2048);
             ticks = ticks.saturating_add(1);
         }
-        let cycles = mcu.step(&image, HIGH).unwrap_or(0);
+        let cycles = mcu.step(&image, ALL_HIGH).unwrap_or(0);
         assert!(rt; cycles > 0, "no instruction at {}", mcu.pc);
         cycle = cycle.saturating_add(u64::from(cycles));
         if ticks <= 64 {

@@ -1,15 +1,10 @@
 ghost use Rattle.std.specs.Prelude.{◌≡◌, false};
 ghost use Rattle.ctl_wire.specs.Cycles.{next_cycle};
 
-use board_terms::Lines;
+use board_terms::{HIGH, Lines};
 use ctl_core::Port;
 use ctl_wire::CtlWire;
 use std::process::Abort;
-
-const HIGH: Lines = Lines {
-    clk: true,
-    dat: true,
-};
 
 const CLOCK_LOW: Lines = Lines {
     clk: false,

@@ -3,6 +3,7 @@
 ghost use Rattle.std.specs.Prelude.{◌≡◌, ◌+◌, ◌≤◌, false, nat_le};
 ghost use Rattle.story_run.specs.Answers.{MeetsNoTick, DecidesOver};
 
+use board_terms::STAMP_0;
 use fw_logic::at_tick;
 use joint_run::Joint;
 use mcs48_core::Stuck;
@@ -41,7 +42,7 @@ fn has_reached(cycle: u64, stop: u64) -> bool
     requires { stop ≤ 240000000 }
     ensures reached { result ≡ nat_le (4096 + stop) cycle }
 {
-    cycle >= 4096 + stop
+    cycle >= STAMP_0 + stop
 }
 
 /// Whether a run that has reached this state is over there.

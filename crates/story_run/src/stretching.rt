@@ -9,14 +9,11 @@ ghost use Rattle.story_run.specs.Stretching.{HasMade, NoneHalts};
 use crate::ending::{Ending, Halt};
 use fw_kernel::TICK;
 use joint_feed::Course;
-use joint_glide::go_on;
+use joint_glide::{NOWHERE, go_on};
 use mcs48_core::Stuck;
 
 /// How many cycles quiet steps take together at most if a run ends at a tick start: more than there are between two.
 const MOST: u64 = 65_536;
-
-/// A place that no counter is at.
-const NOWHERE: u16 = 2048;
 
 /// The place of the program to which no quiet step may lead, and how many cycles quiet steps may take together: so none
 /// of them leads to a halt.
@@ -30,7 +27,7 @@ fn reach(course: &Course, halt: Halt) -> (u16, u64)
     let cycle = course.joint.cycle();
     match halt.ending {
         Ending::TickStart => (TICK, MOST),
-        Ending::Stamp => (NOWHERE, 4095 + halt.stop - cycle),
+        Ending::Stamp => (NOWHERE, STAMP_0 - 1 + halt.stop - cycle),
     }
 }
 

@@ -26,6 +26,7 @@ use crate::reporting::Putting;
 use crate::starts::Starts;
 use agreement::run_and_model_agree;
 use board_probes::Probe;
+use board_terms::TICK_CYCLES;
 use io_edge::{Sink, SinkFault};
 use joint_feed::Course;
 use key_file::Feed;
@@ -33,9 +34,6 @@ use layout_reader::Layout;
 use std::alloc::{AllocError, Global};
 use std::marker::Model;
 use story_run::{Ending, begin_run, make_run};
-
-/// The cycles of a tick.
-const TICK_CYCLES: u64 = 2_048;
 
 /// The run of a layout's compiled image under the history of a feed, at power-on, with all the memory that it takes. A
 /// clause sees what is run.

@@ -6,12 +6,10 @@ ghost use Rattle.joint_run.specs.Joint.{Beside};
 ghost use Rattle.joint_run.specs.Run.{World};
 ghost use Rattle.story_run.specs.Starts.{start_stamp};
 
+use board_terms::STAMP_0;
 use fw_logic::at_tick;
 use joint_run::Joint;
 use std::alloc::AllocError;
-
-/// The cycle of stamp 0.
-const FIRST_STAMP: u64 = 4_096;
 
 /// The stamps of the tick starts so far.
 #[derive(Drop)]
@@ -39,7 +37,7 @@ impl Starts {
         ensures capacity { vec_capacity self.old.stamps ≤ vec_capacity self.new.stamps }
     {
         if at_tick(joint) {
-            self.stamps.push(joint.cycle() - FIRST_STAMP)?;
+            self.stamps.push(joint.cycle() - STAMP_0)?;
         }
         Ok(())
     }
