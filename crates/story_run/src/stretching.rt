@@ -7,6 +7,7 @@ ghost use Rattle.story_run.specs.Gliding.{IsGoing};
 ghost use Rattle.story_run.specs.Stretching.{HasMade, NoneHalts};
 
 use crate::ending::{Ending, Halt};
+use board_terms::STAMP_0;
 use fw_kernel::TICK;
 use joint_feed::Course;
 use joint_glide::{NOWHERE, go_on};
