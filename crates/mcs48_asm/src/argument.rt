@@ -1,7 +1,7 @@
 //! The values in a line.
 
 /// How the bytes of a line take a value.
-#[derive(Clone, Copy, Debug, PartialEq, Eq)]
+#[derive(Clone, Copy, PartialEq, Eq)]
 pub enum Role {
     /// As a byte, 0 to 255.
     Byte,

@@ -117,7 +117,11 @@ fn numbered(first: u8, last: u8, digit: u8) -> Option<u8>
     requires { 48 ≤ first }
     ensures { result ≡ numbered first last digit }
 {
-    (first <= digit && digit <= last).then(|| digit - b'0')
+    if first <= digit && digit <= last {
+        Some(digit - b'0')
+    } else {
+        None
+    }
 }
 
 /// The number of a register, R0 to R7.
