@@ -53,11 +53,14 @@ latch_line m =
 abbrev pub shown_register : ℕ → Cpu → List ℕ
 shown_register r m = codes " " ++ hex_byte (register r m)
 
--- the eight registers of the selected bank
+-- the first four of them
+abbrev pub first_registers : Cpu → List ℕ
+first_registers m = codes "r" ++ shown_register 0 m ++ shown_register 1 m ++ shown_register 2 m ++ shown_register 3 m
+
+-- all eight
 abbrev pub register_line : Cpu → List ℕ
 register_line m =
-    codes "r" ++ shown_register 0 m ++ shown_register 1 m ++ shown_register 2 m ++ shown_register 3 m
-    ++ shown_register 4 m ++ shown_register 5 m ++ shown_register 6 m ++ shown_register 7 m ++ line_end
+    first_registers m ++ shown_register 4 m ++ shown_register 5 m ++ shown_register 6 m ++ shown_register 7 m ++ line_end
 
 -- the steps and the cycles done
 abbrev pub count_line : ℕ → ℕ → List ℕ

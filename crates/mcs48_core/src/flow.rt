@@ -1,12 +1,13 @@
 //! Jumps, calls and returns.
 
-ghost use Rattle.std.specs.Prelude.{◌≡◌, ◌<◌};
+ghost use Rattle.std.specs.Prelude.{◌≡◌, ◌*◌, ◌<◌, ◌≤◌};
 ghost use Rattle.mcs48_isa.specs.Operands.{IsFlow};
+ghost use Rattle.mcs48_core.specs.Status.{high_status};
 ghost use Rattle.mcs48_core.specs.Flow.{branch, bank_bit, pushed, popped_high, returned, flow};
 
 use crate::levels::Pins;
 use crate::processor::Mcu;
-use crate::registers::{bit_of, counted, place_in_page};
+use crate::registers::{bit_of, counted, place_in_page, with_pointer};
 use mcs48_isa::{FlowOp, Image};
 
 impl Mcu {
@@ -32,6 +33,15 @@ impl Mcu {
         if self.mb && !self.svc { 1 } else { 0 }
     }
 
+    /// The high four bits of the status byte, where they are in it.
+    #[inline(always)]
+    fn high_bits(&self) -> u8
+        ensures bits { result ≡ 16 * high_status self.now }
+        ensures within { result ≤ 240 }
+    {
+        self.psw / 16 * 16
+    }
+
     /// Pushes a counter and the high four bits of the status byte.
     pub(crate) fn push(&mut self, pc: u16)
         requires { pc < 4096 }
@@ -39,8 +49,8 @@ impl Mcu {
     {
         let at = 8 + 2 * (self.psw % 8) as usize;
         self.ram[at] = (pc % 256) as u8;
-        self.ram[at + 1] = self.psw / 16 * 16 + (pc / 256) as u8;
-        self.psw = self.psw / 8 * 8 + (self.psw % 8 + 1) % 8;
+        self.ram[at + 1] = self.high_bits() + (pc / 256) as u8;
+        self.psw = with_pointer(self.psw, (self.psw % 8 + 1) % 8);
     }
 
     /// The high byte of the last entry on the stack.
@@ -59,7 +69,7 @@ impl Mcu {
         let sp = (self.psw % 8 + 7) % 8;
         let low = self.ram[8 + 2 * sp as usize];
         let high = self.ram[9 + 2 * sp as usize];
-        self.psw = self.psw / 8 * 8 + sp;
+        self.psw = with_pointer(self.psw, sp);
         (high % 16) as u16 * 256 + low as u16
     }
 

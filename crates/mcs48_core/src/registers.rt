@@ -2,7 +2,7 @@
 
 ghost use Rattle.std.specs.Prelude.{◌≡◌, ◌<◌, ◌/◌, ◌%◌};
 ghost use Rattle.bits.specs.Bits.{bit};
-ghost use Rattle.mcs48_core.specs.Status.{psw_of, with_high_status};
+ghost use Rattle.mcs48_core.specs.Status.{IsStatus, psw_of, with_high_status};
 ghost use Rattle.mcs48_core.specs.Registers.{counted, in_page, bank_start, register, with_register, indirect};
 ghost use Rattle.mcs48_core.specs.Registers.{with_indirect};
 
@@ -27,6 +27,47 @@ pub(crate) fn status_of(high: u8, sp: u8) -> u8
     ensures bank { bit 4 result ≡ bit 4 high }
 {
     high / 16 * 16 + 8 + sp
+}
+
+/// The status byte with this carry.
+#[inline(always)]
+fn with_carry(psw: u8, on: bool) -> u8
+    ensures { IsStatus result on (bit 6 psw) (bit 5 psw) (bit 4 psw) (psw / 8 % 2) (psw % 8) }
+{
+    psw % 128 + if on { 128 } else { 0 }
+}
+
+/// The status byte with this half carry.
+#[inline(always)]
+fn with_half_carry(psw: u8, on: bool) -> u8
+    ensures { IsStatus result (bit 7 psw) on (bit 5 psw) (bit 4 psw) (psw / 8 % 2) (psw % 8) }
+{
+    psw / 128 * 128 + psw % 64 + if on { 64 } else { 0 }
+}
+
+/// The status byte with this flag 0.
+#[inline(always)]
+fn with_flag_0(psw: u8, on: bool) -> u8
+    ensures { IsStatus result (bit 7 psw) (bit 6 psw) on (bit 4 psw) (psw / 8 % 2) (psw % 8) }
+{
+    psw / 64 * 64 + psw % 32 + if on { 32 } else { 0 }
+}
+
+/// The status byte with bank 1 selected, or bank 0.
+#[inline(always)]
+fn with_bank(psw: u8, on: bool) -> u8
+    ensures { IsStatus result (bit 7 psw) (bit 6 psw) (bit 5 psw) on (psw / 8 % 2) (psw % 8) }
+{
+    psw / 32 * 32 + psw % 16 + if on { 16 } else { 0 }
+}
+
+/// The status byte with this stack pointer.
+#[inline(always)]
+pub(crate) fn with_pointer(psw: u8, sp: u8) -> u8
+    requires { sp < 8 }
+    ensures { IsStatus result (bit 7 psw) (bit 6 psw) (bit 5 psw) (bit 4 psw) (psw / 8 % 2) sp }
+{
+    psw / 8 * 8 + sp
 }
 
 /// The counter one byte on; bit 11 stays.
@@ -66,21 +107,21 @@ impl Mcu {
     pub(crate) fn set_carry(&mut self, on: bool)
         ensures { self.new ≡ record self.old { c = on } }
     {
-        self.psw = self.psw % 128 + if on { 128 } else { 0 };
+        self.psw = with_carry(self.psw, on);
     }
 
     /// Sets the half carry.
     pub(crate) fn set_half_carry(&mut self, on: bool)
         ensures { self.new ≡ record self.old { ac = on } }
     {
-        self.psw = self.psw / 128 * 128 + self.psw % 64 + if on { 64 } else { 0 };
+        self.psw = with_half_carry(self.psw, on);
     }
 
     /// Sets flag 0.
     pub(crate) fn set_flag_0(&mut self, on: bool)
         ensures { self.new ≡ record self.old { f0 = on } }
     {
-        self.psw = self.psw / 64 * 64 + self.psw % 32 + if on { 32 } else { 0 };
+        self.psw = with_flag_0(self.psw, on);
     }
 
     /// The flags and the bank from the high four bits of a byte.
@@ -94,7 +135,7 @@ impl Mcu {
     pub(crate) fn set_bank(&mut self, on: bool)
         ensures { self.new ≡ record self.old { rb = on } }
     {
-        self.psw = self.psw / 32 * 32 + self.psw % 16 + if on { 16 } else { 0 };
+        self.psw = with_bank(self.psw, on);
     }
 
     /// Where the selected bank begins in data memory.

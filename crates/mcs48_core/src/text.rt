@@ -3,7 +3,8 @@
 ghost use Rattle.std.specs.Prelude.{◌≡◌, ◌+◌, ◌<◌, ◌≤◌, ◌++◌, length, IfOk};
 ghost use Rattle.arrayvec.specs.ArrayVec.{array_vec_len};
 ghost use Rattle.mcs48_core.specs.StateText.{flag, switch, run_word, counter_line, timer_fields, timer_line};
-ghost use Rattle.mcs48_core.specs.StateText.{latch_line, register_line, count_line, state_row, state_text_of};
+ghost use Rattle.mcs48_core.specs.StateText.{latch_line, first_registers, register_line, count_line, state_row};
+ghost use Rattle.mcs48_core.specs.StateText.{state_text_of};
 
 use crate::processor::{Count, Mcu};
 use arrayvec::ArrayVec;
@@ -99,15 +100,24 @@ fn latch_line(mcu: &Mcu) -> StateLine
     line
 }
 
-/// The eight registers of the selected bank.
-fn register_line(mcu: &Mcu) -> StateLine
-    ensures { result.items ≡ register_line mcu.now }
+/// The first four registers of the selected bank.
+fn first_registers(mcu: &Mcu) -> StateLine
+    ensures registers { result.items ≡ first_registers mcu.now }
+    ensures short { array_vec_len result ≤ 13 }
 {
     let mut line = StateLine::new();
     show(&mut line, b"r ", &hex_text::byte(mcu.register(0)));
     show(&mut line, b" ", &hex_text::byte(mcu.register(1)));
     show(&mut line, b" ", &hex_text::byte(mcu.register(2)));
     show(&mut line, b" ", &hex_text::byte(mcu.register(3)));
+    line
+}
+
+/// The eight registers of the selected bank.
+fn register_line(mcu: &Mcu) -> StateLine
+    ensures { result.items ≡ register_line mcu.now }
+{
+    let mut line = first_registers(mcu);
     show(&mut line, b" ", &hex_text::byte(mcu.register(4)));
     show(&mut line, b" ", &hex_text::byte(mcu.register(5)));
     show(&mut line, b" ", &hex_text::byte(mcu.register(6)));
