@@ -1,6 +1,7 @@
 //! The fields of a table of the document.
 
 ghost use Rattle.std.specs.Prelude.{◌≡◌, ◌<◌, IfSome, option_map};
+ghost use Rattle.std.specs.Str.{bytes_eq};
 ghost use Rattle.toml.specs.Data.{get_member};
 ghost use Rattle.toml.specs.View.{array_view, table_view, view};
 ghost use Rattle.layout_reader.specs.Fields.{is_field, has_other_field, has_field, text_at, whole_at, byte_at, key_at};
@@ -11,17 +12,24 @@ use toml::value::Array;
 use toml::{Table, Value};
 
 /// The formats of a document. The second knows an Fn key with a second layer, and keys that send no break.
-#[derive(Clone, Copy, Debug, PartialEq, Eq, Drop)]
+#[derive(Clone, Copy, PartialEq, Eq, Drop)]
 pub(crate) enum Format {
     One,
     Two,
 }
 
 /// The two levels of the document at which fields are; an entry's fields depend on the format.
-#[derive(Clone, Copy, Debug, PartialEq, Eq, Drop)]
+#[derive(Clone, Copy, PartialEq, Eq, Drop)]
 pub(crate) enum Level {
     Top,
     Entry(Format),
+}
+
+/// Whether two names are the same. It is a function of its own, since one that compares many texts is slow to prove.
+fn are_same(name: &str, other: &str) -> bool
+    ensures { result ≡ bytes_eq name.now other.now }
+{
+    name == other
 }
 
 impl Level {
@@ -31,18 +39,21 @@ impl Level {
         ensures { result ≡ is_field self name.now }
     {
         match self {
-            Level::Top => name == "format" || name == "key" || name == "name" || name == "rate",
-            Level::Entry(Format::One) => name == "key"
-                || name == "column"
-                || name == "row"
-                || name == "sends",
-            Level::Entry(Format::Two) => name == "key"
-                || name == "column"
-                || name == "row"
-                || name == "sends"
-                || name == "fn"
-                || name == "fn_sends"
-                || name == "make_only",
+            Level::Top => are_same(name, "format")
+                || are_same(name, "key")
+                || are_same(name, "name")
+                || are_same(name, "rate"),
+            Level::Entry(Format::One) => are_same(name, "key")
+                || are_same(name, "column")
+                || are_same(name, "row")
+                || are_same(name, "sends"),
+            Level::Entry(Format::Two) => are_same(name, "key")
+                || are_same(name, "column")
+                || are_same(name, "row")
+                || are_same(name, "sends")
+                || are_same(name, "fn")
+                || are_same(name, "fn_sends")
+                || are_same(name, "make_only"),
         }
     }
 }

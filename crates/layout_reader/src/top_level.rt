@@ -15,7 +15,7 @@ use toml::{Table, Value};
 pub(crate) const DEFAULT_RATE: u8 = 44;
 
 /// What the top level says of the whole document: its format, and the keyboard's rate byte at power-on.
-#[derive(Clone, Copy, Debug, PartialEq, Eq)]
+#[derive(Clone, Copy, PartialEq, Eq)]
 pub(crate) struct Header {
     pub(crate) format: Format,
     pub(crate) rate: u8,
