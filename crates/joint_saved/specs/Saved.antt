@@ -5,7 +5,7 @@
 -- | 0 | 8 | KBD48SV, and the version, 1 |
 -- | 8 | 8 | the cycle |
 -- | 16 | 8 | the joint steps so far |
--- | 24 | 8 | the rises of the interrupt line in the last call that made a step |
+-- | 24 | 8 | the rises of the interrupt line in the last run or call of the host's that wasn't refused |
 -- | 32 | 8 | the items that were lost and not reported yet |
 -- | 40 | 19 | the processor (joint_bytes, Processors) |
 -- | 59 | 12 | the columns of the matrix: bit k is row k, 0 for down |

@@ -28,7 +28,7 @@ use mcs48_isa::Image;
 use std::alloc::Global;
 
 /// What bytes mean: the machine, the edges of keys that wait for a step, the items that are kept, how many others were
-/// lost, and the rises of the interrupt line in the last call that made a step.
+/// lost, and the rises of the interrupt line in the last run or call of the host's that wasn't refused.
 #[derive(Drop)]
 pub struct Loaded {
     pub joint: Joint,

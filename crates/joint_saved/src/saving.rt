@@ -109,7 +109,7 @@ fn machine(joint: &Joint, rises: u64, lost: u64) -> Bytes
 }
 
 /// The bytes of a keyboard: its machine, the edges that wait, the items that are kept, how many others were lost, and the
-/// rises of the interrupt line in the last call that made a step. Loaded again they are the same.
+/// rises of the interrupt line in the last run or call of the host's that wasn't refused. Loaded again they are the same.
 pub fn save(
     joint: &Joint,
     edges: &[Edge],
