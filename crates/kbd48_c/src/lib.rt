@@ -14,21 +14,13 @@ mod keyed;
 mod looks;
 mod names;
 mod noise;
-#[cfg(test)]
-mod noise_tests;
 mod opening;
 mod pointer;
 mod power;
-#[cfg(test)]
-mod queue_tests;
 mod queueing;
 mod ready;
 mod saving;
-#[cfg(test)]
-mod saving_tests;
 mod status;
 mod stopping;
-#[cfg(test)]
-mod tests;
 mod version;
 mod views;
