@@ -114,32 +114,3 @@ fn read_some<F: Read>(reader: &mut F, bytes: &mut Vec<u8>, max: usize) -> Result
         .map_err(|_| FetchFault::Memory)?;
     Ok(count)
 }
-
-#[cfg(test)]
-mod tests {
-    use super::*;
-
-    /// Gives three bytes, and then an error.
-    #[derive(Drop)]
-    struct Broken {
-        reads: u8,
-    }
-
-    impl Read for Broken {
-        fn read(&mut self, buf: &mut [u8]) -> io::Result<usize> {
-            self.reads = self.reads.saturating_add(1);
-            if self.reads > 1 {
-                return Err(io::Error::from(io::ErrorKind::Other));
-            }
-            Ok(buf.len().min(3))
-        }
-    }
-
-    #[test]
-    fn a_file_that_breaks_off_is_not_taken_as_whole(rt: HostRuntime) {
-        match read_all(&mut Broken { reads: 0 }, rt.alloc(), 9) {
-            Err(fault) => assert_eq!(rt; fault, FetchFault::Failed),
-            Ok(bytes) => assert_eq!(rt; bytes.len(), 9, "an error was taken as the end"),
-        }
-    }
-}

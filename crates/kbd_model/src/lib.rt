@@ -23,6 +23,3 @@ pub use laws::{queue_is_in_order, sent_once};
 pub use meeting::Meeting;
 pub use queue::Queue;
 pub use state::TickModel;
-
-#[cfg(test)]
-mod tests;

@@ -34,6 +34,3 @@ pub use ran::{Ran, RunEnd};
 pub use refused::Refused;
 pub use sides::Sides;
 pub use stops::{Ending, Met, Stopped, Stops};
-
-#[cfg(test)]
-mod tests;
