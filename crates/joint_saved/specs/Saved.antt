@@ -155,6 +155,7 @@ HasMachine b joint = (cpu : Cpu) × (link : Link Wire) × (machine_in b ≡ Ok (
 abbrev pub HasNoMachine : List ℕ → Unloaded → Type 0
 HasNoMachine b fault = (machine_in b ≡ Err fault) ⊎ (fault ≡ U.Memory)
 
--- why bytes were refused: what they lack first; or there was no memory
+-- why bytes were refused: what they lack first; or there was no memory, of which none is taken for bytes that lack something
+-- before a part of them is read
 abbrev pub IsUnloaded : List ℕ → Unloaded → Type 0
-IsUnloaded b fault = (loaded b ≡ Err fault) ⊎ (fault ≡ U.Memory)
+IsUnloaded b fault = (loaded b ≡ Err fault) ⊎ ((checked b ≡ Ok tt) × (fault ≡ U.Memory))

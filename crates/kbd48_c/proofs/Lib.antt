@@ -1,3 +1,5 @@
 pub mod Pointing
 pub mod Forms
 pub mod Through
+pub mod SampleKeys
+pub mod Loading

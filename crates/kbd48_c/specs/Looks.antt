@@ -1,6 +1,8 @@
 -- What C sees of a keyboard without a step.
 use Rattle.std.specs.Prelude.{ℕ, ℤ, nat_lt, if◌then◌else◌, slice_index}
 use Rattle.board_terms.specs.Matrix.{rows_of}
+use Rattle.board_terms.specs.declared.lines.Lines.{Lines}
+use Rattle.joint_run.specs.Cycle.{outside_wires}
 use Rattle.joint_run.specs.declared.machine.Machine.{Machine}
 use Rattle.mcs48_core.specs.declared.processor.Count.{Count}
 use Rattle.mcs48_core.specs.declared.processor.Count.TheVariants.{Off, Timer, Counter}
@@ -54,3 +56,7 @@ column_after number k before = if nat_lt number 12 then rows_of k.joint.matrix n
 
 abbrev pub column_status : ℕ → ℤ
 column_status number = if nat_lt number 12 then done else no_such_place
+
+-- the two wires, as the keyboard's port 2 and the controller's link pull them
+abbrev pub wires_of : Keyboard → Lines
+wires_of k = outside_wires k.joint.mcu.p2 k.joint.outside

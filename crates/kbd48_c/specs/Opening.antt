@@ -10,8 +10,8 @@ use Rattle.live_board.specs.declared.parts.Parts.{Parts as Keyboard}
 use Rattle.kbd48_c.specs.Statuses.{done, no_memory}
 use Rattle.kbd48_c.specs.declared.opening.Fault.{Fault}
 
--- the handle has a keyboard with this program that has just been opened with cleared memory; or that is ready, with its
--- power-on test over
+-- the handle has a keyboard with this program that has just been opened with cleared memory; or that is ready: run on
+-- until its interrupt line rose, or for a second
 abbrev pub HasOpened : Bool → List ℕ → Option Keyboard → Type 0
 HasOpened ready bytes None = ⊥
 HasOpened false bytes (Some k) = IsOpened 0 bytes k

@@ -55,10 +55,12 @@ pub extern "C" fn kbd48_open_sample(alloc: Global, handle: &mut Handle) -> i32
 }
 
 /// The number of the key with this name, which is its place in the sample layout.
+#[tactic(auto, using(crate::proofs::SampleKeys::sample_places))]
 #[unsafe(no_mangle)]
 pub extern "C" fn kbd48_sample_key(name: &[u8], place: &mut u8) -> i32
     ensures place { place.new ≡ place_or (key_with_name name.now) place.old }
     ensures status { result ≡ place_status (key_with_name name.now) }
+    ensures sample { place_named name.now us84 ≡ key_with_name name.now }
 {
     match key_spelled(name) {
         Some(key) => {

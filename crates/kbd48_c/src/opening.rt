@@ -31,7 +31,7 @@ pub struct Fault {
     pub number: u32,
 }
 
-/// A keyboard with this program and this INT 09h: at stamp 0, or ready, with its power-on test over.
+/// A keyboard with this program and this INT 09h: at stamp 0, or ready, run on until its interrupt line rose or for a second.
 fn board(image: &Image, bios: Bios, ready: bool) -> Keyboard
     requires start { bios ≡ start }
     ensures opened { HasOpened ready image.now.bytes (Some result) }

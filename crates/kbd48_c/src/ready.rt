@@ -1,4 +1,4 @@
-//! Opening a keyboard that has finished its power-on test.
+//! Opening a keyboard that is run on until its interrupt line rises.
 
 ghost use Rattle.std.specs.Prelude.{◌≡◌, ◌<◌, ◌⊎◌, true, length, Err};
 ghost use Rattle.hexfile.specs.Hex.{hex_of};

@@ -3,6 +3,7 @@
 ghost use Rattle.std.specs.Prelude.{◌≡◌, None};
 ghost use Rattle.live_board.specs.Answers.{raises};
 ghost use Rattle.kbd48_c.specs.Exports.{HasShownLights, HasShownWires, Through, held_status, shown_of};
+ghost use Rattle.kbd48_c.specs.Looks.{wires_of};
 ghost use Rattle.kbd48_c.specs.Statuses.{done};
 
 use crate::handle::Handle;
@@ -30,6 +31,7 @@ pub extern "C" fn kbd48_interrupt(alloc: Global, handle: &mut Handle, up: &mut b
 #[unsafe(no_mangle)]
 pub extern "C" fn kbd48_lights(alloc: Global, handle: &mut Handle, lights: &mut u8) -> i32
     ensures lights { Through (HasShownLights lights.new) handle.old.keyboard result handle.new.keyboard }
+    ensures shown { lights.new ≡ shown_of (λ k. k.joint.outside.shown) handle.old.keyboard lights.old }
     ensures none { handle.old.keyboard ≡ None → lights.new ≡ lights.old }
 {
     match handle.take(alloc) {
@@ -51,6 +53,8 @@ pub extern "C" fn kbd48_wires(
     dat: &mut bool,
 ) -> i32
     ensures wires { Through (HasShownWires clock.new dat.new) handle.old.keyboard result handle.new.keyboard }
+    ensures clock { clock.new ≡ shown_of (λ k. (wires_of k).clk) handle.old.keyboard clock.old }
+    ensures dat { dat.new ≡ shown_of (λ k. (wires_of k).dat) handle.old.keyboard dat.old }
     ensures none { handle.old.keyboard ≡ None → (clock.new ≡ clock.old) × (dat.new ≡ dat.old) }
 {
     match handle.take(alloc) {

@@ -38,8 +38,8 @@ pub fn calls_agree()
 
 /// Whatever calls were made, whatever the part held when it was switched on, and whether or not keys bounced: let the edges
 /// be at places of the layout, what is written be bytes, and let no tick show more than four keys that changed. Then what
-/// was said so far is the beginning of what the model says, whose ticks get what the columns show. So a key that bounced
-/// once is the model's again. Nothing is done when it is called; the law is its contract.
+/// was said so far is the beginning of what the model says, whose ticks get what the columns show, before a bounce and after
+/// it. Nothing is done when it is called; the law is its contract.
 pub fn bounces_agree()
     ensures shown { LogsAreShown }
 {

@@ -1,4 +1,4 @@
--- A keyboard that has just been opened, and one that has finished its power-on test.
+-- A keyboard that has just been opened, and one that was run on until its interrupt line rose.
 use Rattle.std.specs.Prelude.{◌≡◌, ℕ, true, false, List, []}
 use Rattle.std.specs.declared.result.Result.{Result}
 use Rattle.board_terms.specs.declared.event.HostAct.TheVariants.{Mask}

@@ -141,7 +141,8 @@ impl Keyboard {
         }
     }
 
-    /// The same, run on until its power-on test is over: until the interrupt line rises, or for a second if it doesn't.
+    /// The same, run on until the interrupt line rises, or for a second if it doesn't. A layout's keyboard raises it for its
+    /// AA, after its power-on test; that is tested.
     pub fn open_ready(image: &Image, bios: Bios) -> Keyboard
         requires start { bios ≡ start }
         ensures ready { IsReady image.now.bytes result }

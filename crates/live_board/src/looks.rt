@@ -2,6 +2,7 @@
 
 ghost use Rattle.std.specs.Prelude.{◌≡◌, ◌≤◌, length};
 ghost use Rattle.board_terms.specs.Matrix.{rows_of};
+ghost use Rattle.joint_run.specs.Cycle.{outside_wires};
 ghost use Rattle.joint_run.specs.Joint.{latch_of};
 ghost use Rattle.ctl_wire.specs.Wires.{wires};
 ghost use Rattle.live_board.specs.Answers.{line_in, raises};
@@ -95,6 +96,7 @@ impl Keyboard {
 
     /// The lights: Scroll as bit 0, Num as bit 1, Caps as bit 2.
     pub fn lights(&self) -> u8
+        ensures lights { result ≡ self.now.joint.outside.shown }
         ensures state { (p : Past) → (s : HasPast p self.now) → result ≡ s.world.board.shown }
     {
         self.parts.joint.lights()
@@ -102,6 +104,7 @@ impl Keyboard {
 
     /// The two wires after the last cycle.
     pub fn wires(&self) -> Lines
+        ensures wires { result ≡ outside_wires self.now.joint.mcu.p2 self.now.joint.outside }
         ensures state { (p : Past) → (s : HasPast p self.now)
             → result ≡ wires (latch_of s.world.cpu.p2) s.world.board.pc }
     {
