@@ -1,6 +1,6 @@
 //! The call.
 
-ghost use Rattle.std.specs.Prelude.{◌≡◌, ◌≢◌, ◌⊎◌, ℕ, ◌≤◌, length, map, pos, take, string_bytes, IfNone, IfOk, IfSome};
+ghost use Rattle.std.specs.Prelude.{◌≡◌, ◌≢◌, ◌⊎◌, ℕ, ◌≤◌, drop, length, map, pos, take, string_bytes, IfNone, IfOk, IfSome};
 ghost use Rattle.board_probes.specs.Probes.{address_kind, cell_kind, line_kind, register_kind, unarmed};
 ghost use Rattle.app_words.specs.Exits.{status_of};
 ghost use Rattle.kbd48_call.specs.Calls.{IsCall};
@@ -84,6 +84,7 @@ fn run(
 fn put_text(taken: &[u8], text: &mut [u8]) -> Option<usize>
     ensures written { IfSome result (λ n. take n text.new ≡ taken.now) }
     ensures within { IfSome result (λ n. n ≤ length text.old) }
+    ensures rest { IfSome result (λ n. drop n text.new ≡ drop n text.old) }
     ensures unchanged { IfNone result (text.new ≡ text.old) }
 {
     if taken.len() > text.len() {
@@ -96,7 +97,7 @@ fn put_text(taken: &[u8], text: &mut [u8]) -> Option<usize>
 /// The program from its words and its files to its text and its exit. Words and files are pieces of `bytes`. If the room
 /// for the text is full, the exit is 6, as of a sink that failed. The result is 0 if there is an answer, 2 if there is no
 /// memory for words, files and probes, and 5 if a piece isn't one of the bytes or a name or a word is no UTF-8 text. Text
-/// and `said` are written only if it is 0.
+/// and `said` are written only if it is 0, and of the room for the text no more than the text takes.
 #[unsafe(no_mangle)]
 pub extern "C" fn kbd48_call(
     alloc: Global,
@@ -109,6 +110,7 @@ pub extern "C" fn kbd48_call(
     ensures said { result ≡ pos 0 → IsCall (map (piece_in bytes.now) words.now) (shelf_in bytes.now files.now)
         (length text.old) (take said.new.length text.new) said.new.exit }
     ensures within { result ≡ pos 0 → said.new.length ≤ length text.old }
+    ensures rest { result ≡ pos 0 → drop said.new.length text.new ≡ drop said.new.length text.old }
     ensures status { (result ≡ pos 0) ⊎ (result ≡ pos 2) ⊎ (result ≡ pos 5) }
     ensures faulty { result ≡ pos 5 → HasBadPiece bytes.now words.now files.now }
     ensures sound { result ≡ pos 0 → ¬ (HasBadPiece bytes.now words.now files.now) }
