@@ -40,11 +40,7 @@ fn place(text: &[u8]) -> Option<u16>
     ensures within { IfSome result (λ place. place < 2048) }
 {
     let number = hexadecimal(3, text)?;
-    if number < 2048 {
-        Some(number as u16)
-    } else {
-        None
-    }
+    (number < 2048).then_some(number as u16)
 }
 
 /// The register, 0 to 7, that a digit names. None for every other text.
@@ -53,7 +49,7 @@ fn register(text: &[u8]) -> Option<u8>
     ensures within { IfSome result (λ register. register < 8) }
 {
     let number = decimal(1, text)?;
-    if number < 8 { Some(number as u8) } else { None }
+    (number < 8).then_some(number as u8)
 }
 
 /// The place that a certificate's first line gives as its target. None if the line hasn't the form.
