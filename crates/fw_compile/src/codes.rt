@@ -13,10 +13,8 @@ fn code_of(layout: &Layout, number: u8) -> u8
     requires { number < 96 }
     ensures { result ≡ code_byte layout.now number }
 {
-    match Place::at(number / 8, number % 8) {
-        Some(place) => layout.code_at(place).unwrap_or(0),
-        None => 0,
-    }
+    let place = Place::at(number / 8, number % 8).unwrap();
+    layout.code_at(place).unwrap_or(0)
 }
 
 /// The codes of the 96 places, in their order.
@@ -35,10 +33,8 @@ fn fn_code_of(layout: &Layout, number: u8) -> u8
     requires { number < 96 }
     ensures { result ≡ fn_code_byte layout.now number }
 {
-    match Place::at(number / 8, number % 8) {
-        Some(place) => layout.fn_code_at(place).unwrap_or(0),
-        None => 0,
-    }
+    let place = Place::at(number / 8, number % 8).unwrap();
+    layout.fn_code_at(place).unwrap_or(0)
 }
 
 /// The codes of the 96 places under Fn, in their order.
@@ -58,10 +54,7 @@ fn sends_no_break(layout: &Layout, column: u8, row: u8) -> bool
     requires row { row < 8 }
     ensures { result ≡ is_make_only (8 * column + row) layout.now }
 {
-    match Place::at(column, row) {
-        Some(place) => layout.make_only(place),
-        None => false,
-    }
+    layout.make_only(Place::at(column, row).unwrap())
 }
 
 /// The byte of a column: bit r is set exactly if the key at row r sends no break.
