@@ -90,25 +90,11 @@ impl Bios {
     pub fn copied(&self, alloc: Global) -> Result<Bios, AllocError>
         ensures same { IfOk result (λ bios. bios ≡ self.now) }
     {
-        let mut words = HeapCircularBuffer::with_capacity(alloc, self.words.capacity())?;
-        let count = self.count();
-        let mut at = 0;
-        'words: while at < count {
-            let word = match self.word_at(at) {
-                Some(word) => word,
-                None => unreachable!(),
-            };
-            let _ = words.push_back(word);
-            at += 1;
-        }
-        Ok(Bios {
-            shifts: self.shifts,
-            downs: self.downs,
-            number: self.number,
-            ack: self.ack,
-            resend: self.resend,
-            words,
-        })
+        prove!(self.words.len() <= 15);
+        let (front, back) = self.words.as_slices();
+        let mut bios = Bios::of_parts(alloc, self.flags(), front)?;
+        let _ = bios.words.fill_from_slice(back);
+        Ok(bios)
     }
 
     /// Treats a byte that was read from port 60h, and answers what is said of it, in order. The buffer keeps at most 15
