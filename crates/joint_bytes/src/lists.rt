@@ -73,13 +73,10 @@ fn edge_in(bytes: &[u8]) -> Edge
     ensures { result ≡ edge_in bytes.now }
 {
     let place = bytes[8];
-    match Place::at(place / 8, place % 8) {
-        Some(place) => Edge {
-            stamp: number_at(bytes, 0),
-            place,
-            down: truth_at(bytes, 9),
-        },
-        None => unreachable!(),
+    Edge {
+        stamp: number_at(bytes, 0),
+        place: Place::at(place / 8, place % 8).unwrap(),
+        down: truth_at(bytes, 9),
     }
 }
 
