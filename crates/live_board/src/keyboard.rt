@@ -62,10 +62,7 @@ impl Keyboard {
             → GivesFirst (λ t. t.read) p (acted p (self.old.joint.cycle - 4096) Read60) byte) }
     {
         self.parts.act(HostAct::Read60)?;
-        match read_in(self.parts.seen.items.as_slice()) {
-            Some(byte) => Ok(byte),
-            None => unreachable!(),
-        }
+        Ok(read_in(self.parts.seen.items.as_slice()))
     }
 
     /// The host reads the status at port 64h, in one joint step.
@@ -76,10 +73,7 @@ impl Keyboard {
             → GivesFirst (λ t. t.status) p (acted p (self.old.joint.cycle - 4096) Status) byte) }
     {
         self.parts.act(HostAct::Status)?;
-        match status_in(self.parts.seen.items.as_slice()) {
-            Some(byte) => Ok(byte),
-            None => unreachable!(),
-        }
+        Ok(status_in(self.parts.seen.items.as_slice()))
     }
 
     /// A program takes the next word from the buffer of INT 09h, in one joint step; none if it is empty.
@@ -90,10 +84,7 @@ impl Keyboard {
             → GivesFirst (λ t. t.taken) p (acted p (self.old.joint.cycle - 4096) Take) word) }
     {
         self.parts.act(HostAct::Take)?;
-        match taken_in(self.parts.seen.items.as_slice()) {
-            Some(word) => Ok(word),
-            None => unreachable!(),
-        }
+        Ok(taken_in(self.parts.seen.items.as_slice()))
     }
 
     /// From now on INT 09h of this project reads each byte that the controller puts out, 64 cycles later; or it is
