@@ -62,11 +62,7 @@ fn cell(text: &[u8]) -> Option<u8>
     ensures within { IfSome result (λ cell. cell < 128) }
 {
     let number = hexadecimal(2, text)?;
-    if number < 128 {
-        Some(number as u8)
-    } else {
-        None
-    }
+    (number < 128).then_some(number as u8)
 }
 
 /// The number of one to nine decimal digits that is the last field. None for every other text.
