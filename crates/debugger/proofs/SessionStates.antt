@@ -1,17 +1,11 @@
 -- A session's state: whether its run has ended there, and its next step.
-use Rattle.std.proofs.Common.{◌≡◌, ◌<◌, ℕ, suc, ◌+◌, Bool, true, false, not, ◌&&◌, ◌||◌, List}
+use Rattle.std.proofs.Common.{◌≡◌, ◌<◌, ℕ, suc, ◌+◌, Bool, true, false, ◌&&◌, ◌||◌, List}
 use Rattle.std.proofs.Common.{Some, None, is_none, refl, ap, sym, subst, ◌∙◌, arith}
 use Rattle.std.specs.Prelude.{if◌then◌else◌, nat_le}
 use Rattle.std.proofs.lemmas.Bool.Decides.{nat_tests}
 use Rattle.std.specs.declared.option.Option.{Option}
-use Rattle.mcs48_isa.specs.declared.operation.Decoded.{Decoded}
-use Rattle.mcs48_core.specs.Cpu.{Cpu}
-use Rattle.mcs48_core.specs.declared.levels.Pins.{Pins}
-use Rattle.mcs48_core.specs.Step.{Stepped, stepped, executed, row_at, takes_external, takes_timer, entered}
-use Rattle.board_terms.specs.declared.event.Edge.{Edge}
-use Rattle.board_terms.specs.declared.event.HostEvent.{HostEvent}
-use Rattle.joint_run.specs.Joint.{Beside, joint_board, joint_pins, joint_start_of}
-use Rattle.joint_run.specs.Run.{Board, World, after_step, joint_step, run_at, seen, step_on}
+use Rattle.joint_run.specs.Joint.{Beside, joint_board, joint_start_of}
+use Rattle.joint_run.specs.Run.{World, joint_step, run_at, step_on}
 use Rattle.fw_logic.specs.JointRun.{DecidesTick}
 use Rattle.joint_feed.specs.declared.course.Course.{Course}
 use Rattle.joint_feed.specs.Course.{IsOnCourse}
@@ -22,48 +16,11 @@ use Rattle.debugger.specs.Sessions.{Debuggee, Sitting, sitting, session_is_over,
 use Rattle.board_probes.specs.Stuck.{sticks}
 use Rattle.debugger.specs.Advance.{IsStateAt, DecidesSessionOver}
 use Rattle.board_probes.proofs.Sights.{same_sight}
+use Rattle.joint_glide.proofs.NoStep.{none_step}
 
 -- what a session over this program is about
 abbrev pub debuggee_in : ℕ → List ℕ → KeyHistory → ℕ → Debuggee
 debuggee_in fill bytes history latest = record { story = filled_story fill bytes history; latest = latest }
-
-none_after : (d : Board) (w : World d.State) (o : Option Stepped) → is_none (after_step d w o) ≡ is_none o
-none_after d w None = refl
-none_after d w (Some n) = refl
-
-none_executed : (r : Option Decoded) (bytes : List ℕ) (pins : Pins) (m : Cpu) → is_none (executed r bytes pins m) ≡ is_none r
-none_executed None bytes pins m = refl
-none_executed (Some d) bytes pins m = refl
-
-none_by : (e t : Bool) (x y : Stepped) (o : Option Stepped) → e ≡ false
-    → is_none (elim e as (λ b. Option Stepped) [ true ↦ Some x | false ↦ elim t as (λ b. Option Stepped) [ true ↦ Some y | false ↦ o ] ])
-    ≡ (not t && is_none o)
-none_by true t x y o h = absurd (cc h)
-none_by false true x y o h = refl
-none_by false false x y o h = refl
-
-pin_high : (a b : Bool) → (a && b && not true) ≡ false
-pin_high true true = refl
-pin_high true false = refl
-pin_high false b = refl
-
--- a step with the pin INT high is missing exactly where the processor is stuck
-none_stepped : (bytes : List ℕ) (pins : Pins) (m : Cpu) → pins.int_pin ≡ true → is_none (stepped bytes pins m) ≡ sticks bytes m
-none_stepped bytes pins m high =
-    let off : takes_external pins m ≡ false = ap (λ b. not m.svc && m.ext_on && not b) high ∙ pin_high (not m.svc) m.ext_on in
-    none_by (takes_external pins m) (takes_timer m) (entered 3 pins m) (entered 7 pins (record m { rq = false }))
-    (executed (row_at bytes m.pc) bytes pins m) off
-    ∙ ap (λ b. not (takes_timer m) && b) (none_executed (row_at bytes m.pc) bytes pins m)
-
-int_high : (edges : List Edge) (events : List HostEvent) (w : World Beside) → (seen (joint_board edges events) w).int_pin ≡ true
-unfolding joint_pins
-int_high edges events w = refl
-
-none_step : (edges : List Edge) (events : List HostEvent) (bytes : List ℕ) (w : World Beside)
-    → is_none (joint_step (joint_board edges events) bytes w) ≡ sticks bytes w.cpu
-none_step edges events bytes w =
-    let d : Board = joint_board edges events in
-    none_after d w (stepped bytes (seen d w) w.cpu) ∙ none_stepped bytes (seen d w) w.cpu (int_high edges events w)
 
 -- the next state from one that is there
 pub next_there : (s : Debuggee) (k : ℕ) (w : World Beside) (over : Bool)

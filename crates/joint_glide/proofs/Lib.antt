@@ -1,3 +1,4 @@
 pub mod Steps
 pub mod Stretches
 pub mod Turns
+pub mod NoStep

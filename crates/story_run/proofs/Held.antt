@@ -1,7 +1,8 @@
 -- A run that is stuck: no state follows, and the processor is stuck there.
-use Rattle.std.proofs.Common.{◌≡◌, ℕ, suc, List, Some, None, Err, ap, sym, subst, ◌∙◌, Bool, true, false, not, ◌&&◌, is_none}
-use Rattle.std.proofs.Common.{refl}
+use Rattle.std.proofs.Common.{◌≡◌, ℕ, suc, List, Some, None, Err, true, is_none, ap, sym, subst, ◌∙◌}
 use Rattle.std.specs.declared.option.Option.{Option}
+use Rattle.board_probes.specs.Stuck.{sticks}
+use Rattle.joint_glide.proofs.NoStep.{none_step}
 use Rattle.board_probes.specs.Probes.{Watch}
 use Rattle.joint_feed.proofs.Going.{here, no_further, on_moved, same_state}
 use Rattle.joint_feed.specs.Course.{IsOnCourse}
@@ -10,7 +11,7 @@ use Rattle.joint_feed.specs.declared.ahead.Ahead.{Ahead}
 use Rattle.joint_feed.specs.declared.course.Course.{Course}
 use Rattle.joint_run.specs.Due.{IsJointStep}
 use Rattle.joint_run.specs.Joint.{Beside, joint_board}
-use Rattle.joint_run.specs.Run.{World, joint_step, step_on, after_step, seen}
+use Rattle.joint_run.specs.Run.{World, joint_step, step_on}
 use Rattle.joint_run.specs.declared.due.Due.{Due}
 use Rattle.joint_run.specs.declared.machine.Machine.{Machine}
 use Rattle.mcs48_core.specs.declared.stepping.Stuck.{Stuck}
@@ -19,41 +20,10 @@ use Rattle.story_run.specs.declared.ending.Halt.{Halt}
 use Rattle.story_run.specs.Advance.{IsEnding}
 use Rattle.story_run.specs.Gliding.{IsGoing, IsHeldUp, IsSilent}
 use Rattle.story_run.specs.Running.{GoesOnTo, is_over, place_of}
-use Rattle.board_probes.specs.Stuck.{sticks}
-use Rattle.mcs48_core.specs.Cpu.{Cpu}
-use Rattle.mcs48_core.specs.Step.{Stepped, entered, executed, row_at, stepped, takes_external, takes_timer}
-use Rattle.mcs48_core.specs.declared.levels.Pins.{Pins}
-use Rattle.mcs48_isa.specs.declared.operation.Decoded.{Decoded}
-
-none_row : (bytes : List ℕ) (pins : Pins) (m : Cpu) (r : Option Decoded) → executed r bytes pins m ≡ None → r ≡ None
-none_row bytes pins m None h = refl
-none_row bytes pins m (Some d) h = absurd cc
-
--- no interrupt is entered where there is no step
-none_by : (external timer : Bool) (x y : Stepped) (o : Option Stepped)
-    → elim external as (λ b. Option Stepped) [
-      | true ↦ Some x
-      | false ↦ elim timer as (λ b. Option Stepped) [ true ↦ Some y | false ↦ o ]
-    ] ≡ None
-    → (timer ≡ false) × (o ≡ None)
-none_by true timer x y o h = absurd cc
-none_by false true x y o h = absurd cc
-none_by false false x y o h = (refl, h)
-
-none_after : (s : Story) (w : World Beside) (o : Option Stepped) → after_step (joint_board s.edges s.events) w o ≡ None → o ≡ None
-none_after s w None h = refl
-none_after s w (Some n) h = absurd cc
 
 pub stuck_where_none : (s : Story) (w : World Beside)
     → joint_step (joint_board s.edges s.events) s.bytes w ≡ None → sticks s.bytes w.cpu ≡ true
-stuck_where_none s w h =
-    let m = w.cpu in
-    let pins = seen (joint_board s.edges s.events) w in
-    let row = row_at s.bytes m.pc in
-    let none = none_after s w (stepped s.bytes pins m) h in
-    let parts = none_by (takes_external pins m) (takes_timer m) (entered 3 pins m)
-    (entered 7 pins (record m { rq = false })) (executed row s.bytes pins m) none in
-    ap (λ b. not b && is_none row) parts.0 ∙ ap is_none (none_row s.bytes pins m row parts.1)
+stuck_where_none s w none = sym (none_step s.edges s.events s.bytes w) ∙ ap is_none none
 
 -- what is answered of a processor that is stuck
 place_stuck : (due : Due) (old new : Machine) (o : Option (World Beside)) (stuck : Stuck) → IsJointStep due old o (Err stuck) new
