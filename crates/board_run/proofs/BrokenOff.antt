@@ -1,43 +1,28 @@
 -- If a put fails in what a step tells, the text of the whole run is broken off.
-use Rattle.std.proofs.Common.{◌≡◌, ◌<◌, ℕ, suc, ◌+◌, List, ◌++◌, length, drop, Some, ap, sym, subst, ◌∙◌, arith}
-use Rattle.std.proofs.Math.Seq.{drop-append_seam}
-use Rattle.std.specs.declared.option.Option.{Option}
+use Rattle.std.proofs.Common.{◌≡◌, ◌<◌, ℕ, suc, ◌+◌, List, ◌++◌, ap, sym, subst, ◌∙◌, arith}
+use Rattle.std.proofs.lemmas.List.Concat.{flat_map-append}
 use Rattle.board_run.specs.Putting.{IsLogBrokenAt, IsLogBrokenOff}
 use Rattle.board_run.specs.BoardOutcomes.{IsOutcome, Outcome}
-use Rattle.board_run.specs.Texts.{log_text}
+use Rattle.board_run.specs.Texts.{line_text, log_text}
 use Rattle.board_probes.specs.Probes.{Watch}
 use Rattle.host_turn.specs.declared.stamped.Stamped.{Stamped}
 use Rattle.io_edge.specs.Said.{IsBrokenOff, Shown}
-use Rattle.joint_feed.specs.Stories.{Story, state_at}
-use Rattle.joint_run.specs.Joint.{Beside, log_of}
-use Rattle.joint_run.specs.Run.{World}
+use Rattle.joint_feed.specs.Stories.{Story}
 use Rattle.story_run.specs.declared.ending.Ending.TheVariants.{Stamp}
 use Rattle.story_run.specs.Looking.{BrokeOff}
 use Rattle.story_run.specs.Running.{log_at, logged, step_says}
-use Rattle.story_run.proofs.Said.{Said}
-use Rattle.story_run.proofs.Steps.{before as state_before, reached_by, step_said}
+use Rattle.story_run.proofs.Steps.{log_grows, reached_by}
 use Rattle.story_run.proofs.Texts.{broken_in_all}
 use Rattle.board_run.proofs.ComesToEnd.{EndsAfter, ends_within}
-use Rattle.board_run.proofs.Lines.{are_lines, log_text-append}
+use Rattle.board_run.proofs.Lines.{are_lines}
 
 module _ (s : Story) where
   -- a step adds what it says
-  log_more : (k : ℕ) (w v : World Beside) → state_at s k ≡ Some w → state_at s (suc k) ≡ Some v
-      → log_text (log_at s (suc k)) ≡ log_text (log_at s k) ++ log_text (step_says s k)
-  log_more k w v from to =
-      let said : Said w.cycle v.cycle (log_of w.board) (log_of v.board) = step_said s k w v from to in
-      let log : log_at s (suc k) ≡ log_at s k ++ said.more =
-      ap logged to ∙ said.afterwards ∙ ap (λ (o : Option (World Beside)). logged o ++ said.more) (sym from) in
-      let says : step_says s k ≡ said.more = ap (drop (length (log_at s k))) log ∙ drop-append_seam (log_at s k) said.more in
-      ap log_text log ∙ log_text-append (log_at s k) said.more
-      ∙ ap (λ (l : List Stamped). log_text (log_at s k) ++ log_text l) (sym says)
-
   log_to_end : (run : Outcome) → IsOutcome s run → (k : ℕ) → k < run.steps
       → log_text (log_at s (suc k)) ≡ log_text (log_at s k) ++ log_text (step_says s k)
   log_to_end run h k l =
       let next = reached_by s run.steps k h.world h.reached l in
-      let here = state_before s k next.0 next.1 in
-      log_more k here.0 next.0 here.1 next.1
+      ap log_text (log_grows s k next.0 next.1) ∙ flat_map-append line_text (log_at s k) (step_says s k)
 
   -- the run ends after the step whose telling broke off, or later
   pub ends_after : (broken : ℕ → Type 0) (first probes : List Watch) (h : BrokeOff Stamp s broken first probes)

@@ -1,7 +1,11 @@
 -- A run that has come to its end.
-use Rattle.std.proofs.Common.{ap}
-use Rattle.board_run.specs.Ending.{ending}
+use Rattle.std.proofs.Common.{◌≡◌, List, ap, subst}
+use Rattle.board_probes.specs.Looks.{looks}
+use Rattle.board_probes.specs.Probes.{Watch}
 use Rattle.board_run.specs.BoardOutcomes.{IsOutcome}
+use Rattle.board_run.specs.Ending.{ending}
+use Rattle.board_run.specs.Putting.{HaveLookedAtSome}
+use Rattle.board_run.specs.declared.ended.Ended.{Ended}
 use Rattle.joint_feed.proofs.Going.{here}
 use Rattle.joint_feed.specs.Stories.{Story}
 use Rattle.joint_feed.specs.declared.course.Course.{Course}
@@ -10,16 +14,27 @@ use Rattle.story_run.specs.declared.ending.Ending.TheVariants.{Stamp}
 use Rattle.story_run.specs.Advance.{IsEnding}
 use Rattle.story_run.specs.Running.{logged}
 
--- the machine is what the run comes to
-pub ends : (s : Story) (c : Course) (end : End) → IsEnding Stamp s c end → IsOutcome s (ending s (record { end = end; joint = c.joint }))
-ends s c end h =
+-- whatever is reported of it, the machine is what the run comes to, and the probes have looked at each state
+pub record HasEnded (s : Story) (ended : Ended) (before after : List Watch) : Type 0 where
+  pub run : IsOutcome s (ending s ended)
+  pub looked : after ≡ looks s ended.joint.steps before
+  pub so_far : HaveLookedAtSome s before after
+
+pub has_ended : (s t : Story) → s ≡ t → (c : Course) (end : End) → IsEnding Stamp s c end → (before after : List Watch)
+    → after ≡ looks s c.joint.steps before → HasEnded t (record { end = end; joint = c.joint }) before after
+has_ended s t same c end h before after looked =
     let there = here s c h.run_so_far.on in
-    record {
-      world = h.run_so_far.on.world;
-      goes_on = h.run_so_far.goes_on;
-      reached = there;
-      ends = h.ends;
-      processor = h.run_so_far.on.in_run.mcu;
-      cycles = h.run_so_far.on.in_run.cycle;
-      log = ap logged there;
-    }
+    subst (λ (v : Story). HasEnded v (record { end = end; joint = c.joint }) before after) same
+    (record {
+      run = record {
+        world = h.run_so_far.on.world;
+        goes_on = h.run_so_far.goes_on;
+        reached = there;
+        ends = h.ends;
+        processor = h.run_so_far.on.in_run.mcu;
+        cycles = h.run_so_far.on.in_run.cycle;
+        log = ap logged there;
+      };
+      looked = looked;
+      so_far = record { steps = c.joint.steps; goes_on = h.run_so_far.goes_on; looked = looked };
+    })

@@ -1,5 +1,5 @@
 -- The text of a log whose items have stamps: a line an item.
-use Rattle.std.specs.Prelude.{ℕ, ◌-◌, nat_lt, List, [], ◌∷◌, ◌++◌, if◌then◌else◌}
+use Rattle.std.specs.Prelude.{ℕ, ◌-◌, nat_lt, List, ◌∷◌, flat_map, if◌then◌else◌}
 use Rattle.host_turn.specs.declared.stamped.Stamped.{Stamped}
 use Rattle.pc_tables.specs.Items.{line_of}
 
@@ -9,5 +9,4 @@ abbrev pub line_text : Stamped → List ℕ
 line_text s = if nat_lt s.cycle 4096 then 45 ∷ line_of (4096 - s.cycle) s.item else line_of (s.cycle - 4096) s.item
 
 abbrev pub log_text : List Stamped → List ℕ
-log_text [] = []
-log_text (s ∷ log) = line_text s ++ log_text log
+log_text log = flat_map line_text log

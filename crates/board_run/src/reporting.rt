@@ -6,10 +6,9 @@ ghost use Rattle.board_run.specs.Texts.{log_text};
 ghost use Rattle.io_edge.specs.Said.{IsSaid};
 ghost use Rattle.story_run.specs.Running.{log_at};
 
-use crate::line::put_items;
 use io_edge::{Sink, SinkFault};
 use joint_feed::Course;
-use story_run::Reporter;
+use story_run::{Reporter, put_items};
 
 /// Puts the line of each item as it arises.
 #[derive(Drop)]
@@ -27,6 +26,6 @@ impl<K: Sink> Reporter<K, SinkFault> for ByStamp {
     const WIRES: bool = false;
 
     fn report(&mut self, out: &mut K, course: &Course) -> Result<(), SinkFault> {
-        put_items(out, course.seen.items.as_slice())
+        put_items(out, self, course.seen.items.as_slice())
     }
 }

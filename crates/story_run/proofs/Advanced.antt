@@ -1,6 +1,5 @@
 -- Steps were made one after another, and what the last one took is counted.
-use Rattle.std.proofs.Common.{◌≡◌, ◌≤◌, ◌<◌, ℕ, suc, ◌+◌, List, ◌++◌, length, drop, Some, ap, sym, subst, ◌∙◌, arith}
-use Rattle.std.proofs.Math.Seq.{drop-append_seam}
+use Rattle.std.proofs.Common.{◌≡◌, ◌≤◌, ◌<◌, ℕ, suc, ◌+◌, List, length, Some, ap, sym, subst, ◌∙◌, arith}
 use Rattle.board_probes.specs.Probes.{Watch}
 use Rattle.host_turn.specs.declared.stamped.Stamped.{Stamped}
 use Rattle.joint_feed.proofs.Going.{edges_few as edges_taken, here, host_few as host_taken}
@@ -9,7 +8,6 @@ use Rattle.joint_feed.specs.Course.{IsOnCourse}
 use Rattle.joint_feed.specs.Stories.{Story, state_at}
 use Rattle.joint_feed.specs.declared.ahead.Ahead.{Ahead}
 use Rattle.joint_feed.specs.declared.course.Course.{Course}
-use Rattle.joint_run.specs.Joint.{log_of}
 use Rattle.joint_run.specs.declared.due.Seen.{Seen}
 use Rattle.key_file.specs.Accepted.{IsAccepted}
 use Rattle.key_file.specs.Feeds.{Fed}
@@ -17,10 +15,10 @@ use Rattle.key_file.specs.Histories.{KeyHistory}
 use Rattle.story_run.specs.declared.ending.Halt.{Halt}
 use Rattle.story_run.specs.Advance.{IsAtReport}
 use Rattle.story_run.specs.Gliding.{HasGlided, IsGoing, history_of}
-use Rattle.story_run.specs.Running.{AreIn}
-use Rattle.story_run.proofs.Quietly.{goes_on_to, log_more, next_cycle, next_step, on_with, says}
-use Rattle.story_run.proofs.Said.{Said, all_in_less}
-use Rattle.story_run.proofs.Steps.{step_said}
+use Rattle.story_run.specs.Running.{AreIn, log_at, step_says}
+use Rattle.story_run.proofs.Quietly.{goes_on_to, log_more, next_cycle, next_step, on_with}
+use Rattle.story_run.proofs.Said.{all_in_less}
+use Rattle.story_run.proofs.Steps.{says_after, says_in}
 use Rattle.story_run.proofs.Timekeeping.{soon}
 
 -- what a step took is among the events that were handed in
@@ -89,15 +87,12 @@ module _ (u : Halt) (s : Story) (first : List Watch) (old new : Course) (after :
         let items = new.seen.items.items in
         let first : state_at s last.joint.steps ≡ Some w = here s last going.run_so_far.on in
         let next : state_at s (suc last.joint.steps) ≡ Some v = ap (state_at s) (sym step_now) ∙ there in
-        let said : Said w.cycle v.cycle (log_of w.board) (log_of v.board) = step_said s last.joint.steps w v first next in
-        let both : log_of w.board ++ said.more ≡ log_of w.board ++ items =
-        sym said.afterwards ∙ says u s last new going g.stepped w v first next in
-        let these : said.more ≡ items =
-        sym (drop-append_seam (log_of w.board) said.more)
-        ∙ ap (drop (length (log_of w.board))) both ∙ drop-append_seam (log_of w.board) items in
+        let these : step_says s last.joint.steps ≡ items =
+        says_after s last.joint.steps items
+        (sym (ap (log_at s) step_now) ∙ log_more u s last new going g.stepped v there) in
         let until : AreIn w.cycle new.joint.cycle items =
         subst (λ (n : ℕ). AreIn w.cycle n items) (sym on_now.in_run.cycle)
-        (subst (λ (l : List Stamped). AreIn w.cycle v.cycle l) these said.each) in
+        (subst (λ (l : List Stamped). AreIn w.cycle v.cycle l) these (says_in s last.joint.steps w v first next)) in
         let so_far = g.onward.cycle in
         let from = start.run_so_far.on.in_run.cycle in
         let to = going.run_so_far.on.in_run.cycle in

@@ -10,4 +10,5 @@ pub mod Held
 pub mod Slept
 pub mod Loop
 pub mod Texts
+pub mod Reported
 pub mod Looked

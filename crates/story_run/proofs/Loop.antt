@@ -1,5 +1,5 @@
 -- One turn of a run's loop, and what is so before the first.
-use Rattle.std.proofs.Common.{◌≡◌, ◌<◌, ◌^◌, ℕ, Bool, true, false, List, Some, ap, sym, subst, ◌∙◌, arith}
+use Rattle.std.proofs.Common.{◌≡◌, ◌<◌, ◌^◌, ℕ, Bool, true, false, List, ap, sym, subst, ◌∙◌, arith}
 use Rattle.board_probes.specs.Looks.{looks}
 use Rattle.board_probes.specs.Probes.{Watch}
 use Rattle.joint_feed.proofs.Going.{here, same_state}
@@ -22,6 +22,7 @@ use Rattle.joint_feed.specs.Ahead.{HasTaken}
 use Rattle.joint_feed.specs.Course.{IsOnCourse}
 use Rattle.key_file.specs.Feeds.{Fed}
 use Rattle.story_run.specs.Ready.{IsReady}
+use Rattle.story_run.proofs.Reported.{led_to}
 
 -- a run by its image and its history under other names
 pub same_story : (fill : ℕ) (b bytes : List ℕ) (h k : KeyHistory) → b ≡ bytes → h ≡ k → filled_story fill b h ≡ filled_story fill bytes k
@@ -68,7 +69,7 @@ broke_off e wires s k broken first new after b looked h = record {
   last = b.last;
   goes_on = subst (GoesOnTo e s) b.steps b.run_so_far.goes_on;
   led_to = b.run_so_far.on.world;
-  made = subst (λ (n : ℕ). state_at s n ≡ Some b.run_so_far.on.world) b.steps (here s new b.run_so_far.on);
+  made = led_to e wires s k new b;
   broken_so = h;
   looked = looked ∙ ap (λ (n : ℕ). looks s n first) b.steps;
 }

@@ -91,7 +91,7 @@ module _ (u : Halt) (s : Story) (old new : Course) (g : IsGoing u s old) (t : Is
       let c = t.few in
       (omega (arith, a, b), omega (arith, a, c))
 
-  pub says : IsSaid s old.joint.steps new.seen.items.items
+  says : IsSaid s old.joint.steps new.seen.items.items
   says = is_said s old new.joint new.seen g.run_so_far.on g.accepted.lawful.thin g.accepted.lawful.edges_in_order t.step t.run
 
   -- the run goes on to the next state

@@ -1,5 +1,6 @@
 -- What a joint step says is after what was said before, with the step's cycles.
-use Rattle.std.proofs.Common.{◌≡◌, ◌≤◌, ℕ, zero, suc, ◌+◌, true, false, List, [], ◌∷◌, ◌++◌, Some, None, refl, ap, sym, subst, ◌∙◌, arith}
+use Rattle.std.proofs.Common.{◌≡◌, ◌≤◌, ◌<◌, ℕ, zero, suc, ◌+◌, true, false, List, [], ◌∷◌, ◌++◌, length, get_or, Some, None}
+use Rattle.std.proofs.Common.{refl, ap, sym, subst, ◌∙◌, arith}
 use Rattle.std.specs.Prelude.{if◌then◌else◌, ◌==◌, slice_get}
 use Rattle.std.specs.declared.option.Option.{Option}
 use Rattle.std.proofs.lemmas.List.{append-nil, append_assoc}
@@ -24,13 +25,19 @@ pub record Said (from to : ℕ) (before after : List Stamped) : Type 0 where
   pub afterwards : after ≡ before ++ more
   pub each : AreIn from to more
 
-all_in_more : (a b c : ℕ) (xs : List Stamped) → b ≤ c → AreIn a b xs → AreIn a c xs
+pub all_in_more : (a b c : ℕ) (xs : List Stamped) → b ≤ c → AreIn a b xs → AreIn a c xs
 all_in_more a b c [] l h = h
 all_in_more a b c (x ∷ xs) l h = let k = h.0.1 in ((h.0.0, omega (arith, k, l)), all_in_more a b c xs l h.1)
 
 pub all_in_less : (a b c : ℕ) (xs : List Stamped) → a ≤ b → AreIn b c xs → AreIn a c xs
 all_in_less a b c [] l h = h
 all_in_less a b c (x ∷ xs) l h = let k = h.0.0 in ((omega (arith, k, l), h.0.1), all_in_less a b c xs l h.1)
+
+-- an item among those of some cycles
+pub one_in : (a b : ℕ) (xs : List Stamped) (i : ℕ) (d : Stamped) → AreIn a b xs → i < length xs → (get_or xs i d).cycle < b
+one_in a b [] i d h l = absurd (omega (arith, l))
+one_in a b (x ∷ xs) zero d h l = h.0.1
+one_in a b (x ∷ xs) (suc i) d h l = one_in a b xs i d h.1 (omega (arith, l))
 
 all_in_both : (a b : ℕ) (xs ys : List Stamped) → AreIn a b xs → AreIn a b ys → AreIn a b (xs ++ ys)
 all_in_both a b [] ys h k = k

@@ -1,8 +1,9 @@
 -- The states of a run, one after another.
 use Rattle.std.proofs.Common.{◌≡◌, ◌≤◌, ◌<◌, ℕ, zero, suc, ◌+◌, Bool, true, false, List, []}
-use Rattle.std.proofs.Common.{leb, ltb, Some, None, refl, ap, sym, subst, ◌∙◌, arith}
+use Rattle.std.proofs.Common.{◌++◌, length, drop, leb, ltb, Some, None, refl, ap, sym, subst, ◌∙◌, arith}
 use Rattle.std.proofs.lemmas.Bool.Decides.{nat_tests}
 use Rattle.std.proofs.lemmas.List.{append-nil}
+use Rattle.std.proofs.Math.Seq.{drop-append_seam}
 use Rattle.std.specs.Prelude.{slice_index, ◌%◌}
 use Rattle.std.specs.declared.option.Option.{Option}
 use Rattle.host_turn.specs.declared.stamped.Stamped.{Stamped}
@@ -16,7 +17,7 @@ use Rattle.mcs48_core.specs.declared.levels.Pins.{Pins}
 use Rattle.mcs48_isa.specs.declared.operation.Decoded.{Decoded}
 use Rattle.mcs48_ranges.proofs.Rows.{row_timed}
 use Rattle.story_run.specs.declared.ending.Ending.{Ending}
-use Rattle.story_run.specs.Running.{AreIn, GoesOnTo, is_over}
+use Rattle.story_run.specs.Running.{AreIn, GoesOnTo, is_over, log_at, logged, step_says}
 use Rattle.story_run.proofs.Said.{Said, said_then, step_log}
 
 -- a step takes one cycle or two
@@ -66,7 +67,7 @@ module _ (s : Story) where
       after_later s w v (stepped s.bytes pins w.cpu) (timed s.bytes pins w.cpu) (joined k w v h g)
 
   -- and says what it says in them
-  pub step_said : (k : ℕ) (w v : World Beside)
+  step_said : (k : ℕ) (w v : World Beside)
       → state_at s k ≡ Some w → state_at s (suc k) ≡ Some v → Said w.cycle v.cycle (log_of w.board) (log_of v.board)
   step_said k w v h g = step_log s.edges s.events s.bytes w v (joined k w v h g)
 
@@ -79,6 +80,27 @@ module _ (s : Story) where
   -- before a state is another
   pub before : (k : ℕ) (v : World Beside) → state_at s (suc k) ≡ Some v → (w : World Beside) × (state_at s k ≡ Some w)
   before k v h = before_some k v (state_at s k) refl h
+
+  -- what it says is after what was said before
+  step_adds : (k : ℕ) (w v : World Beside) → state_at s k ≡ Some w → state_at s (suc k) ≡ Some v
+      → (more : List Stamped) × AreIn w.cycle v.cycle more × (log_at s (suc k) ≡ log_at s k ++ more)
+  step_adds k w v h g =
+      let said : Said w.cycle v.cycle (log_of w.board) (log_of v.board) = step_said k w v h g in
+      (said.more, said.each, ap logged g ∙ said.afterwards ∙ ap (λ (o : Option (World Beside)). logged o ++ said.more) (sym h))
+
+  pub says_after : (k : ℕ) (more : List Stamped) → log_at s (suc k) ≡ log_at s k ++ more → step_says s k ≡ more
+  says_after k more h = ap (drop (length (log_at s k))) h ∙ drop-append_seam (log_at s k) more
+
+  pub log_grows : (k : ℕ) (v : World Beside) → state_at s (suc k) ≡ Some v → log_at s (suc k) ≡ log_at s k ++ step_says s k
+  log_grows k v g =
+      let from = before k v g in
+      let adds = step_adds k from.0 v from.1 g in
+      adds.2 ∙ ap (λ (l : List Stamped). log_at s k ++ l) (sym (says_after k adds.0 adds.2))
+
+  pub says_in : (k : ℕ) (w v : World Beside) → state_at s k ≡ Some w → state_at s (suc k) ≡ Some v → AreIn w.cycle v.cycle (step_says s k)
+  says_in k w v h g =
+      let adds = step_adds k w v h g in
+      subst (λ (l : List Stamped). AreIn w.cycle v.cycle l) (sym (says_after k adds.0 adds.2)) adds.1
 
   -- the state after one that is before another
   pub reached_by : (m j : ℕ) (v : World Beside) → state_at s m ≡ Some v → j < m → (w : World Beside) × (state_at s (suc j) ≡ Some w)

@@ -1,9 +1,50 @@
--- Texts to which each step of a run adds: what is put of the first steps is the beginning of what is put of all.
-use Rattle.std.proofs.Common.{◌≡◌, ◌≤◌, ◌<◌, ℕ, zero, suc, ◌+◌, ◌-◌, List, [], ◌++◌, ap, sym, subst, ◌∙◌, arith}
+-- Texts of lines, and texts to which each step of a run adds: what is put of the first steps is the beginning of what is
+-- put of all.
+use Rattle.std.proofs.Common.{◌≡◌, ◌≤◌, ◌<◌, ℕ, zero, suc, ◌+◌, ◌-◌, List, [], ◌∷◌, ◌++◌, length, drop, get_or, drop-cons}
+use Rattle.std.proofs.Common.{inl, inr, refl, ap, sym, subst, ◌∙◌, arith}
+use Rattle.std.specs.Prelude.{flat_map}
 use Rattle.std.proofs.lemmas.List.{append-nil, append_assoc}
-use Rattle.io_edge.proofs.Pieces.{AreLines, broken_before, said_then_broken}
-use Rattle.io_edge.specs.Said.{IsBrokenOff, Shown}
+use Rattle.io_edge.proofs.Pieces.{AreLines, EndsLine, broken_before, lines_after, said_then_broken, said_then_said}
+use Rattle.io_edge.specs.Said.{IsBrokenOff, IsSaid, Shown}
 use Rattle.story_run.specs.Reports.{IsBrokenAfter}
+
+-- a line for each of some things
+module _ {A : Type 0} (line : A → List ℕ) where
+  -- is a text of whole lines
+  pub text_is_lines : ((x : A) → EndsLine (line x)) → (xs : List A) → AreLines (flat_map line xs)
+  text_is_lines ends [] = inl refl
+  text_is_lines ends (x ∷ xs) = lines_after (line x) (flat_map line xs) (inr (ends x)) (text_is_lines ends xs)
+
+  -- the lines from one on
+  pub lines_left : (xs : List A) (i : ℕ) (d : A) → i < length xs
+      → flat_map line (drop i xs) ≡ line (get_or xs i d) ++ flat_map line (drop (i + 1) xs)
+  lines_left xs i d within =
+      let e : suc i ≡ i + 1 = omega arith in
+      ap (flat_map line) (drop-cons xs i d within ∙ ap (λ k. get_or xs i d ∷ drop k xs) e)
+
+-- the text of the first k steps is that of the first `last`, and the step after these makes it that of the first n: it
+-- adds `put`
+pub record IsOneFurther (text added : ℕ → List ℕ) (k last n : ℕ) (put : List ℕ) : Type 0 where
+  pub still : text last ≡ text k
+  pub more : text (suc last) ≡ text last ++ added last
+  pub steps : n ≡ suc last
+  pub lines : AreLines (text last)
+  pub is : put ≡ added last
+
+-- what it adds is said after it, or a put of it broke off
+module _ (text added : ℕ → List ℕ) (k last n : ℕ) (put : List ℕ) (m : IsOneFurther text added k last n put)
+    (first now next : Shown) (so_far : IsSaid first now (text k)) where
+  said_still : IsSaid first now (text last)
+  said_still = subst (λ v. IsSaid first now v) (sym m.still) so_far
+
+  pub said_further : IsSaid now next put → IsSaid first next (text n)
+  said_further said =
+      subst (λ v. IsSaid first next v) (ap (λ v. text last ++ v) m.is ∙ sym m.more ∙ ap text (sym m.steps))
+      (said_then_said first now next (text last) put m.lines said_still said)
+
+  pub broken_further : IsBrokenOff now next put → IsBrokenAfter first next (text last) (added last)
+  broken_further broken =
+      record { between = now; said = said_still; broken = subst (λ v. IsBrokenOff now next v) m.is broken }
 
 -- the text after the first k steps, for each k up to `most`, and what the step after them adds
 module _ (text added : ℕ → List ℕ) (most : ℕ) (more : (k : ℕ) → k < most → text (suc k) ≡ text k ++ added k) where

@@ -1,5 +1,6 @@
 -- What a run has come to that was reported.
 use Rattle.std.proofs.Common.{◌≡◌, ℕ, suc, false, List, [], ◌++◌, refl, ap, sym, subst, ◌∙◌, arith}
+use Rattle.std.proofs.lemmas.List.Concat.{flat_map-append}
 use Rattle.fw_logic.specs.JointRun.{KeepsTimeFrom}
 use Rattle.board_probes.specs.Probes.{Watch}
 use Rattle.io_edge.specs.Said.{IsBrokenOff, IsSaid, Shown}
@@ -24,9 +25,9 @@ use Rattle.subsystem.specs.Progress.{lines_so_far}
 use Rattle.subsystem.specs.Putting.{HaveLookedToBreak, IsLogBrokenOff, step_lines}
 use Rattle.subsystem.specs.LayoutOutcomes.{IsOutcome, Outcome, lines_of}
 use Rattle.subsystem.specs.LogReports.{HasNoted, HasPut}
-use Rattle.subsystem.specs.Texts.{log_text}
+use Rattle.subsystem.specs.Texts.{line_text, log_text}
 use Rattle.subsystem.proofs.Ends.{comes_to, ends, outcome_at, reported_whole}
-use Rattle.subsystem.proofs.Lines.{are_lines, log_text-append}
+use Rattle.subsystem.proofs.Lines.{are_lines}
 use Rattle.subsystem.proofs.Reported.{reported_quiet, reported_step}
 
 -- the run has reached an outcome, whose log a sink has taken and which is counted
@@ -87,7 +88,7 @@ broken_whole s t x y before after b =
     let within = goes_on_within TickStart s k (suc b.last) over b.goes_on in
     let part =
     broken_in_all (λ n. log_text (lines_so_far s n)) (λ n. log_text (step_lines s n)) k
-    (λ n l. ap log_text (reported_step s t n) ∙ log_text-append (lines_so_far s n) (step_lines s n))
+    (λ n l. ap log_text (reported_step s t n) ∙ flat_map-append line_text (lines_so_far s n) (step_lines s n))
     (λ n. are_lines (lines_so_far s n)) b.last (omega (arith, within)) x y b.broken_so in
     record {
       run = outcome_at s k over.world;

@@ -1,31 +1,38 @@
 -- The lines of the log, as starts and items come.
 use Rattle.std.proofs.Common.{◌≡◌, ◌≤◌, ◌<◌, ℕ, suc, ◌+◌, ◌-◌, ◌*◌, List, [], ◌∷◌, ◌++◌, length, map, drop}
-use Rattle.std.proofs.Common.{append_assoc, length-append, get_or, drop-cons, refl, ap, sym, ◌∙◌, arith, inl, inr}
-use Rattle.std.specs.Prelude.{Bool, count_by, cond}
+use Rattle.std.proofs.Common.{length-append, get_or, drop-cons, refl, ap, sym, ◌∙◌, arith}
+use Rattle.std.specs.Prelude.{Bool, count_by, cond, flat_map}
 use Rattle.std.specs.Fmt.{decimal}
 use Rattle.std.proofs.lemmas.List.{length-map}
 use Rattle.std.proofs.lemmas.List.Sums.{sum_by-append}
 use Rattle.board_terms.specs.Cadence.{begun, listed}
 use Rattle.host_turn.specs.declared.stamped.Stamped.{Stamped}
-use Rattle.io_edge.proofs.Pieces.{AreLines, EndsLine, lines_after}
+use Rattle.io_edge.proofs.Pieces.{AreLines, EndsLine}
 use Rattle.link_model.specs.declared.line.LogLine.{LogLine}
 use Rattle.pc_tables.specs.Items.{text_of}
 use Rattle.subsystem.specs.Account.{in_tick}
 use Rattle.subsystem.specs.Counts.{is_beep, is_port, is_word, with_lines}
 use Rattle.subsystem.specs.Progress.{line_so_far}
 use Rattle.story_run.specs.Running.{AreIn}
+use Rattle.story_run.proofs.Texts.{text_is_lines}
 use Rattle.subsystem.specs.LayoutOutcomes.{line_of, lines_of}
 use Rattle.subsystem.specs.Texts.{line_text, log_text}
 use Rattle.subsystem.specs.declared.counts.Counts.{Counts}
 use Rattle.subsystem.proofs.Ticks.{all_begun, begun_later, one_longer}
 
--- the text of the log is of whole lines
+-- a line ends with LF
 pub line_ends : (line : LogLine) → EndsLine (line_text line)
 line_ends line = (decimal line.tick ++ 32 ∷ text_of line.item, refl)
 
+-- the text of the log is of whole lines
 pub are_lines : (lines : List LogLine) → AreLines (log_text lines)
-are_lines [] = inl refl
-are_lines (line ∷ lines) = lines_after (line_text line) (log_text lines) (inr (line_ends line)) (are_lines lines)
+are_lines lines = text_is_lines line_text line_ends lines
+
+-- the lines of items in a tick
+pub lines_in_tick : (tick : ℕ) (items : List Stamped)
+    → flat_map (λ s. line_text (in_tick tick s)) items ≡ log_text (map (in_tick tick) items)
+lines_in_tick tick [] = refl
+lines_in_tick tick (s ∷ items) = ap (λ v. line_text (in_tick tick s) ++ v) (lines_in_tick tick items)
 
 -- a later start changes no line
 line_later : (starts : List ℕ) (next : ℕ) (s : Stamped) → s.cycle < 4096 + next → line_so_far (starts ++ next ∷ []) s ≡ line_so_far starts s
@@ -74,12 +81,6 @@ pub lines_left : (tick : ℕ) (items : List Stamped) (i : ℕ) (d : Stamped) →
 lines_left tick items i d within =
     let e : suc i ≡ i + 1 = omega arith in
     ap (map (in_tick tick)) (drop-cons items i d within ∙ ap (λ k. get_or items i d ∷ drop k items) e)
-
--- the text of more lines
-pub log_text-append : (xs ys : List LogLine) → log_text (xs ++ ys) ≡ log_text xs ++ log_text ys
-log_text-append [] ys = refl
-log_text-append (x ∷ xs) ys =
-    ap (λ v. line_text x ++ v) (log_text-append xs ys) ∙ sym (append_assoc (line_text x) (log_text xs) (log_text ys))
 
 count-append : (p : LogLine → Bool) (xs ys : List LogLine) → count_by p (xs ++ ys) ≡ count_by p xs + count_by p ys
 count-append p xs ys = sum_by-append (λ x. cond (p x) 1 0) xs ys

@@ -1,12 +1,10 @@
 -- What is reported after one stretch of steps.
 use Rattle.std.proofs.Common.{◌≡◌, ◌<◌, ◌^◌, ℕ, suc, ◌+◌, ◌-◌, ◌/◌, true, false, List, [], ◌∷◌, ◌++◌}
-use Rattle.std.proofs.Common.{length, map, drop, Some, ap, sym, subst, ◌∙◌, arith}
+use Rattle.std.proofs.Common.{length, map, Some, ap, sym, subst, ◌∙◌, arith}
 use Rattle.std.specs.Prelude.{if◌then◌else◌}
 use Rattle.std.proofs.lemmas.List.{append-nil, map-append}
-use Rattle.std.proofs.Math.Seq.{drop-append_seam}
 use Rattle.std.specs.declared.option.Option.{Option}
 use Rattle.fw_logic.specs.JointRun.{KeepsTimeFrom}
-use Rattle.host_turn.specs.declared.stamped.Stamped.{Stamped}
 use Rattle.joint_feed.proofs.Going.{here}
 use Rattle.joint_feed.specs.Stories.{Story, starts_tick, state_at}
 use Rattle.joint_feed.specs.declared.course.Course.{Course}
@@ -19,8 +17,8 @@ use Rattle.story_run.specs.Advance.{IsAtReport}
 use Rattle.story_run.specs.Running.{log_at, logged, step_says}
 use Rattle.story_run.specs.Starts.{start_stamp, starts_among}
 use Rattle.story_run.specs.Gliding.{IsSilent}
-use Rattle.story_run.proofs.Said.{Said}
-use Rattle.story_run.proofs.Steps.{said_by, step_said}
+use Rattle.story_run.proofs.Reported.{says_seen}
+use Rattle.story_run.proofs.Steps.{log_grows, said_by, says_in}
 use Rattle.subsystem.specs.Account.{in_tick}
 use Rattle.subsystem.specs.Progress.{line_so_far, lines_to, lines_so_far}
 use Rattle.subsystem.specs.LogReports.{HasNoted}
@@ -67,19 +65,13 @@ pub reported_step : (s : Story) → KeepsTimeFrom (joint_start_of s.held) s.byte
 reported_step s t k =
     let from = t.goes_on k in
     let to = t.goes_on (suc k) in
-    let w = from.0 in
-    let v = to.0 in
     let starts = starts_among s (suc k) in
-    let line = map (line_so_far starts) in
-    let said : Said w.cycle v.cycle (log_of w.board) (log_of v.board) = step_said s k w v from.1 to.1 in
-    let log : log_at s (suc k) ≡ log_at s k ++ said.more =
-    ap logged to.1 ∙ said.afterwards ∙ ap (λ (o : Option (World Beside)). logged o ++ said.more) (sym from.1) in
-    let says : step_says s k ≡ said.more = ap (drop (length (log_at s k))) log ∙ drop-append_seam (log_at s k) said.more in
-    ap line log
-    ∙ map-append (line_so_far starts) (log_at s k) said.more
-    ∙ ap (λ l. l ++ line said.more) (all_reported s t k w from.1)
-    ∙ ap (λ l. lines_so_far s k ++ l) (sym (lines_now starts w.cycle v.cycle said.more (begun_among s t k w from.1) said.each))
-    ∙ ap (λ l. lines_so_far s k ++ map (in_tick (length starts - 1)) l) (sym says)
+    let says = step_says s k in
+    ap (map (line_so_far starts)) (log_grows s k to.0 to.1)
+    ∙ map-append (line_so_far starts) (log_at s k) says
+    ∙ ap (λ l. l ++ map (line_so_far starts) says) (all_reported s t k from.0 from.1)
+    ∙ ap (λ l. lines_so_far s k ++ l)
+    (sym (lines_now starts from.0.cycle to.0.cycle says (begun_among s t k from.0 from.1) (says_in s k from.0 to.0 from.1 to.1)))
 
 -- the lines of what a step says, in the tick of the last of these starts
 abbrev pub lines_of_step : Course → List ℕ → List LogLine
@@ -90,17 +82,21 @@ pub record IsOneMore (s : Story) (k : ℕ) (c : Course) (last : ℕ) (world : Wo
   pub few : length starts < 2 ^ 32
   pub room : length starts < s.stop / 2048 + 2
   pub later : k < c.joint.steps
-  pub lines : lines_so_far s c.joint.steps ≡ lines_so_far s k ++ lines_of_step c starts
+  pub steps : c.joint.steps ≡ suc last
+  pub still : lines_so_far s last ≡ lines_so_far s k
+  pub step : lines_so_far s (suc last) ≡ lines_so_far s last ++ step_lines s last
   pub says : lines_of_step c starts ≡ step_lines s last
-  pub still : lines_so_far s k ≡ lines_so_far s last
   pub more : starts ++ start_stamp s (Some world) ≡ starts_among s (suc c.joint.steps)
+
+-- so many lines more are reported
+pub lines_more : (s : Story) (k : ℕ) (c : Course) (last : ℕ) (world : World Beside) (starts : List ℕ) → IsOneMore s k c last world starts
+    → lines_so_far s c.joint.steps ≡ lines_so_far s k ++ lines_of_step c starts
+lines_more s k c last world starts m =
+    ap (lines_so_far s) m.steps ∙ m.step ∙ ap (λ v. v ++ step_lines s last) m.still ∙ ap (λ v. lines_so_far s k ++ v) (sym m.says)
 
 module _ (s : Story) (k : ℕ) (c : Course) (b : IsAtReport TickStart false s k c) where
   abbrev starts : List ℕ
   starts = starts_among s (suc k)
-
-  abbrev items : List Stamped
-  items = c.seen.items.items
 
   -- no tick started since
   same : starts_among s c.joint.steps ≡ starts
@@ -115,22 +111,15 @@ module _ (s : Story) (k : ℕ) (c : Course) (b : IsAtReport TickStart false s k 
       let near = b.near in
       let all = few_before s b.timely c.joint.steps b.run_so_far.goes_on in
       let length_same : length (starts_among s c.joint.steps) ≡ length starts = ap length same in
-      let line = map (line_so_far starts) in
-      let says : step_says s b.last ≡ items =
-      ap (drop (length (log_at s b.last))) (sym (ap (log_at s) b.steps) ∙ b.said) ∙ drop-append_seam (log_at s b.last) items in
       record {
         few = omega (arith, few, most, near, silent, number);
         room = omega (arith, all, length_same);
         later = omega (arith, silent, number);
-        lines = ap (λ (v : List ℕ). lines_to s v c.joint.steps) same
-            ∙ ap line (b.said ∙ ap (λ (l : List Stamped). l ++ items) b.quiet.log)
-            ∙ map-append (line_so_far starts) (log_at s k) items
-            ∙ ap (λ v. v ++ line items) (all_reported s b.timely k b.from b.there)
-            ∙ ap (λ v. lines_so_far s k ++ v)
-            (sym (lines_now starts b.from.cycle c.joint.cycle items (begun_among s b.timely k b.from b.there) b.items));
-        says = ap (map (in_tick (length starts - 1))) (sym says)
+        steps = number;
+        still = sym (reported_quiet s b.timely k b.last b.quiet);
+        step = reported_step s b.timely b.last;
+        says = ap (map (in_tick (length starts - 1))) (sym (says_seen TickStart false s k c b))
             ∙ ap (λ (v : List ℕ). map (in_tick (length v - 1)) (step_says s b.last)) (sym b.quiet.starts);
-        still = reported_quiet s b.timely k b.last b.quiet;
         more = ap (λ (v : List ℕ). v ++ start_stamp s (Some b.run_so_far.on.world)) (sym same)
             ∙ ap (λ (o : Option (World Beside)). starts_among s c.joint.steps ++ start_stamp s o) (sym (here s c b.run_so_far.on));
       }

@@ -1,11 +1,10 @@
 -- What is reported of one step more, by whoever reports it.
 use Rattle.std.proofs.Common.{◌≡◌, ◌≤◌, ℕ, ◌-◌, Bool, true, false, List, [], ◌∷◌, ◌++◌, length, map}
-use Rattle.std.proofs.Common.{vec_capacity, Some, append_assoc, ap, sym, subst, ◌∙◌, arith}
-use Rattle.std.specs.Prelude.{if◌then◌else◌}
+use Rattle.std.proofs.Common.{vec_capacity, Some, append_assoc, ap, sym, ◌∙◌, arith}
+use Rattle.std.specs.Prelude.{flat_map, if◌then◌else◌}
 use Rattle.std.proofs.lemmas.List.{append-nil}
+use Rattle.std.proofs.lemmas.List.Concat.{flat_map-append}
 use Rattle.host_turn.specs.declared.stamped.Stamped.{Stamped}
-use Rattle.io_edge.proofs.Pieces.{said_then_said}
-use Rattle.io_edge.specs.Said.{IsBrokenOff, IsSaid, Shown}
 use Rattle.joint_feed.specs.Stories.{Story, starts_tick}
 use Rattle.joint_feed.specs.declared.course.Course.{Course}
 use Rattle.joint_run.specs.Joint.{Beside}
@@ -16,13 +15,14 @@ use Rattle.story_run.specs.Starts.{start_stamp}
 use Rattle.subsystem.specs.Account.{in_tick}
 use Rattle.subsystem.specs.Counts.{none_counted, with_lines}
 use Rattle.subsystem.specs.Progress.{lines_so_far}
-use Rattle.subsystem.specs.Putting.{IsLogBrokenAt}
+use Rattle.subsystem.specs.Putting.{step_lines}
 use Rattle.subsystem.specs.LogReports.{HasNoted, HasPut}
-use Rattle.subsystem.specs.Texts.{log_text}
+use Rattle.subsystem.specs.Texts.{line_text, log_text}
 use Rattle.subsystem.specs.declared.starts.Starts.{Starts}
 use Rattle.subsystem.specs.declared.reporting.Putting.{Putting}
-use Rattle.subsystem.proofs.Lines.{are_lines, log_text-append, short_more, with_lines-append}
-use Rattle.subsystem.proofs.Reported.{IsOneMore, lines_of_step}
+use Rattle.story_run.proofs.Texts.{IsOneFurther}
+use Rattle.subsystem.proofs.Lines.{are_lines, lines_in_tick, short_more, with_lines-append}
+use Rattle.subsystem.proofs.Reported.{IsOneMore, lines_more, lines_of_step}
 
 -- a state at which no tick starts adds no stamp, and one at which a tick starts its own
 pub none_noted : (s : Story) (w : World Beside) (b : Bool) (xs : List ℕ)
@@ -49,25 +49,20 @@ module _ (e : Ending) (s : Story) (k : ℕ) (c : Course) (last : ℕ) (world : W
       → after ≡ before ++ lines_of_step c it.stamps.items → after ≡ first ++ lines_so_far s c.joint.steps
   kept_on first before after kept is =
       is ∙ ap (λ v. v ++ lines_of_step c it.stamps.items) kept
-      ∙ append_assoc first (lines_so_far s k) (lines_of_step c it.stamps.items) ∙ ap (λ v. first ++ v) (sym m.lines)
+      ∙ append_assoc first (lines_so_far s k) (lines_of_step c it.stamps.items)
+      ∙ ap (λ v. first ++ v) (sym (lines_more s k c last world it.stamps.items m))
 
-  module _ (first now next : Shown) (said : IsSaid first now (log_text (lines_so_far s k))) where
-    -- or said
-    pub said_on : IsSaid now next (log_text (lines_of_step c it.stamps.items)) → IsSaid first next (log_text (lines_so_far s c.joint.steps))
-    said_on put =
-        let old = lines_so_far s k in
-        let new = lines_of_step c it.stamps.items in
-        subst (λ (l : List LogLine). IsSaid first next (log_text l)) (sym m.lines)
-        (subst (λ t. IsSaid first next t) (sym (log_text-append old new))
-        (said_then_said first now next (log_text old) (log_text new) (are_lines old) said put))
-
-    -- or a put of them broke off
-    pub broken_on : IsBrokenOff now next (log_text (lines_of_step c it.stamps.items)) → IsLogBrokenAt s first next last
-    broken_on broken = record {
-      between = now;
-      said = subst (λ (l : List LogLine). IsSaid first now (log_text l)) m.still said;
-      broken = subst (λ (l : List LogLine). IsBrokenOff now next (log_text l)) m.says broken;
-    }
+  -- or put
+  pub text_further : (tick : ℕ) (items : List Stamped) → tick ≡ length it.stamps.items - 1 → items ≡ c.seen.items.items
+      → IsOneFurther (λ n. log_text (lines_so_far s n)) (λ n. log_text (step_lines s n)) k last c.joint.steps
+      (flat_map (λ i. line_text (in_tick tick i)) items)
+  text_further tick items in_last seen = record {
+    still = ap log_text m.still;
+    more = ap log_text m.step ∙ flat_map-append line_text (lines_so_far s last) (step_lines s last);
+    steps = m.steps;
+    lines = are_lines (lines_so_far s last);
+    is = lines_in_tick tick items ∙ ap log_text (lines_by c it.stamps.items tick items in_last seen ∙ m.says);
+  }
 
 -- they are counted, and there is room for the starts
 pub put_on : (e : Ending) (s : Story) (k : ℕ) (c : Course) (last : ℕ) (world : World Beside) (it next : Putting) → HasPut e s k it
@@ -79,11 +74,12 @@ pub put_on : (e : Ending) (s : Story) (k : ℕ) (c : Course) (last : ℕ) (world
 put_on e s k c last world it next put m more room counts few =
     let old = put.room in
     let new = lines_of_step c it.starts.stamps.items in
+    let all = lines_more s k c last world it.starts.stamps.items m in
     record {
       noted = noted_on e s k c last world it.starts put.noted m next.starts more;
       room = omega (arith, old, room);
       counts = counts ∙ ap (λ v. with_lines v new) put.counts ∙ with_lines-append none_counted (lines_so_far s k) new
-          ∙ ap (with_lines none_counted) (sym m.lines);
+          ∙ ap (with_lines none_counted) (sym all);
       short = short_more (lines_so_far s k) (lines_so_far s c.joint.steps) (in_tick (length it.starts.stamps.items - 1))
-          c.seen.items.items k c.joint.steps m.lines put.short few m.later;
+          c.seen.items.items k c.joint.steps all put.short few m.later;
     }

@@ -1,5 +1,5 @@
 -- The log's text: a line an item.
-use Rattle.std.specs.Prelude.{ℕ, List, [], ◌∷◌, ◌++◌}
+use Rattle.std.specs.Prelude.{ℕ, List, flat_map}
 use Rattle.pc_tables.specs.Items.{line_of}
 use Rattle.link_model.specs.declared.line.LogLine.{LogLine}
 
@@ -8,5 +8,4 @@ abbrev pub line_text : LogLine → List ℕ
 line_text line = line_of line.tick line.item
 
 abbrev pub log_text : List LogLine → List ℕ
-log_text [] = []
-log_text (line ∷ lines) = line_text line ++ log_text lines
+log_text lines = flat_map line_text lines

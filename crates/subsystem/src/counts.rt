@@ -1,8 +1,10 @@
 //! Counts of what a run says.
 
-ghost use Rattle.std.specs.Prelude.{◌≡◌, ◌<◌, ◌^◌, ◌∷◌, []};
+ghost use Rattle.std.specs.Prelude.{◌≡◌, ◌<◌, ◌≤◌, ◌^◌, ◌∷◌, [], length, map};
+ghost use Rattle.subsystem.specs.Account.{in_tick};
 ghost use Rattle.subsystem.specs.Counts.{none_counted, with_lines};
 
+use host_turn::Stamped;
 use link_model::LogLine;
 use pc_tables::Item;
 
@@ -39,6 +41,25 @@ impl Counts {
             Item::Word(_) => counts.words += 1,
             Item::Beep => counts.beeps += 1,
             _ => {}
+        }
+        counts
+    }
+
+    /// The counts with the lines of more items, in this tick.
+    pub(crate) fn with_items(self, tick: u32, items: &[Stamped]) -> Counts
+        requires ports { self.ports < 2 ^ 40 }
+        requires words { self.words < 2 ^ 40 }
+        requires beeps { self.beeps < 2 ^ 40 }
+        requires few { length items.now ≤ 16 }
+        ensures { result ≡ with_lines self (map (in_tick tick) items.now) }
+    {
+        let mut counts = self;
+        for stamped in items {
+            let line = LogLine {
+                tick,
+                item: stamped.item,
+            };
+            counts = counts.with(line);
         }
         counts
     }

@@ -9,13 +9,13 @@ ghost use Rattle.subsystem.specs.Texts.{log_text};
 
 use crate::account::push_lines;
 use crate::counts::Counts;
-use crate::putting::put_items;
+use crate::putting::InTick;
 use crate::starts::Starts;
 use io_edge::{Sink, SinkFault};
 use joint_feed::Course;
 use link_model::LogLine;
 use std::alloc::AllocError;
-use story_run::Reporter;
+use story_run::{Reporter, put_items};
 
 /// Keeps the lines in a list.
 #[derive(Drop)]
@@ -58,7 +58,9 @@ impl<K: Sink> Reporter<K, SinkFault> for Putting {
 
     fn report(&mut self, out: &mut K, course: &Course) -> Result<(), SinkFault> {
         let tick = self.starts.tick();
-        put_items(out, &mut self.counts, tick, course.seen.items.as_slice())?;
+        let items = course.seen.items.as_slice();
+        put_items(out, &InTick { tick }, items)?;
+        self.counts = self.counts.with_items(tick, items);
         self.starts.note_within(&course.joint);
         Ok(())
     }

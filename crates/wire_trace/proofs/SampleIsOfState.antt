@@ -7,20 +7,19 @@ use Rattle.board_probes.proofs.Sights.{same_sight}
 use Rattle.board_probes.specs.Probes.{Sight}
 use Rattle.board_probes.specs.Transfers.{Ear, heard, is_later_than, sample, wires_at}
 use Rattle.board_probes.specs.declared.heard.Sample.{Sample}
-use Rattle.io_edge.specs.Said.{IsBrokenOff, IsSaid, Shown}
 use Rattle.joint_feed.proofs.Going.{here}
 use Rattle.joint_feed.specs.Stories.{Story, state_at}
 use Rattle.joint_feed.specs.declared.course.Course.{Course}
 use Rattle.joint_run.specs.Cycle.{outside_wires}
 use Rattle.joint_run.specs.Joint.{Beside}
 use Rattle.joint_run.specs.Run.{World}
-use Rattle.io_edge.proofs.Pieces.{said_then_said}
 use Rattle.story_run.specs.declared.ending.Ending.{Ending}
 use Rattle.story_run.specs.Advance.{IsAtReport}
 use Rattle.story_run.specs.Gliding.{lines_in}
+use Rattle.story_run.proofs.Reported.{led_to}
+use Rattle.story_run.proofs.Texts.{IsOneFurther}
 use Rattle.wire_trace.proofs.OfLines.{changes_are_lines}
 use Rattle.wire_trace.proofs.StillAddsNothing.{HearAlike, alike_heard, alike_text, still_to}
-use Rattle.wire_trace.specs.Ending.{AreChangesBrokenAt}
 use Rattle.wire_trace.specs.HeardSoFar.{HasHeard}
 use Rattle.wire_trace.specs.Text.{sample_text}
 use Rattle.wire_trace.specs.Trace.{changes_to, text_in}
@@ -47,7 +46,7 @@ module _ (e : Ending) (s : Story) (k : ℕ) (c : Course) (b : IsAtReport e true 
   w = b.run_so_far.on.world
 
   there : state_at s (suc b.last) ≡ Some w
-  there = subst (λ (n : ℕ). state_at s n ≡ Some w) b.steps (here s c b.run_so_far.on)
+  there = led_to e true s k c b
 
   -- the wires kept their levels up to the step before
   still : HearAlike (heard_to s b.last) (heard_to s k) × (changes_to s b.last ≡ changes_to s k)
@@ -83,16 +82,7 @@ module _ (e : Ending) (s : Story) (k : ℕ) (c : Course) (b : IsAtReport e true 
         ∙ sym (alike_text (sample_in w) (heard_to s b.last) (heard_to s k) still.0)
         ∙ sym (ap (λ (o : Option (World Beside)). text_in o (heard_to s b.last)) there)
 
-    module _ (first between after : Shown) (said : IsSaid first between (changes_to s k)) where
-      said_still : IsSaid first between (changes_to s b.last)
-      said_still = subst (λ v. IsSaid first between v) (sym still.1) said
-
-      pub said_now : IsSaid between after (sample_text (sample cycle lines) old) → IsSaid first after (changes_to s c.joint.steps)
-      said_now added =
-          subst (λ v. IsSaid first after v) (sym (ap (changes_to s) b.steps))
-          (said_then_said first between after (changes_to s b.last) (text_in (state_at s (suc b.last)) (heard_to s b.last))
-          (changes_are_lines s b.last) said_still
-          (subst (λ v. IsSaid between after v) text_now added))
-
-      pub broken_now : IsBrokenOff between after (sample_text (sample cycle lines) old) → AreChangesBrokenAt s first after b.last
-      broken_now added = record { between = between; said = said_still; broken = subst (λ v. IsBrokenOff between after v) text_now added }
+    -- which is after what the first k steps add
+    pub text_further : IsOneFurther (changes_to s) (λ j. text_in (state_at s (suc j)) (heard_to s j)) k b.last c.joint.steps
+        (sample_text (sample cycle lines) old)
+    text_further = record { still = still.1; more = refl; steps = b.steps; lines = changes_are_lines s b.last; is = text_now }

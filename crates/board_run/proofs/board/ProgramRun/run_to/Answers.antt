@@ -1,18 +1,16 @@
-use Rattle.std.proofs.Common.{refl, subst}
+use Rattle.std.proofs.Common.{subst}
 use Rattle.io_edge.proofs.Pieces.{none_said}
 use Rattle.io_edge.proofs.Taken.{on_err}
 use Rattle.io_edge.specs.Said.{IsSaid}
 use Rattle.joint_feed.specs.Filled.{run_of}
 use Rattle.joint_feed.specs.Stories.{Story}
-use Rattle.board_run.specs.Ending.{ending}
 use Rattle.board_run.specs.Putting.{IsLogBrokenAt, IsLogBrokenOff}
-use Rattle.board_run.specs.BoardOutcomes.{IsOutcome}
 use Rattle.board_run.specs.Texts.{log_text}
 use Rattle.story_run.specs.declared.ending.Ending.TheVariants.{Stamp}
 use Rattle.story_run.specs.Running.{log_at}
-use Rattle.story_run.proofs.Looked.{broke_by, looked_by, some_looked, some_looked_to_break}
+use Rattle.story_run.proofs.Looked.{broke_by, some_looked_to_break}
 use Rattle.board_run.proofs.BrokenOff.{log_broken_off}
-use Rattle.board_run.proofs.Ends.{ends}
+use Rattle.board_run.proofs.Ends.{has_ended}
 use Rattle.board_run.proofs.ReportedByStamp.{said_to}
 use Rattle.board_run.proofs.board.ProgramRun.run_to.Goals as goal
 
@@ -25,15 +23,15 @@ returns g c =
     let x = g.K.Sink.shown c.args.out.now in
     let y = g.K.Sink.shown c.make_run.new.out in
     let new = c.make_run.new.course in
-    let k = new.joint.steps in
     let r = c.in_ok-end.ensures in
+    let ended = has_ended _ _ c.self.view_is new c.in_ok-end.end r.ended _ _ r.looked in
     record {
-      run = subst (λ (t : Story). IsOutcome t (ending t (record { end = c.in_ok-end.end; joint = new.joint }))) c.self.view_is
-          (ends s new c.in_ok-end.end r.ended);
-      said = subst (λ (t : Story). IsSaid x y (log_text (log_at t k))) c.self.view_is (said_to Stamp s k x y r.reported);
+      run = ended.run;
+      said = subst (λ (t : Story). IsSaid x y (log_text (log_at t new.joint.steps))) c.self.view_is
+          (said_to Stamp s new.joint.steps x y r.reported);
       broken = tt;
-      looked = looked_by _ _ c.self.view_is _ _ k k refl r.looked;
-      looked_so_far = some_looked _ _ c.self.view_is _ _ Stamp k r.ended.run_so_far.goes_on r.looked;
+      looked = ended.looked;
+      looked_so_far = ended.so_far;
       looked_to_break = tt;
     }
 

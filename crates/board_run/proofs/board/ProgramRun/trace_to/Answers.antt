@@ -4,12 +4,10 @@ use Rattle.io_edge.proofs.Taken.{on_err}
 use Rattle.io_edge.specs.Said.{IsSaid}
 use Rattle.joint_feed.specs.Filled.{run_of}
 use Rattle.joint_feed.specs.Stories.{Story}
-use Rattle.board_run.specs.Ending.{ending}
-use Rattle.board_run.specs.BoardOutcomes.{IsOutcome}
 use Rattle.board_run.specs.Tracing.{IsTraceBrokenOff}
 use Rattle.story_run.specs.declared.ending.Ending.TheVariants.{Stamp}
-use Rattle.story_run.proofs.Looked.{looked_by, some_looked, some_looked_to_break}
-use Rattle.board_run.proofs.Ends.{ends}
+use Rattle.story_run.proofs.Looked.{some_looked_to_break}
+use Rattle.board_run.proofs.Ends.{has_ended}
 use Rattle.board_run.proofs.Traced.{broke_after_header, header_broken_off, trace_broken_off}
 use Rattle.board_run.proofs.board.ProgramRun.trace_to.Goals as goal
 use Rattle.wire_trace.proofs.OfLines.{header_is_lines}
@@ -52,15 +50,15 @@ returns g c =
     let new = c.make_run.new.course in
     let k = new.joint.steps in
     let r = c.in_ok-end.ensures in
+    let ended = has_ended _ _ c.self.view_is new c.in_ok-end.end r.ended _ _ r.looked in
     record {
-      run = subst (λ (t : Story). IsOutcome t (ending t (record { end = c.in_ok-end.end; joint = new.joint }))) c.self.view_is
-          (ends s new c.in_ok-end.end r.ended);
+      run = ended.run;
       said = subst (λ (t : Story). IsSaid x z (trace_to t k)) c.self.view_is
           (said_then_said x y z header (changes_to s k) header_is_lines c.in_ok-put_header.ensures.said
           (reported_all Stamp s c.make_run.new.reporter.decoder y z k r.reported));
       broken = tt;
-      looked = looked_by _ _ c.self.view_is _ _ k k refl r.looked;
-      looked_so_far = some_looked _ _ c.self.view_is _ _ Stamp k r.ended.run_so_far.goes_on r.looked;
+      looked = ended.looked;
+      looked_so_far = ended.so_far;
       looked_to_break = tt;
     }
 

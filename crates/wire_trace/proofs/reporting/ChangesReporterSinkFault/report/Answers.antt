@@ -1,5 +1,6 @@
 use Rattle.std.proofs.lemmas.Result.{on_err_weaker, on_ok_weaker}
-use Rattle.wire_trace.proofs.SampleIsOfState.{broken_now, heard_now, rises_now, said_now}
+use Rattle.story_run.proofs.Texts.{broken_further, said_further}
+use Rattle.wire_trace.proofs.SampleIsOfState.{heard_now, rises_now, text_further}
 use Rattle.wire_trace.proofs.reporting.ChangesReporterSinkFault.report.Goals as goal
 
 pub put_sample-requires : goal.put_sample-requires
@@ -18,7 +19,8 @@ returns-clause-reported g c = λ e s first k b h.
     on_ok_weaker c.put_sample.result (λ said. (
       heard_now e s k it b old h.0 cycle lines c.cycle-cycle.ensures.cycle c.lines-lines.ensures.wires
           c.put_sample.new.decoder c.put_sample.ensures.heard,
-      said_now e s k it b old h.0 cycle lines c.cycle-cycle.ensures.cycle c.lines-lines.ensures.wires
+      said_further _ _ _ _ _ _
+          (text_further e s k it b old h.0 cycle lines c.cycle-cycle.ensures.cycle c.lines-lines.ensures.wires)
           (g.K.Sink.shown first)
           (g.K.Sink.shown c.args.out.now)
           (g.K.Sink.shown c.put_sample.new.out)
@@ -27,10 +29,10 @@ returns-clause-reported g c = λ e s first k b h.
 
 pub returns-clause-broken : goal.returns-clause-broken
 returns-clause-broken g c = λ e s first k b h.
-    let old = c.args.self.now.decoder in
     on_err_weaker c.put_sample.result
-    (broken_now e s k c.args.course.now b old h.0 c.cycle-cycle.result c.lines-lines.result
-    c.cycle-cycle.ensures.cycle c.lines-lines.ensures.wires
+    (broken_further _ _ _ _ _ _
+    (text_further e s k c.args.course.now b c.args.self.now.decoder h.0 c.cycle-cycle.result c.lines-lines.result
+    c.cycle-cycle.ensures.cycle c.lines-lines.ensures.wires)
     (g.K.Sink.shown first)
     (g.K.Sink.shown c.args.out.now)
     (g.K.Sink.shown c.put_sample.new.out) h.1)
