@@ -1,11 +1,10 @@
 -- Lines of tick starts that are said one after another, and what is said of a run after its log.
 use Rattle.std.proofs.Common.{◌≡◌, ◌<◌, ℕ, suc, ◌+◌, Bool, true, false, List, [], ◌∷◌, ◌++◌, length}
-use Rattle.std.proofs.Common.{drop, get_or, refl, ap, sym, subst, ◌∙◌, inl, inr, arith}
-use Rattle.std.specs.Prelude.{codes, decimal, if◌then◌else◌, Ok, Err, OnErr, OnOk}
-use Rattle.std.specs.declared.result.Result.{Result}
-use Rattle.std.proofs.lemmas.List.{append_assoc, drop_more}
+use Rattle.std.proofs.Common.{drop, get_or, refl, ap, sym, ◌∙◌, inl, inr, arith}
+use Rattle.std.specs.Prelude.{codes, decimal, if◌then◌else◌}
+use Rattle.std.proofs.lemmas.List.{drop_more}
 use Rattle.io_edge.specs.Said.{IsBrokenOff, IsSaid, Shown}
-use Rattle.io_edge.proofs.Pieces.{AreLines, EndsLine, broken_before, ends_afterwards, lines_after, none_said, said_then_broken, said_then_said}
+use Rattle.io_edge.proofs.Pieces.{AreLines, EndsLine, broken_before, ends_afterwards, lines_after, said_then_broken, said_then_said}
 use Rattle.mcs48_core.specs.StateText.{state_text_of}
 use Rattle.story_run.specs.Reports.{IsBrokenAfter}
 use Rattle.subsystem.specs.LayoutOutcomes.{Outcome}
@@ -13,7 +12,7 @@ use Rattle.subsystem.specs.Texts.{log_text}
 use Rattle.subsystem.proofs.Lines.{are_lines}
 use Rattle.app_runs.specs.RunTexts.{text_after_log, run_text, start_line, start_lines}
 
-ends : (number stamp : ℕ) → EndsLine (start_line number stamp)
+pub ends : (number stamp : ℕ) → EndsLine (start_line number stamp)
 ends number stamp = ends_afterwards (codes "start " ++ decimal number ++ codes " " ++ decimal stamp) (codes "\n") ([], refl)
 
 are_starts : (number : ℕ) (stamps : List ℕ) → AreLines (start_lines number stamps)
@@ -21,47 +20,14 @@ are_starts number [] = inl refl
 are_starts number (stamp ∷ stamps) =
     lines_after (start_line number stamp) (start_lines (suc number) stamps) (inr (ends number stamp)) (are_starts (suc number) stamps)
 
--- lines of a text were said, and the rest of it is left
-pub record IsSaidTo (x y : Shown) (text rest : List ℕ) : Type 0 where
-  pub front : List ℕ
-  pub lines : AreLines front
-  pub said : IsSaid x y front
-  pub whole : front ++ rest ≡ text
-
-pub none_yet : (x : Shown) (text : List ℕ) → IsSaidTo x x text text
-none_yet x text = record { front = []; lines = inl refl; said = none_said x; whole = refl }
-
-module _ (n : ℕ) (stamps : List ℕ) (stamp : ℕ) (more : n < length stamps) (at : stamp ≡ get_or stamps n 0) where
-  -- the next line, and those after it
-  next_line : start_lines n (drop n stamps) ≡ start_line n stamp ++ start_lines (n + 1) (drop (n + 1) stamps)
-  next_line =
-      let later : suc n ≡ n + 1 = omega arith in
-      ap (start_lines n) (drop_more stamps n 0 more)
-      ∙ ap (λ s. start_line n s ++ start_lines (suc n) (drop (n + 1) stamps)) (sym at)
-      ∙ ap (λ m. start_line n stamp ++ start_lines m (drop (n + 1) stamps)) later
-
-  module _ (x y z : Shown) (text : List ℕ) (h : IsSaidTo x y text (start_lines n (drop n stamps))) where
-    afterwards : (h.front ++ start_line n stamp) ++ start_lines (n + 1) (drop (n + 1) stamps) ≡ text
-    afterwards =
-        append_assoc h.front (start_line n stamp) (start_lines (n + 1) (drop (n + 1) stamps))
-        ∙ ap (λ t. h.front ++ t) (sym next_line) ∙ h.whole
-
-    front_lines : AreLines (h.front ++ start_line n stamp)
-    front_lines = lines_after h.front (start_line n stamp) h.lines (inr (ends n stamp))
-
-    pub one_more : IsSaid y z (start_line n stamp) → IsSaidTo x z text (start_lines (n + 1) (drop (n + 1) stamps))
-    one_more k = record {
-      front = h.front ++ start_line n stamp;
-      lines = front_lines;
-      said = said_then_said x y z h.front (start_line n stamp) h.lines h.said k;
-      whole = afterwards;
-    }
-
-    pub cut_off : IsBrokenOff y z (start_line n stamp) → IsBrokenOff x z text
-    cut_off k =
-        subst (IsBrokenOff x z) afterwards
-        (broken_before x z (h.front ++ start_line n stamp) (start_lines (n + 1) (drop (n + 1) stamps)) front_lines
-        (said_then_broken x y z h.front (start_line n stamp) h.lines h.said k))
+-- the next line, and those after it
+pub next_line : (n : ℕ) (stamps : List ℕ) (stamp : ℕ) → n < length stamps → stamp ≡ get_or stamps n 0
+    → start_lines n (drop n stamps) ≡ start_line n stamp ++ start_lines (n + 1) (drop (n + 1) stamps)
+next_line n stamps stamp more at =
+    let later : suc n ≡ n + 1 = omega arith in
+    ap (start_lines n) (drop_more stamps n 0 more)
+    ∙ ap (λ s. start_line n s ++ start_lines (suc n) (drop (n + 1) stamps)) (sym at)
+    ∙ ap (λ m. start_line n stamp ++ start_lines m (drop (n + 1) stamps)) later
 
 -- the starts, if they are wanted
 ticks_lines : (wanted : Bool) (stamps : List ℕ) → AreLines (if wanted then start_lines 0 stamps else [])
@@ -104,12 +70,3 @@ module _ (ticks steps : Bool) (run : Outcome) where
   pub cut_in_log : (x z : Shown) → IsBrokenOff x z (log_text run.log) → IsBrokenOff x z (run_text ticks steps run)
   cut_in_log x z h =
       broken_before x z _ _ both_lines (broken_before x z (log_text run.log) _ (are_lines run.log) h)
-
--- of what was answered
-pub ok_on : {A E P Q : Type 0} (result : Result A E) → (P → Q) → OnOk result P → OnOk result Q
-ok_on (Ok a) f p = f p
-ok_on (Err e) f p = tt
-
-pub err_on : {A E P Q : Type 0} (result : Result A E) → (P → Q) → OnErr result P → OnErr result Q
-err_on (Ok a) f p = tt
-err_on (Err e) f p = f p

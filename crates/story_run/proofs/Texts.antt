@@ -4,7 +4,7 @@ use Rattle.std.proofs.Common.{◌≡◌, ◌≤◌, ◌<◌, ℕ, zero, suc, ◌
 use Rattle.std.proofs.Common.{inl, inr, refl, ap, sym, subst, ◌∙◌, arith}
 use Rattle.std.specs.Prelude.{flat_map}
 use Rattle.std.proofs.lemmas.List.{append-nil, append_assoc}
-use Rattle.io_edge.proofs.Pieces.{AreLines, EndsLine, broken_before, lines_after, said_then_broken, said_then_said}
+use Rattle.io_edge.proofs.Pieces.{AreLines, EndsLine, broken_before, lines_after, none_said, said_then_broken, said_then_said}
 use Rattle.io_edge.specs.Said.{IsBrokenOff, IsSaid, Shown}
 use Rattle.story_run.specs.Reports.{IsBrokenAfter}
 
@@ -21,6 +21,42 @@ module _ {A : Type 0} (line : A → List ℕ) where
   lines_left xs i d within =
       let e : suc i ≡ i + 1 = omega arith in
       ap (flat_map line) (drop-cons xs i d within ∙ ap (λ k. get_or xs i d ∷ drop k xs) e)
+
+-- lines of a text were said, and the rest of it is left
+pub record IsSaidTo (x y : Shown) (text rest : List ℕ) : Type 0 where
+  pub front : List ℕ
+  pub lines : AreLines front
+  pub said : IsSaid x y front
+  pub whole : front ++ rest ≡ text
+
+pub none_yet : (x : Shown) (text : List ℕ) → IsSaidTo x x text text
+none_yet x text = record { front = []; lines = inl refl; said = none_said x; whole = refl }
+
+pub all_said : (x y : Shown) (text rest : List ℕ) → IsSaidTo x y text rest → rest ≡ [] → IsSaid x y text
+all_said x y text rest h none =
+    subst (λ t. IsSaid x y t) (sym (append-nil h.front) ∙ ap (λ t. h.front ++ t) (sym none) ∙ h.whole) h.said
+
+-- the next line is said, or a put of it fails
+module _ (x y z : Shown) (text rest line after : List ℕ) (h : IsSaidTo x y text rest) (next : rest ≡ line ++ after) (ends : EndsLine line)
+    where
+  afterwards : (h.front ++ line) ++ after ≡ text
+  afterwards = append_assoc h.front line after ∙ ap (λ t. h.front ++ t) (sym next) ∙ h.whole
+
+  front_lines : AreLines (h.front ++ line)
+  front_lines = lines_after h.front line h.lines (inr ends)
+
+  pub line_said : IsSaid y z line → IsSaidTo x z text after
+  line_said k = record {
+    front = h.front ++ line;
+    lines = front_lines;
+    said = said_then_said x y z h.front line h.lines h.said k;
+    whole = afterwards;
+  }
+
+  pub line_cut : IsBrokenOff y z line → IsBrokenOff x z text
+  line_cut k =
+      subst (λ t. IsBrokenOff x z t) afterwards
+      (broken_before x z (h.front ++ line) after front_lines (said_then_broken x y z h.front line h.lines h.said k))
 
 -- the text of the first k steps is that of the first `last`, and the step after these makes it that of the first n: it
 -- adds `put`

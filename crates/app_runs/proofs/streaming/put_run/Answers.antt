@@ -1,11 +1,12 @@
 use Rattle.std.proofs.Common.{subst, inl, inr}
 use Rattle.std.specs.Prelude.{[], if◌then◌else◌}
+use Rattle.std.proofs.lemmas.Result.{on_err_weaker, on_ok_weaker}
 use Rattle.io_edge.specs.Said.{IsBrokenOff, IsSaid}
 use Rattle.subsystem.specs.Ending.{ending}
 use Rattle.io_edge.proofs.Taken.{on_err}
 use Rattle.app_runs.specs.RunTexts.{start_lines}
 use Rattle.app_runs.proofs.StartsAreLines.{cut_in_end, cut_in_log, cut_in_starts, end_after_log}
-use Rattle.app_runs.proofs.StartsAreLines.{err_on, ok_on, starts_after_log, whole_run}
+use Rattle.app_runs.proofs.StartsAreLines.{starts_after_log, whole_run}
 use Rattle.app_answers.proofs.EndStates.{same_state}
 use Rattle.app_runs.proofs.streaming.put_run.Goals as goal
 
@@ -43,7 +44,7 @@ returns-clause-said g c =
     c.starts.ensures.starts c.in_ok-put_ticks.ensures.said in
     let same = same_state c.args.steps c.end.result.now run.end c.steps.result run.steps c.cycles.result run.cycles
     c.end.ensures.end c.steps.ensures.steps c.cycles.ensures.cycles in
-    ok_on c.put_end.result
+    on_ok_weaker c.put_end.result
     (λ k. (
       run,
       c.in_ok-ended.ensures.run,
@@ -63,7 +64,7 @@ returns-clause-broken g c =
     c.starts.ensures.starts c.in_ok-put_ticks.ensures.said in
     let same = same_state c.args.steps c.end.result.now run.end c.steps.result run.steps c.cycles.result run.cycles
     c.end.ensures.end c.steps.ensures.steps c.cycles.ensures.cycles in
-    err_on c.put_end.result
+    on_err_weaker c.put_end.result
     (λ k. let broken = subst (IsBrokenOff b z) same k in (
       run,
       c.in_ok-ended.ensures.run,
