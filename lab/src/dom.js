@@ -17,8 +17,22 @@ export function setText(element, text) { if (element.textContent !== text) eleme
 
 const FAR = 1e6; // pixels
 
+const scrolls = new Map();
+
+/** Scrolls to so many pixels when the caller is done. A scroll lays the page out, so all of a picture are made together, after
+    all that is written for it. */
+export function scrollLater(element, top) {
+  if (scrolls.size === 0) queueMicrotask(allScrolls);
+  scrolls.set(element, top);
+}
+
+function allScrolls() {
+  for (const [element, top] of scrolls) element.scrollTop = top;
+  scrolls.clear();
+}
+
 /** Scrolls to the end, without asking where that is: the browser would lay the page out for the answer. */
-export function scrollToEnd(element) { element.scrollTop = FAR; }
+export function scrollToEnd(element) { scrollLater(element, FAR); }
 
 export const hex = (number, digits = 2) => number.toString(16).toUpperCase().padStart(digits, '0');
 

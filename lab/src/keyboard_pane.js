@@ -17,6 +17,7 @@ export class KeyboardPane {
       workbench. */
   constructor({ open, press, bench }) {
     Object.assign(this, { open, press, drawn: new Map(), held: new Map(), moved: new Map(), stuck: new Set(), hasLeft: false });
+    this.element = byId('keyboard');
     this.board = byId('board');
     this.select = byId('layout');
     fill(this.select, named('.toml'), 'us84.toml');
@@ -58,18 +59,19 @@ export class KeyboardPane {
     this.open(text, new Map(this.keys.map(key => [key.place, key.name])));
   }
 
-  /** Draws the keys that went down or up since the last time. A key that did both is drawn down once. Whether one is
-      drawn up. */
+  /** Whether a key went down since the last time, and whether one went up. */
+  get wentDown() { return [...this.moved.values()].includes(true); }
+
+  get wentUp() { return [...this.moved.values()].includes(false); }
+
+  /** Draws the keys that went down or up since the last time. A key that did both is drawn down once. */
   draw() {
-    let isUp = false;
     for (const [name, wentDown] of this.moved) {
       const isDown = this.held.get(name).size > 0;
       this.drawn.get(name).classList.toggle('down', wentDown || isDown);
       if (wentDown && !isDown) this.moved.set(name, false);
       else this.moved.delete(name);
-      isUp ||= !wentDown && !isDown;
     }
-    return isUp;
   }
 
   lamps(lights) {
@@ -155,6 +157,8 @@ export class KeyboardPane {
     if (down) holders.add(by);
     else holders.delete(by);
     if (was === holders.size > 0) return;
+    // It was up, and that isn't drawn yet.
+    if (down && this.moved.get(name) === false) this.drawn.get(name).classList.remove('down');
     this.press(key.place, down);
     this.moved.set(name, down || this.moved.get(name) === true);
     if (key.fn) this.#legends();

@@ -15,9 +15,12 @@ import { WorkbenchPane } from './workbench_pane.js';
 
 const LONGEST = 200; // ms that are made up for, after a time in which the page wasn't called
 // The keyboard goes on 25 times a second, or 10 times while nothing happens. A key is answered soon after it: its byte has
-// passed by then. A picture costs the browser ten times what a stretch costs. So wires and logs are drawn with a key that goes up
-// again, or a little later if none does, and 4 times a second at most; more often if time is slow, which somebody watches.
+// passed by then. A picture costs the browser ten times what a stretch costs, however little changes in it. So a key that goes up
+// is drawn with the next picture, or a little later if none comes. Wires and logs are drawn with a key that goes up, or a little
+// later if none does, and 4 times a second at most; more often if time is slow, which somebody watches.
 const STRETCH = 40, CALM_STRETCH = 100, SOON = 20, BETWEEN_PICTURES = 160, BETWEEN_NEWS = 240, LATEST = 100; // ms
+const STROKE = 150; // ms after which a key that is down is a held one
+const UP_LATEST = LATEST - STRETCH; // ms: a key that is up is drawn so a tenth of a second after the stroke at the latest
 
 const moduleOf = async id => unpacked(bytesOf(byId(id).textContent));
 
@@ -33,9 +36,9 @@ addEventListener('unhandledrejection', event => trouble(event.reason));
 class Lab {
   constructor(keyboard, program) {
     this.keyboard = keyboard;
-    Object.assign(this, { files, fromKle, program, owed: 0, drawn: -Infinity, newsDrawn: -Infinity, news: 0, since: null, timer: null, last: performance.now(), isPassing: false });
+    Object.assign(this, { files, fromKle, program, owed: 0, drawn: -Infinity, newsDrawn: -Infinity, news: 0, since: null, upSince: null, stirred: -Infinity, pressed: -Infinity, pace: Infinity, place: null, isRepeated: false, timer: null, last: performance.now(), isPassing: false, inSight: new Set() });
     this.keys = new KeyboardPane({
-      open: (layout, names) => this.open(layout, names), press: (place, down) => this.live.press(place, down),
+      open: (layout, names) => this.open(layout, names), press: (place, down) => this.press(place, down),
       bench: words => {
         this.show('workbench', true);
         this.workbench.show(words);
@@ -56,6 +59,18 @@ class Lab {
       button.onclick = () => this.show(button.dataset.pane, button.getAttribute('aria-pressed') !== 'true');
     }
     for (const button of document.querySelectorAll('button[data-pane]')) this.show(button.dataset.pane, button.getAttribute('aria-pressed') === 'true', false);
+    const watch = new IntersectionObserver(entries => this.#seen(entries));
+    for (const pane of [this.keys, this.wires, this.processor]) watch.observe(pane.element);
+  }
+
+  // A pane that comes into sight is drawn at once.
+  #seen(entries) {
+    for (const { target, isIntersecting } of entries) {
+      if (isIntersecting) this.inSight.add(target.id);
+      else this.inSight.delete(target.id);
+    }
+    this.drawKeys();
+    this.draw();
   }
 
   /** Powers a keyboard on. */
@@ -69,6 +84,15 @@ class Lab {
     byId('masked').checked = false;
     this.wires?.begin();
     this.processor?.begin();
+  }
+
+  /** A key goes down or up. */
+  press(place, down) {
+    if (down) {
+      const now = performance.now();
+      Object.assign(this, { pace: now - this.pressed, pressed: now, isRepeated: place === this.place, place });
+    }
+    this.live.press(place, down);
   }
 
   show(name, shown, scrolled = true) {
@@ -93,21 +117,43 @@ class Lab {
     this.keys.lamps(this.keyboard.lights());
   }
 
-  // Whether it is time for a picture of the wires and the logs. A key was drawn up again, or not.
-  #isDue(isUp) {
-    const { last, live: { news } } = this;
-    if (news === this.news) return last - this.drawn >= BETWEEN_PICTURES;
+  // Whether it is time for a picture of the wires and the logs. It isn't made with that of a key that goes down and of its letter,
+  // unless it has waited long: the browser draws all that is between them. It waits for the key to go up.
+  #isDue(isSharp, isUp) {
+    const { last, live } = this;
+    if (live.news === this.news) return last - this.drawn >= BETWEEN_PICTURES;
     this.since ??= last;
-    const isSoon = last - this.newsDrawn < (byId('speed').value === '1' ? BETWEEN_NEWS : LATEST);
-    return !isSoon && (isUp || last - this.since >= LATEST);
+    const isReal = byId('speed').value === '1', waited = last - this.since;
+    if (last - this.newsDrawn < (isReal ? BETWEEN_NEWS : LATEST)) return false;
+    const isStroke = isSharp || (live.down.size > 0 && last - this.stirred < STROKE);
+    return waited >= (isReal && isStroke ? BETWEEN_NEWS : LATEST) || (isUp && !isSharp);
   }
 
-  /** Draws what changed in the panes that are shown. */
+  /** Draws the keys and the PC's screen, if they are in sight. */
+  drawKeys() {
+    this.upSince = null;
+    if (!this.inSight.has('keyboard')) return;
+    this.keys.draw();
+    this.pc.draw();
+  }
+
+  /** Draws what changed in the other panes that are in sight. */
   draw() {
     if (this.since !== null) this.newsDrawn = this.last;
     Object.assign(this, { drawn: this.last, news: this.live.news, since: null });
-    if (!byId('wires').hidden) this.wires.draw();
-    if (!byId('processor').hidden) this.processor.draw();
+    if (this.inSight.has('wires')) this.wires.draw();
+    if (this.inSight.has('processor')) this.processor.draw();
+  }
+
+  // Draws what is due. A key that goes down, and what it writes on the PC's screen, is drawn now. A key that goes up is drawn with
+  // the next of these if somebody types fast, else with the wires; and now if it is pressed time and again.
+  #pictures() {
+    const { keys } = this, isSeen = this.inSight.has('keyboard');
+    const isSharp = isSeen && (keys.wentDown || this.pc.isNew), isUp = isSeen && keys.wentUp, isDue = this.#isDue(isSharp, isUp);
+    if (isUp) this.upSince ??= this.last;
+    const isUpNow = isUp && (this.isRepeated || (isDue && this.pace > BETWEEN_NEWS) || this.last - this.upSince >= UP_LATEST);
+    if (isSharp || isUpNow) this.drawKeys();
+    if (isDue) this.draw();
   }
 
   // The keyboard's time goes on up to now.
@@ -126,6 +172,7 @@ class Lab {
   stir() {
     if (this.isPassing || this.timer === null) return;
     this.#toNow();
+    this.stirred = this.last;
     this.#wait(SOON);
   }
 
@@ -138,9 +185,7 @@ class Lab {
   tick() {
     try {
       this.#toNow();
-      const isUp = this.keys.draw();
-      this.pc.draw();
-      if (this.#isDue(isUp)) this.draw();
+      this.#pictures();
     } catch (error) {
       trouble(error);
       return;

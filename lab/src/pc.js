@@ -25,19 +25,23 @@ export class Pc {
 
   word(word) { this.screen.put(word & 255); }
 
+  /** Whether the screen has a text that isn't drawn yet. */
+  get isNew() { return this.screen.isNew; }
+
   draw() { this.screen.draw(); }
 }
 
 // Rows of text, each an element of its own: a letter more costs a picture of its row, not of the screen.
 class Screen {
   constructor(element) {
-    Object.assign(this, { element, rows: [''], lines: [], drawn: [] });
+    Object.assign(this, { element, rows: [''], lines: [], drawn: [], isNew: true });
     element.replaceChildren();
     this.draw();
   }
 
   put(code) {
     const { rows } = this, last = rows.length - 1;
+    this.isNew = true;
     if (code === BACKSPACE) {
       if (rows[last] === '' && last > 0) rows.pop();
       rows[rows.length - 1] = rows.at(-1).slice(0, -1);
@@ -55,16 +59,16 @@ class Screen {
   }
 
   draw() {
+    if (!this.isNew) return;
+    this.isNew = false;
     const { element, rows, lines, drawn } = this;
-    let isNew = false;
     for (; lines.length > rows.length; drawn.pop()) lines.pop().remove();
     for (const [at, row] of rows.entries()) {
       const text = at === rows.length - 1 ? row + CURSOR : row;
       if (drawn[at] === text) continue;
-      isNew = true;
       if (!lines[at]) element.append(lines[at] = make('div'));
       lines[at].textContent = drawn[at] = text;
     }
-    if (isNew) scrollToEnd(element);
+    scrollToEnd(element);
   }
 }

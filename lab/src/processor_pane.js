@@ -1,9 +1,10 @@
 // The processor, step by step: a program on the board, under a layout and a key file.
-import { byId, fill, hex, make, setText, tell } from './dom.js';
+import { byId, fill, hex, make, scrollToEnd, setText, tell } from './dom.js';
 import { files, named, onFile } from './files.js';
 import { FIRST_STAMP } from './live.js';
 import { LiveSession } from './live_session.js';
 import { explained, kbd48 } from './program.js';
+import { InSight } from './in_sight.js';
 import { FOREVER, Session } from './session.js';
 import { listLines, placeOf, sourceLines } from './source.js';
 import { StateTables } from './state_tables.js';
@@ -25,13 +26,13 @@ const A_SECOND = 220000; // steps
 export class ProcessorPane {
   /** `live()` answers the keyboard that runs. */
   constructor(live) {
+    this.element = byId('processor');
     this.live = live;
     this.looked = 0;
     this.timer = null;
     this.chosen = null;
     this.tables = new StateTables();
-    this.isSeen = false;
-    new IntersectionObserver(entries => { this.isSeen = entries.at(-1).isIntersecting; }).observe(byId('processor'));
+    this.sight = new InSight(byId('code'));
     this.#fill();
     onFile(({ name, isNew }) => {
       if (isNew) this.#fill();
@@ -88,10 +89,10 @@ export class ProcessorPane {
   /** Another keyboard runs. */
   begin() { if (this.#isLive()) this.open(); }
 
-  /** A picture of the keyboard that runs, now and then, if somebody can see it. */
+  /** A picture of the keyboard that runs, now and then. */
   draw() {
     const now = performance.now();
-    if (!this.isSeen || !this.#isLive() || !this.session || isStopped() || now - this.looked < LOOKS_APART) return;
+    if (!this.#isLive() || !this.session || isStopped() || now - this.looked < LOOKS_APART) return;
     this.looked = now;
     this.#now(this.session.now());
     setText(byId('at'), RUNS);
@@ -272,8 +273,9 @@ export class ProcessorPane {
 
   #list() {
     this.rows = new Map();
+    this.numbers = new Map();
     this.marked = {};
-    byId('code').replaceChildren(...this.code.lines.map(({ text, place }) => {
+    byId('code').replaceChildren(...this.code.lines.map(({ text, place }, number) => {
       const row = make('div', { textContent: `${place === null ? '   ' : hex(place, 3)}  ${text}` });
       if (place !== null) {
         row.dataset.place = place;
@@ -281,6 +283,7 @@ export class ProcessorPane {
         row.setAttribute('role', 'option');
         row.setAttribute('aria-selected', 'false');
         this.rows.set(place, row);
+        this.numbers.set(place, number);
       }
       return row;
     }));
@@ -307,15 +310,12 @@ export class ProcessorPane {
     this.#mark();
     if (!this.session) return;
     const { state, log } = this.session;
-    const row = this.rows.get(state.counter), code = byId('code');
-    if (row && (row.offsetTop < code.scrollTop || row.offsetTop > code.scrollTop + code.clientHeight - 40)) {
-      code.scrollTop = row.offsetTop - code.clientHeight / 2;
-    }
+    if (this.numbers.has(state.counter)) this.sight.show(this.numbers.get(state.counter));
     this.tables.show(state, this.before);
     const said = byId('said'), lines = log.join('\n');
     if (said.textContent === lines) return;
     said.textContent = lines;
-    said.scrollTop = said.scrollHeight;
+    scrollToEnd(said);
   }
 }
 

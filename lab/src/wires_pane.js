@@ -23,7 +23,7 @@ const COMMANDS = [
 export class WiresPane {
   /** `live()` answers the keyboard that runs. */
   constructor(live, layoutName) {
-    Object.assign(this, { live, layoutName, still: null });
+    Object.assign(this, { element: byId('wires'), live, layoutName, still: null });
     this.bytes = new Lines(byId('bytes'), ({ begin, sender, byte }) => `${at(begin)}  ${sender === 'host' ? 'PC → keyboard' : 'keyboard → PC'}  ${hex(byte)}`);
     this.log = new Lines(byId('log'), entry => (typeof entry === 'string' ? entry : `${at(entry.cycle)}  ${entry.words}`));
     this.wave = new Waveform(byId('wave'), live);

@@ -37,6 +37,8 @@ try {
   await browser.ready();
   await part('policy', () => look.policy(browser));
   await part('typing', () => keyboard.typing(browser, shot));
+  await part('prompt', () => keyboard.prompt(browser));
+  await part('out of sight', () => keyboard.outOfSight(browser));
   await part('leaving', () => keyboard.leaving(browser));
   await part('lost focus', () => keyboard.lostFocus(browser));
   await part('commands', () => wires.commands(browser));

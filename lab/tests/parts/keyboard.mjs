@@ -47,6 +47,56 @@ export async function typing(browser, shot) {
   await shot('keyboard');
 }
 
+// ms until a picture has what was done, with what a timer of the browser may be late.
+const LATEST = { down: 60, letter: 100, up: 130, log: 270 };
+
+/** A key is drawn down at once; its letter, and the key that is up again, within a tenth of a second; the log within a quarter. That
+    holds for strokes that are far apart, for fast ones, and for one key pressed time and again. Of each the best of several
+    strokes counts, because other work delays any. */
+export async function prompt(browser) {
+  for (const [keys, apart] of [['jkl', 450], ['jkl', 97], ['j', 97]]) {
+    const best = await browser.evaluate(`(async () => {
+      const of = id => document.getElementById(id), isDown = name => document.querySelector('[data-key=' + name + ']').classList.contains('down');
+      const wait = ms => new Promise(yes => setTimeout(yes, ms)), best = { down: Infinity, letter: Infinity, up: Infinity, log: Infinity };
+      const measure = async (what, is) => {
+        const from = performance.now();
+        while (!is() && performance.now() - from < 2000) await wait(2);
+        best[what] = Math.min(best[what], performance.now() - from);
+      };
+      const lines = () => of('log').textContent.split('\\n').length, all = [];
+      for (let n = 0; n < 12; n++) {
+        const name = ${JSON.stringify(keys)}[n % ${keys.length}], letters = of('screen').textContent.length;
+        lab.keys.hold(name, true, 'test');
+        all.push(measure('down', () => isDown(name)), measure('letter', () => of('screen').textContent.length > letters));
+        await wait(70);
+        const had = lines();
+        lab.keys.hold(name, false, 'test');
+        all.push(measure('up', () => !isDown(name)), measure('log', () => lines() > had));
+        await wait(${apart});
+      }
+      await Promise.all(all);
+      return best;
+    })()`);
+    for (const [what, most] of Object.entries(LATEST)) assert.ok(best[what] <= most, `${keys} after ${apart} ms, ${what}: ${Math.round(best[what])} ms`);
+  }
+}
+
+/** A keyboard that is out of sight isn't drawn, and is drawn when it comes into sight. */
+export async function outOfSight(browser) {
+  await browser.evaluate(`for (const name of ['keyboard', 'wires', 'workbench', 'lessons']) lab.show(name, true); document.getElementById('lessons').scrollIntoView(); 0`);
+  await browser.until('!lab.inSight.has("keyboard") && !lab.inSight.has("wires")');
+  const look = '[document.getElementById("screen").textContent, document.getElementById("log").textContent].join()', before = await browser.evaluate(look);
+  await browser.evaluate('lab.keys.hold("u", true, "test")');
+  await browser.wait(400);
+  assert.equal(await browser.evaluate(look), before, 'out of sight');
+  await browser.evaluate('scrollTo(0, 0)');
+  await drawnDown(browser, 'u');
+  await browser.says('screen', /u+▁$/);
+  await browser.says('log', /word 1675/);
+  await browser.evaluate('lab.keys.hold("u", false, "test"); for (const name of ["workbench", "lessons"]) lab.show(name, false)');
+  await drawnDown(browser, '');
+}
+
 /** Two Escapes, and Tab leaves the keyboard on either side. */
 export async function leaving(browser) {
   await browser.evaluate('document.getElementById("board").focus()');
