@@ -1,8 +1,7 @@
 //! Frames on the wires, as the decoder reads them.
 
 use board_probes::{LineDecoder, Transfer};
-use board_terms::{Lines, frame_of};
-use std::test::Fail;
+use board_terms::Lines;
 
 /// What the decoder answers to a sample; None if it isn't after the last one.
 fn heard(decoder: &mut LineDecoder, cycle: u64, clk: bool, dat: bool) -> Option<Transfer> {
@@ -13,43 +12,43 @@ fn heard(decoder: &mut LineDecoder, cycle: u64, clk: bool, dat: bool) -> Option<
     }
 }
 
-/// What it answers to the last of some falls, so many cycles apart, with the data wire at these levels.
-fn decoded(levels: &[bool], apart: u64) -> Option<Transfer> {
+/// What it answers to the last of some falls, so many cycles apart, with the data wire at these levels; 1 is high.
+fn decoded(levels: &[u8], apart: u64) -> Option<Transfer> {
     let mut decoder = LineDecoder::new();
     let mut last = None;
-    for (i, dat) in levels.iter().enumerate() {
-        let fall = (i as u64).wrapping_mul(apart).saturating_add(1000);
-        let _ = heard(&mut decoder, fall.saturating_sub(1), true, *dat);
-        last = heard(&mut decoder, fall, false, *dat);
+    let mut fall: u64 = 1000;
+    for level in levels {
+        let dat = *level == b'1';
+        let _ = heard(&mut decoder, fall.saturating_sub(1), true, dat);
+        last = heard(&mut decoder, fall, false, dat);
+        fall = fall.saturating_add(apart);
     }
     last
 }
 
-/// The keyboard's byte.
-const fn from_keyboard(byte: u8) -> Option<Transfer> {
-    Some(Transfer {
-        from_host: false,
-        byte,
-    })
-}
+/// The levels at some falls, how many cycles they are apart, and what is read: whether the host sends, and the byte.
+type Case = (&'static [u8], u64, Option<(bool, u8)>);
+
+static CASES: [Case; 8] = [
+    (b"00011100001", 32, Some((false, 0x1c))),
+    (b"00101010111", 32, Some((false, 0xaa))),
+    // Falls that are too close, too far apart, or too few.
+    (b"00101010111", 31, None),
+    (b"00101010111", 33, None),
+    (b"0010101011", 32, None),
+    // ED from the host; the same with even parity, and without an answer.
+    (b"10110111110", 32, Some((true, 0xed))),
+    (b"10110111010", 32, None),
+    (b"10110111111", 32, None),
+];
 
 #[test]
-fn eleven_falls_are_a_byte(rt: HostRuntime) -> Result<(), Fail> {
-    assert_eq!(rt; decoded(&frame_of(0x1c).bits, 32), from_keyboard(0x1c));
-    assert_eq!(rt; decoded(&frame_of(0xaa).bits, 32), from_keyboard(0xaa));
-    assert_eq!(rt; decoded(&frame_of(0xaa).bits, 31), None);
-    assert_eq!(rt; decoded(&frame_of(0xaa).bits, 33), None);
-    assert_eq!(rt; decoded(&frame_of(0xaa).bits[..10], 32), None);
-    let [_, d0, d1, d2, d3, d4, d5, d6, d7, parity, stop] = frame_of(0xed).bits;
-    let host = [d0, d1, d2, d3, d4, d5, d6, d7, parity, stop, false];
-    let from_host = Transfer {
-        from_host: true,
-        byte: 0xed,
-    };
-    assert_eq!(rt; decoded(&host, 32), Some(from_host));
-    let even = [d0, d1, d2, d3, d4, d5, d6, d7, !parity, stop, false];
-    assert_eq!(rt; decoded(&even, 32), None);
-    let unanswered = [d0, d1, d2, d3, d4, d5, d6, d7, parity, stop, true];
-    assert_eq!(rt; decoded(&unanswered, 32), None);
-    Ok(())
+fn eleven_falls_are_a_byte(rt: HostRuntime) {
+    for (at, (levels, apart, read)) in CASES.iter().enumerate() {
+        let transfer = match *read {
+            Some((from_host, byte)) => Some(Transfer { from_host, byte }),
+            None => None,
+        };
+        assert!(rt; decoded(levels, *apart) == transfer, "case {at}");
+    }
 }

@@ -7,6 +7,8 @@
 #![tactic(auto)]
 
 #[cfg(test)]
+mod alike;
+#[cfg(test)]
 mod frames;
 #[cfg(test)]
 mod joint_steps;

@@ -2,6 +2,7 @@
 
 ghost use Rattle.std.specs.Prelude.{◌≤◌, length};
 
+use crate::alike::are_alike;
 use board_probes::Probe;
 use board_run::{End, Ended, ProgramRun};
 use io_edge::MemSink;
@@ -51,20 +52,32 @@ fn chance(seed: &mut u64) -> u8 {
     (*seed >> 33 & 0xff) as u8
 }
 
-/// Whether two processors are alike.
-fn are_alike(a: &Mcu, b: &Mcu) -> bool {
-    a.pc == b.pc
-        && a.a == b.a
-        && a.psw == b.psw
-        && a.t == b.t
-        && a.pre == b.pre
-        && a.tf == b.tf
-        && a.rq == b.rq
-        && a.svc == b.svc
-        && a.p1 == b.p1
-        && a.p2 == b.p2
-        && a.bus == b.bus
-        && a.ram == b.ram
+/// A program by chance, in which OUTL P2, ORL P2 and ANL P2 are left out.
+fn any_program(seed: &mut u64) -> Image {
+    let mut image = Image { bytes: [0; 2048] };
+    for place in image.bytes.iter_mut() {
+        *place = match chance(seed) {
+            0x3a | 0x8a | 0x9a => 0x17,
+            byte => byte,
+        };
+    }
+    image
+}
+
+/// What the processor alone comes to in 4,096 cycles: its state, its cycles, and how it ends.
+fn run_alone(image: &Image) -> (Mcu, u64, End) {
+    let mut mcu = reset();
+    let mut cycles: u64 = 0;
+    for _step in 0..4096 {
+        if cycles >= 4096 {
+            break;
+        }
+        match mcu.step(image, ALL_HIGH) {
+            Ok(spent) => cycles = cycles.saturating_add(u64::from(spent)),
+            Err(place) => return (mcu, cycles, End::Stuck(place)),
+        }
+    }
+    (mcu, cycles, End::Over)
 }
 
 #[test]
@@ -72,34 +85,16 @@ fn a_program_that_leaves_port_2_runs_as_the_processor_alone(rt: HostRuntime) -> 
     let alloc = rt.alloc();
     let mut seed: u64 = 88_172_645_463_325_252;
     let mut stuck: u32 = 0;
-    for _program in 0..100 {
-        let mut image = Image { bytes: [0; 2048] };
-        for place in image.bytes.iter_mut() {
-            // OUTL P2, ORL P2 and ANL P2 are left out
-            *place = match chance(&mut seed) {
-                0x3a | 0x8a | 0x9a => 0x17,
-                byte => byte,
-            };
-        }
+    for program in 0..100 {
+        let image = any_program(&mut seed);
         let (out, ended) = ran(&rt, alloc, &image, b"0 end\n", &mut Vec::new(alloc))?;
-        assert!(rt; out.taken().is_empty());
-        let mut mcu = reset();
-        let mut cycles: u64 = 0;
-        let mut end = End::Over;
-        for _step in 0..4096 {
-            if cycles >= 4096 {
-                break;
-            }
-            match mcu.step(&image, ALL_HIGH) {
-                Ok(spent) => cycles += u64::from(spent),
-                Err(place) => {
-                    end = End::Stuck(place);
-                    break;
-                }
-            }
-        }
-        assert!(rt; ended.end() == end && ended.cycles() == cycles);
-        assert!(rt; are_alike(ended.mcu(), &mcu));
+        let (mcu, cycles, end) = run_alone(&image);
+        assert!(rt; out.taken().is_empty(), "program {program}");
+        assert!(rt;
+            ended.end() == end && ended.cycles() == cycles,
+            "program {program}"
+        );
+        assert!(rt; are_alike(ended.mcu(), &mcu), "program {program}");
         if end != End::Over {
             stuck = stuck.saturating_add(1);
         }
