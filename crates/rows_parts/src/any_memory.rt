@@ -4,17 +4,16 @@ ghost use Rattle.std.specs.Prelude.{◌≡◌, ◌<◌, ◌/◌, ◌%◌};
 
 use crate::typing_hi::TYPING_HI;
 use arrayvec::ArrayVec;
-use board_terms::{Edge, HostEvent};
+use board_terms::Matrix;
 use fw_compile::compile;
-use fw_kernel::labels::RESTART;
 use fw_kernel::{KERNEL, TICK};
 use fw_logic::at_tick;
+use host_turn::Desk;
 use int09::Bios;
-use joint_run::{Due, Joint};
+use joint_run::{Due, Joint, Machine, Outside, Stamped};
 use key_file::{History, read_history};
-use layout_reader::{Layout, us84_layout};
-use mcs48_asm::assemble;
-use mcs48_core::{ALL_HIGH, Count, Mcu, reset};
+use layout_reader::us84_layout;
+use mcs48_core::{ALL_HIGH, Count, Mcu, Stuck, reset};
 use mcs48_isa::Image;
 use pc_tables::item_line;
 use std::alloc::{AllocError, Global};
@@ -64,32 +63,45 @@ fn switched_on(mut seed: u32) -> Mcu {
     mcu
 }
 
+/// The kernel, without a layout's tables.
+fn kernel() -> Image {
+    Image { bytes: KERNEL }
+}
+
 /// Goes on to the first tick start, and answers the cycles up to it.
-fn to_first_start(mcu: &mut Mcu) -> Result<u32, Fail> {
-    let image = Image { bytes: KERNEL };
+fn to_first_start(mcu: &mut Mcu, image: &Image) -> Result<u32, Stuck> {
     let mut cycles: u32 = 0;
     for _ in 0..5000 {
         if mcu.svc && mcu.pc == TICK {
             break;
         }
-        cycles = cycles.wrapping_add(u32::from(mcu.step(&image, ALL_HIGH)?));
+        cycles = cycles.wrapping_add(u32::from(mcu.step(image, ALL_HIGH)?));
     }
     Ok(cycles)
 }
 
-/// Of 32 parts that hold anything each reaches its first tick start when one with cleared memory does, and in the same
-/// state: the same counter, status, accumulator, timer and latches, and the same 128 bytes of data memory.
+/// Whether a processor is at a tick start, in the state of this one: the same counter, status, accumulator, timer and latches,
+/// and the same 128 bytes of data memory.
+fn starts_alike(mcu: &Mcu, cleared: &Mcu) -> bool {
+    let at_tick = mcu.svc && mcu.pc == TICK;
+    let registers = (mcu.psw, mcu.a, mcu.t, mcu.pre, mcu.rq);
+    let latches = (mcu.p1, mcu.p2, mcu.ram);
+    at_tick
+        && registers == (cleared.psw, cleared.a, cleared.t, cleared.pre, cleared.rq)
+        && latches == (cleared.p1, cleared.p2, cleared.ram)
+}
+
+/// Of 32 parts that hold anything each reaches its first tick start when one with cleared memory does, and in the same state.
 #[test]
 fn any_memory_comes_to_one_first_tick(rt: HostRuntime) -> Result<(), Fail> {
+    let image = kernel();
     let mut cleared = reset();
-    let start = to_first_start(&mut cleared)?;
+    let start = to_first_start(&mut cleared, &image)?;
     assert!(rt; start == 4096 || start == 4097);
     for seed in 1..33 {
         let mut mcu = switched_on(seed);
-        assert_eq!(rt; to_first_start(&mut mcu)?, start);
-        assert!(rt; mcu.svc && mcu.pc == TICK && mcu.psw == cleared.psw && mcu.a == cleared.a);
-        assert!(rt; mcu.t == cleared.t && mcu.pre == cleared.pre && mcu.rq == cleared.rq);
-        assert!(rt; mcu.p1 == cleared.p1 && mcu.p2 == cleared.p2 && mcu.ram == cleared.ram);
+        assert!(rt; to_first_start(&mut mcu, &image)? == start, "seed {seed}");
+        assert!(rt; starts_alike(&mcu, &cleared), "seed {seed}");
     }
     Ok(())
 }
@@ -124,163 +136,140 @@ fn upset(seed: u32) -> Mcu {
     mcu
 }
 
-/// Of 200 such processors each reaches its first tick start when one after reset does, and in the same state.
+/// Whether a processor waits for the timer alone, as this one does.
+fn waits_alike(mcu: &Mcu, cleared: &Mcu) -> bool {
+    !mcu.mb && !mcu.ext_on && mcu.tim_on && mcu.run == cleared.run
+}
+
+/// The free places up to the end are NOPs. Of 200 such processors each reaches its first tick start when one after reset does,
+/// and in the same state.
 #[test]
 fn any_state_at_000_comes_to_one_first_tick(rt: HostRuntime) -> Result<(), Fail> {
+    let image = kernel();
+    assert!(rt; image.bytes[0x500..].iter().all(|byte| *byte == 0));
     let mut cleared = reset();
-    let start = to_first_start(&mut cleared)?;
+    let start = to_first_start(&mut cleared, &image)?;
     for seed in 1..201 {
         let mut mcu = upset(seed);
-        assert_eq!(rt; to_first_start(&mut mcu)?, start, "seed {seed}");
-        assert!(rt; mcu.svc && mcu.pc == TICK && mcu.psw == cleared.psw && mcu.a == cleared.a);
-        assert!(rt; mcu.t == cleared.t && mcu.pre == cleared.pre && mcu.rq == cleared.rq);
-        assert!(rt; mcu.p1 == cleared.p1 && mcu.p2 == cleared.p2 && mcu.ram == cleared.ram);
-        assert!(rt; !mcu.mb && !mcu.ext_on && mcu.tim_on && mcu.run == cleared.run);
+        assert!(rt; to_first_start(&mut mcu, &image)? == start, "seed {seed}");
+        assert!(rt;
+            starts_alike(&mcu, &cleared) && waits_alike(&mcu, &cleared),
+            "seed {seed}"
+        );
     }
     Ok(())
 }
 
-/// Where the kernel leaves program memory free, up to its end.
-const FREE: usize = 0x500;
-
-/// The source of a program that leaves a part as this one is, and then jumps where the kernel's first jump
-/// does: prescaler, T, data memory, carries and A, in this order. R0 and R1 are cells 0 and 1.
-fn source_leaving(alloc: Global, part: &Mcu) -> Result<String, AllocError> {
-    let mut text = String::from_str(
-        alloc,
-        " JMP fill\n ORG 500H\nfill: CLR A\n MOV T,A\n STRT T\n",
-    )?;
-    for _ in 0..part.pre {
-        text.push_str(" NOP\n")?;
-    }
-    let [zero, one, ..] = part.ram;
-    let (t, psw, a) = (part.t, part.psw, part.a);
-    text.push_str(format!(in alloc; " STOP TCNT\n MOV A,#{t}\n MOV T,A\n")?.as_str())?;
-    for (cell, value) in part.ram.iter().enumerate().skip(2) {
-        text.push_str(format!(in alloc; " MOV R0,#{cell}\n MOV @R0,#{value}\n")?.as_str())?;
-    }
-    text.push_str(format!(in alloc;
-        " MOV A,#{psw}\n MOV PSW,A\n MOV R1,#{one}\n MOV R0,#{zero}\n MOV A,#{a}\n JMP {RESTART}\n"
-    )?.as_str())?;
-    Ok(text)
-}
-
-/// The image of a layout with such a program at the place of power-on and where the kernel is free.
-fn image_leaving(
-    rt: &impl Abort,
-    alloc: Global,
-    layout: &Layout,
-    part: &Mcu,
-) -> Result<Image, Fail> {
-    let source = source_leaving(alloc, part)?;
-    assert!(rt; source.len() < 32_768);
-    let program = assemble(alloc, source.as_bytes())?;
-    let mut image = compile(layout);
-    image.bytes[..2].copy_from_slice(&program.bytes[..2]);
-    image.bytes[FREE..].copy_from_slice(&program.bytes[FREE..]);
-    Ok(image)
-}
-
-/// Goes on to where the kernel's first jump leads, with no event. Answers how many cycles later than at power-on the
-/// kernel is there, which takes seven cycles.
-fn to_restart(joint: &mut Joint) -> Result<u64, Fail> {
-    let none = Due {
-        edges: ArrayVec::new(),
-        host: ArrayVec::new(),
+/// The joint machine of this image at power-on, in whose processor is this part.
+fn joint_of(alloc: Global, image: &Image, part: Mcu) -> Result<Joint, AllocError> {
+    let outside = Outside {
+        desk: Desk::new(Bios::new(alloc)?),
+        clock: true,
+        shown: 0,
     };
-    for _ in 0..2000 {
-        if joint.mcu().pc == RESTART || joint.cycle() > 5000 {
-            break;
+    Ok(Joint::of_parts(Machine {
+        image: Image { bytes: image.bytes },
+        matrix: Matrix::new(),
+        mcu: part,
+        outside,
+        cycle: 0,
+        steps: 0,
+    }))
+}
+
+/// A run under a history: how many of its edges and events were made, how many ticks have started, and what was said.
+#[derive(Drop)]
+struct Run {
+    joint: Joint,
+    edges: usize,
+    host: usize,
+    ticks: u32,
+    text: Vec<u8>,
+}
+
+impl Run {
+    /// The next events.
+    fn due(&self, history: &History) -> Due {
+        let mut due = Due {
+            edges: ArrayVec::new(),
+            host: ArrayVec::new(),
+        };
+        for edge in history.edges().iter().skip(self.edges).take(4) {
+            let _ = due.edges.try_push(*edge);
         }
-        joint.step(&none)?;
+        for event in history.host().iter().skip(self.host).take(2) {
+            let _ = due.host.try_push(*event);
+        }
+        due
     }
-    Ok(joint.cycle().saturating_sub(7))
+
+    /// Puts down what was said in this tick.
+    fn note(&mut self, items: &[Stamped]) -> Result<(), AllocError> {
+        for said in items {
+            let line = item_line(self.ticks.saturating_sub(1), said.item);
+            self.text.extend_from_slice(&line)?;
+        }
+        Ok(())
+    }
+
+    /// One step.
+    fn step(&mut self, history: &History) -> Result<(), Fail> {
+        if self.joint.cycle() > 10_000_000 {
+            return Err("too long".into());
+        }
+        let due = self.due(history);
+        let seen = self.joint.step(&due)?;
+        self.edges = self.edges.saturating_add(usize::from(seen.edges));
+        self.host = self.host.saturating_add(usize::from(seen.host));
+        self.note(seen.items.as_slice())?;
+        Ok(())
+    }
+
+    /// A tick starts. Answers whether it keeps the cadence, and the run goes on to this stamp.
+    fn goes_on(&mut self, end: u64) -> bool {
+        let least = 4096 + 2048 * u64::from(self.ticks);
+        let cycle = self.joint.cycle();
+        if cycle < least || cycle > least + 5 {
+            return false;
+        }
+        self.ticks = self.ticks.saturating_add(1);
+        cycle < end.saturating_add(4096)
+    }
 }
 
-/// The processor is where the kernel's first jump leads, and holds what the part held.
-fn holds(mcu: &Mcu, part: &Mcu) -> bool {
-    mcu.pc == RESTART
-        && mcu.ram == part.ram
-        && mcu.a == part.a
-        && mcu.t == part.t
-        && mcu.pre == part.pre
-        && mcu.psw == part.psw
-}
-
-/// The next events of these, each so many cycles later than its stamp.
-fn due_of(edges: &[Edge], host: &[HostEvent], later: u64) -> Due {
-    let mut due = Due {
-        edges: ArrayVec::new(),
-        host: ArrayVec::new(),
+/// The text of the run of a history, up to the first tick start at or after its end, and how many tick starts kept the cadence.
+fn log_of(alloc: Global, joint: Joint, history: &History) -> Result<(Vec<u8>, u32), Fail> {
+    let mut run = Run {
+        joint,
+        edges: 0,
+        host: 0,
+        ticks: 0,
+        text: Vec::new(alloc),
     };
-    for edge in edges.iter().take(4) {
-        let stamp = edge.stamp.wrapping_add(later);
-        let _ = due.edges.try_push(Edge { stamp, ..*edge });
-    }
-    for event in host.iter().take(2) {
-        let stamp = event.stamp.wrapping_add(later);
-        let _ = due.host.try_push(HostEvent { stamp, ..*event });
-    }
-    due
-}
-
-/// The text of the run of a history that begins so many cycles later, up to the first tick start at or after its end, and
-/// how many tick starts kept the cadence.
-fn log_of(
-    alloc: Global,
-    joint: &mut Joint,
-    history: &History,
-    later: u64,
-) -> Result<(Vec<u8>, u64), Fail> {
-    let mut text = Vec::new(alloc);
-    let mut edges = history.edges();
-    let mut host = history.host();
-    let mut due = due_of(edges, host, later);
-    let begin = later.wrapping_add(4096);
-    let end = begin.wrapping_add(history.end());
-    let mut starts = 0u32;
-    let mut least = begin;
     for _ in 0..1_000_000 {
-        if at_tick(joint) {
-            if joint.cycle() < least || joint.cycle() > least.saturating_add(5) {
-                break;
-            }
-            starts = starts.saturating_add(1);
-            least = least.saturating_add(2048);
-        }
-        if joint.cycle() >= end && at_tick(joint) || joint.cycle() > 10_000_000 {
+        if at_tick(&run.joint) && !run.goes_on(history.end()) {
             break;
         }
-        let seen = joint.step(&due)?;
-        for said in &seen.items {
-            text.extend_from_slice(&item_line(starts.saturating_sub(1), said.item))?;
-        }
-        if seen.edges > 0 || seen.host > 0 {
-            edges = edges.get(usize::from(seen.edges)..).unwrap_or(&[]);
-            host = host.get(usize::from(seen.host)..).unwrap_or(&[]);
-            due = due_of(edges, host, later);
-        }
+        run.step(history)?;
     }
-    Ok((text, u64::from(starts)))
+    Ok((run.text, run.ticks))
 }
 
-/// In each of four parts another program leaves what the part held when it was switched on, and then the kernel begins.
-/// The run of a history from there is the run from cleared memory, whole: the same log, and the cadence at each tick.
+/// The run of a history in each of four parts that hold anything when they are switched on is the run from cleared memory,
+/// whole: the same log, and the cadence at each tick.
 fn check_parts(rt: &impl Abort, alloc: Global, first: u32) -> Result<(), Fail> {
     let layout = us84_layout(alloc)?;
     let (keys, log) = TYPING_HI;
     let history = read_history(alloc, keys.as_bytes(), &layout)?;
-    assert!(rt; KERNEL.iter().skip(FREE).all(|byte| *byte == 0));
+    let image = compile(&layout);
     for turn in 0..4u32 {
         let seed = first.wrapping_add(turn);
-        let part = switched_on(seed);
-        let image = image_leaving(rt, alloc, &layout, &part)?;
-        let mut joint = Joint::power_on(&image, Bios::new(alloc)?);
-        let later = to_restart(&mut joint)?;
-        assert!(rt; holds(joint.mcu(), &part), "seed {seed}");
-        let (text, starts) = log_of(alloc, &mut joint, &history, later)?;
-        assert!(rt; text.as_slice() == log.as_bytes(), "seed {seed}");
-        assert_eq!(rt; starts, 158, "seed {seed}");
+        let joint = joint_of(alloc, &image, switched_on(seed))?;
+        let (text, ticks) = log_of(alloc, joint, &history)?;
+        assert!(rt;
+            text.as_slice() == log.as_bytes() && ticks == 158,
+            "seed {seed}"
+        );
     }
     Ok(())
 }

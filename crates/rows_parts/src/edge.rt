@@ -1,23 +1,33 @@
 //! A writer that takes a byte at a time, and the shelf and the sinks in memory.
 
 use io_edge::{DropSink, FetchFault, MemShelf, MemSink, Shelf, Sink, SinkFault, StreamSink, say};
+use std::alloc::{AllocError, Global};
 use std::io::{self, Write};
 use std::test::Fail;
 
-/// Whether the answer is these bytes.
-fn gave(answer: Result<Vec<u8>, FetchFault>, bytes: &[u8]) -> bool {
-    match answer {
-        Ok(given) => given.as_slice() == bytes,
-        Err(_) => false,
+/// Whether a fetch of at most so many bytes answers this.
+fn fetches(
+    alloc: Global,
+    shelf: &mut MemShelf,
+    name: &str,
+    most: usize,
+    answer: Result<&[u8], FetchFault>,
+) -> bool {
+    match (shelf.fetch(alloc, name, most), answer) {
+        (Ok(given), Ok(bytes)) => given.as_slice() == bytes,
+        (Err(given), Err(fault)) => given == fault,
+        (Ok(_), Err(_)) | (Err(_), Ok(_)) => false,
     }
 }
 
-/// Whether the answer is this fault.
-fn refused(answer: Result<Vec<u8>, FetchFault>, fault: FetchFault) -> bool {
-    match answer {
-        Ok(_) => false,
-        Err(given) => given == fault,
+/// Whether puts of these pieces, one after another, answer this.
+fn puts<K: Sink>(sink: &mut K, pieces: &[(&[u8], Result<usize, SinkFault>)]) -> bool {
+    for (piece, answer) in pieces {
+        if piece.is_empty() || sink.put(piece) != *answer {
+            return false;
+        }
     }
+    true
 }
 
 /// A writer that takes one byte at a time.
@@ -50,52 +60,67 @@ fn a_put_answers_what_the_writer_took(rt: HostRuntime) -> Result<(), Fail> {
     };
     let mut sink = StreamSink::new(&mut slow);
     for start in 0..text.len() {
-        assert_eq!(rt; sink.put(&text[start..]), Ok(1));
+        assert!(rt; sink.put(&text[start..]) == Ok(1));
     }
     drop(sink);
-    assert_eq!(rt; slow.taken.as_slice(), text.as_slice());
+    assert!(rt; slow.taken.as_slice() == text.as_slice());
+    Ok(())
+}
+
+/// A file of a shelf.
+fn file(alloc: Global, name: &str, bytes: &[u8]) -> Result<(String, Vec<u8>), AllocError> {
+    Ok((
+        String::from_str(alloc, name)?,
+        Vec::from_slice(alloc, bytes)?,
+    ))
+}
+
+#[test]
+fn a_shelf_in_memory_fails_when_it_is_asked_to(rt: HostRuntime) -> Result<(), Fail> {
+    let alloc = rt.alloc();
+    let mut files = Vec::new(alloc);
+    files.push(file(alloc, "f", b"one")?)?;
+    files.push(file(alloc, "f", b"two")?)?;
+    let mut shelf = MemShelf::new(files, Vec::from_slice(alloc, &[2])?);
+    let fetched: [(&str, usize, Result<&[u8], FetchFault>); 4] = [
+        ("f", 3, Ok(b"one")),
+        ("f", 3, Err(FetchFault::Failed)),
+        ("f", 2, Err(FetchFault::TooLong)),
+        ("g", 3, Err(FetchFault::Failed)),
+    ];
+    for (name, most, answer) in fetched {
+        assert!(rt; fetches(alloc, &mut shelf, name, most, answer));
+    }
     Ok(())
 }
 
 #[test]
-fn memory_fails_when_it_is_asked_to(rt: HostRuntime) -> Result<(), Fail> {
-    let mut files = Vec::new(rt.alloc());
-    files.push((
-        String::from_str(rt.alloc(), "f")?,
-        b"one".to_vec(rt.alloc())?,
-    ))?;
-    files.push((
-        String::from_str(rt.alloc(), "f")?,
-        b"two".to_vec(rt.alloc())?,
-    ))?;
-    let mut shelf = MemShelf::new(files, [2].to_vec(rt.alloc())?);
-    assert!(rt; gave(shelf.fetch(rt.alloc(), "f", 3), b"one"));
-    assert!(rt; refused(shelf.fetch(rt.alloc(), "f", 3), FetchFault::Failed));
-    assert!(rt; refused(shelf.fetch(rt.alloc(), "f", 2), FetchFault::TooLong));
-    assert!(rt; refused(shelf.fetch(rt.alloc(), "g", 3), FetchFault::Failed));
-
-    let mut sink = MemSink::new(rt.alloc(), 5, [2].to_vec(rt.alloc())?)?;
-    assert_eq!(rt; sink.put(b"abc"), Ok(3));
-    assert_eq!(rt; sink.put(b"def"), Err(SinkFault::Failed));
-    assert_eq!(rt; sink.put(b"def"), Ok(2));
-    assert_eq!(rt; sink.put(b"f"), Err(SinkFault::Failed));
-    assert_eq!(rt; sink.taken(), b"abcde".as_slice());
+fn a_sink_in_memory_fails_when_it_is_asked_to(rt: HostRuntime) -> Result<(), Fail> {
+    let mut sink = MemSink::new(rt.alloc(), 5, Vec::from_slice(rt.alloc(), &[2])?)?;
+    let pieces: [(&[u8], Result<usize, SinkFault>); 4] = [
+        (b"abc", Ok(3)),
+        (b"def", Err(SinkFault::Failed)),
+        (b"def", Ok(2)),
+        (b"f", Err(SinkFault::Failed)),
+    ];
+    assert!(rt; puts(&mut sink, &pieces));
+    assert!(rt; sink.taken() == b"abcde".as_slice());
     Ok(())
 }
 
 #[test]
 fn the_rest_is_put_again_until_a_put_fails(rt: HostRuntime) -> Result<(), Fail> {
-    let mut sink = MemSink::short(rt.alloc(), 100, [5].to_vec(rt.alloc())?, 2)?;
-    assert_eq!(rt; sink.put(b"abc"), Ok(2));
-    assert_eq!(rt; say(&mut sink, b"c\ndef\n"), Ok(()));
-    assert_eq!(rt; say(&mut sink, b"ghi\n"), Err(SinkFault::Failed));
-    assert_eq!(rt; sink.taken(), b"abc\ndef\n".as_slice());
+    let mut sink = MemSink::short(rt.alloc(), 100, Vec::from_slice(rt.alloc(), &[5])?, 2)?;
+    assert!(rt; sink.put(b"abc") == Ok(2));
+    assert!(rt; say(&mut sink, b"c\ndef\n") == Ok(()));
+    assert!(rt; say(&mut sink, b"ghi\n") == Err(SinkFault::Failed));
+    assert!(rt; sink.taken() == b"abc\ndef\n".as_slice());
     Ok(())
 }
 
 #[test]
 fn a_sink_that_drops_takes_every_piece_whole(rt: HostRuntime) {
     let mut sink = DropSink::new();
-    assert_eq!(rt; sink.put(b"64 port AA\n"), Ok(11));
-    assert_eq!(rt; say(&mut sink, b"beep\nbeep\n"), Ok(()));
+    assert!(rt; sink.put(b"64 port AA\n") == Ok(11));
+    assert!(rt; say(&mut sink, b"beep\nbeep\n") == Ok(()));
 }

@@ -4,27 +4,21 @@ use fw_kernel::cells::{
     AADUE, COUNT, DISABLED, FN, HEAD, HELD, LAST, LAYER, LIGHTS, MODE, RATE, RCOUNT, REPLY,
     REPLYDUE, RINDEX, STARTED, TEST,
 };
-use fw_kernel::{KERNEL, SOURCE, TICK, WAIT};
+use fw_kernel::{KERNEL, SOURCE, TICK};
 use mcs48_asm::assemble;
-use mcs48_core::{ALL_HIGH, reset};
-use mcs48_isa::{FlowOp, Image, Op, decode};
+use mcs48_core::{ALL_HIGH, Mcu, reset};
+use mcs48_isa::Image;
+use std::alloc::{AllocError, Global};
 use std::test::Fail;
 
-/// Jumps to the labels, at places that the kernel leaves free.
-const JUMPS: &str = "        ORG 7F0H\n        JMP tick\n        JMP wait\n";
-
-#[test]
-fn tick_and_wait_are_labels_of_the_source(rt: HostRuntime) -> Result<(), Fail> {
-    let source = format!(in rt.alloc(); "{SOURCE}{JUMPS}")?;
-    let image = assemble(rt.alloc(), source.as_bytes())?;
-    for (place, label) in [(0x7f0, TICK), (0x7f2, WAIT)] {
-        let jump = decode([image.bytes[place], image.bytes[place + 1]]);
-        assert_eq!(rt;
-            jump.map(|jump| jump.op),
-            Some(Op::Flow(FlowOp::Jmp(label)))
-        );
+/// The program memory that the source and this text after it fill.
+pub fn assembled(alloc: Global, after: &str) -> Result<Image, Fail> {
+    let mut text = String::from_str(alloc, SOURCE)?;
+    text.push_str(after)?;
+    if text.len() > 32_768 {
+        return Err("too long".into());
     }
-    Ok(())
+    Ok(assemble(alloc, text.as_bytes())?)
 }
 
 /// The cells that the source names, each with its name.
@@ -52,35 +46,72 @@ static TOLD: [(&str, u8); 2] = [("HEAD", HEAD), ("LAYER", LAYER)];
 /// A byte with each name for its value, assembled after the source, is the cell that its constant gives.
 #[test]
 fn each_cell_is_the_sources(rt: HostRuntime) -> Result<(), Fail> {
-    let alloc = rt.alloc();
-    let mut text = String::from_str(alloc, SOURCE)?;
-    text.push_str("\n ORG 700H\n")?;
+    let mut after = String::from_str(rt.alloc(), "\n ORG 700H\n")?;
     for (name, _) in &CELLS {
-        text.push_str(format!(in alloc; " DB {name}\n")?.as_str())?;
+        after.push_str(" DB ")?;
+        after.push_str(name)?;
+        after.push_str("\n")?;
     }
-    assert!(rt; text.len() < 32_768);
-    let image = assemble(alloc, text.as_bytes())?;
+    let image = assembled(rt.alloc(), after.as_str())?;
     for ((name, cell), byte) in CELLS.iter().zip(&image.bytes[0x700..]) {
-        assert_eq!(rt; *byte, *cell, "{}", name);
+        assert!(rt; *byte == *cell, "{}", name);
     }
     Ok(())
 }
 
-/// The source's table of data memory has a line for each: the cell, or the first of its cells, and the name.
+/// Whether the source's table of data memory has a line for a cell: the cell, or the first of its cells, and the name.
+fn is_in_table(alloc: Global, name: &str, cell: u8) -> Result<bool, AllocError> {
+    let start = format!(in alloc; ";   {cell:02X}")?;
+    let named = format!(in alloc; "{name} ")?;
+    for line in SOURCE.as_bytes().split(|byte| *byte == b'\n') {
+        if line.starts_with(start.as_bytes())
+            && line.len() > 12
+            && line[12..].starts_with(named.as_bytes())
+        {
+            return Ok(true);
+        }
+    }
+    Ok(false)
+}
+
 #[test]
 fn each_cell_is_in_the_sources_table(rt: HostRuntime) -> Result<(), Fail> {
     for (name, cell) in CELLS.iter().chain(&TOLD) {
-        let start = format!(in rt.alloc(); ";   {cell:02X}")?;
-        let named = format!(in rt.alloc(); "{name} ")?;
-        let found = SOURCE.as_bytes().split(|byte| *byte == b'\n').any(|line| {
-            line.starts_with(start.as_bytes())
-                && line
-                    .get(12..)
-                    .is_some_and(|rest| rest.starts_with(named.as_bytes()))
-        });
-        assert!(rt; found, "{}", name);
+        assert!(rt; is_in_table(rt.alloc(), name, *cell)?, "{}", name);
     }
     Ok(())
+}
+
+/// The processor alone, with all pins high: its cycles, and the ticks that have started.
+#[derive(Drop)]
+struct Alone {
+    mcu: Mcu,
+    cycle: u64,
+    ticks: u32,
+}
+
+impl Alone {
+    /// If a tick starts here, it is counted. Answers whether none starts, or this one keeps the cadence.
+    fn keeps_cadence(&mut self) -> bool {
+        if self.mcu.pc != TICK {
+            return true;
+        }
+        let least = 4096 + 2048 * u64::from(self.ticks);
+        self.ticks = self.ticks.saturating_add(1);
+        least <= self.cycle && self.cycle <= least + 5
+    }
+
+    /// One step. Answers whether there was an instruction.
+    fn step(&mut self, image: &Image) -> bool {
+        let cycles = self.mcu.step(image, ALL_HIGH).unwrap_or(0);
+        self.cycle = self.cycle.saturating_add(u64::from(cycles));
+        cycles > 0
+    }
+
+    /// Whether the power-on test has ended, or both wires are released and all lights out.
+    fn is_silent_in_test(&self) -> bool {
+        self.ticks > 64 || self.mcu.p2 == 0xff && self.mcu.bus == 0xff
+    }
 }
 
 /// The n-th tick begins at cycle 4,096 + 2,048 n, or at most five cycles later. Until the power-on test has ended both
@@ -88,23 +119,20 @@ fn each_cell_is_in_the_sources_table(rt: HostRuntime) -> Result<(), Fail> {
 #[test]
 fn ticks_keep_the_cadence_and_pull_no_wire_in_the_test(rt: HostRuntime) {
     let image = Image { bytes: KERNEL };
-    let mut mcu = reset();
-    let mut cycle: u64 = 0;
-    let mut least: u64 = 4096;
-    let mut ticks: u32 = 0;
+    let mut alone = Alone {
+        mcu: reset(),
+        cycle: 0,
+        ticks: 0,
+    };
     for _step in 0..340_000 {
-        if mcu.pc == TICK {
-            let kept = least <= cycle && cycle <= least.saturating_add(5);
-            assert!(rt; kept, "tick {ticks} begins at cycle {cycle}");
-            least = least.saturating_add(2048);
-            ticks = ticks.saturating_add(1);
-        }
-        let cycles = mcu.step(&image, ALL_HIGH).unwrap_or(0);
-        assert!(rt; cycles > 0, "no instruction at {}", mcu.pc);
-        cycle = cycle.saturating_add(u64::from(cycles));
-        if ticks <= 64 {
-            assert_eq!(rt; (mcu.p2, mcu.bus), (0xff, 0xff));
-        }
+        assert!(rt;
+            alone.keeps_cadence(),
+            "tick {} begins at cycle {}",
+            alone.ticks,
+            alone.cycle
+        );
+        assert!(rt; alone.step(&image), "no instruction at {}", alone.mcu.pc);
+        assert!(rt; alone.is_silent_in_test(), "cycle {}", alone.cycle);
     }
-    assert!(rt; ticks >= 300, "only {ticks} ticks");
+    assert!(rt; alone.ticks >= 300, "only {} ticks", alone.ticks);
 }

@@ -1,5 +1,7 @@
 //! The kernel's source: its bytes, and the places of its labels.
 
+use crate::kernel::assembled;
+use fw_kernel::KERNEL;
 use fw_kernel::labels::{
     AGAIN, BEGIN, BEGINS, BLANK, CLEAR, COLUMN, COMMAND, CUT, DEFAULT, DONE, DROP, EDGE, EDGES,
     ENDS, ENTER, ENTER2, ENTERED, FIRE, FN_DOWN, FN_HELD, FN_UP, FOOT, GOT, HEAL, IDLE, INHIBITED,
@@ -7,13 +9,11 @@ use fw_kernel::labels::{
     R_CELL, R_PARITY, R_STOP, READ, READY, RECEIVE, RELEASE, REPEAT, RESET, REST, RESTART, ROW,
     ROWS, S_CELL, S_STOP, SCAN, SEND, SENT, SILENT, START, TESTED, TESTING, TICK, WAIT, WAITING,
 };
-use fw_kernel::{KERNEL, SOURCE};
-use mcs48_asm::assemble;
 use std::test::Fail;
 
 #[test]
 fn the_source_is_the_kernels(rt: HostRuntime) -> Result<(), Fail> {
-    let image = assemble(rt.alloc(), SOURCE.as_bytes())?;
+    let image = assembled(rt.alloc(), "")?;
     assert!(rt; image.bytes == KERNEL);
     Ok(())
 }
@@ -85,25 +85,30 @@ static LABELS: [(&str, u16); 63] = [
     ("fn_held", FN_HELD),
 ];
 
+/// Whether these bytes begin with a jump to a place.
+fn is_jump(bytes: &[u8], to: u16) -> bool {
+    match bytes {
+        [first, second, ..] => {
+            u16::from(*first) == to / 256 * 32 + 4 && u16::from(*second) == to % 256
+        }
+        _ => false,
+    }
+}
+
 /// A jump to each label, assembled after the source, goes to the place that its constant gives.
 #[test]
 fn each_label_has_its_place(rt: HostRuntime) -> Result<(), Fail> {
-    let alloc = rt.alloc();
-    let mut text = String::from_str(alloc, SOURCE)?;
-    text.push_str("\n ORG 700H\n")?;
+    let mut after = String::from_str(rt.alloc(), "\n ORG 700H\n")?;
     for (name, _) in &LABELS {
-        text.push_str(" JMP ")?;
-        text.push_str(name)?;
-        text.push_str("\n")?;
+        after.push_str(" JMP ")?;
+        after.push_str(name)?;
+        after.push_str("\n")?;
     }
-    assert!(rt; text.len() < 32_768);
-    let image = assemble(alloc, text.as_bytes())?;
-    let mut bytes = image.bytes[0x700..].iter();
+    let image = assembled(rt.alloc(), after.as_str())?;
+    let mut jumps = &image.bytes[0x700..];
     for (name, place) in &LABELS {
-        let first = bytes.next().map(|byte| u16::from(*byte));
-        let second = bytes.next().map(|byte| u16::from(*byte));
-        assert_eq!(rt; first, Some(*place / 256 * 32 + 4), "{}", name);
-        assert_eq!(rt; second, Some(*place % 256), "{}", name);
+        assert!(rt; is_jump(jumps, *place), "{}", name);
+        jumps = jumps.get(2..).unwrap_or(&[]);
     }
     Ok(())
 }

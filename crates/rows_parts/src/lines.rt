@@ -1,44 +1,42 @@
 //! Texts by hand, with their parts.
 
-use std::process::Abort;
 use std::test::Fail;
 use text_lines::{decimal, hexadecimal, is_blank_line, next_field, next_line, split_once};
 
-/// Asserts that what is left of a text begins with this line, and gives the text after it.
-fn take_line<'a>(rt: &impl Abort, text: &'a [u8], wanted: &[u8]) -> &'a [u8] {
-    let Some((line, after)) = next_line(text) else {
-        panic!(rt; "no line")
-    };
-    assert!(rt; line == wanted, "{line:?}");
-    after
+/// Whether a text has these lines, and no more.
+fn has_lines(mut text: &[u8], lines: &[&[u8]]) -> bool {
+    for line in lines {
+        match next_line(text) {
+            Some((next, after)) if next == *line => text = after,
+            _ => return false,
+        }
+    }
+    next_line(text).is_none()
 }
 
-/// Asserts that what is left of a line begins with this field, and gives the text after it.
-fn take_field<'a>(rt: &impl Abort, line: &'a [u8], wanted: &[u8]) -> &'a [u8] {
-    let Some((field, after)) = next_field(line) else {
-        panic!(rt; "no field")
-    };
-    assert!(rt; field == wanted, "{field:?}");
-    after
+/// Whether a line has these fields, and no more.
+fn has_fields(mut line: &[u8], fields: &[&[u8]]) -> bool {
+    for field in fields {
+        match next_field(line) {
+            Some((next, after)) if next == *field => line = after,
+            _ => return false,
+        }
+    }
+    next_field(line).is_none()
 }
 
 #[test]
 fn lines_end_with_lf_or_with_cr_and_lf(rt: HostRuntime) {
-    let rest = take_line(&rt, b"first\nsecond\r\n\n\rlast\r", b"first");
-    let rest = take_line(&rt, rest, b"second");
-    let rest = take_line(&rt, rest, b"");
-    let rest = take_line(&rt, rest, b"\rlast\r");
-    assert!(rt; next_line(rest).is_none());
-    assert!(rt; next_line(b"").is_none());
+    let lines: [&[u8]; 4] = [b"first", b"second", b"", b"\rlast\r"];
+    assert!(rt; has_lines(b"first\nsecond\r\n\n\rlast\r", &lines));
+    assert!(rt; has_lines(b"", &[]));
 }
 
 #[test]
 fn fields_are_parted_by_spaces_and_tabs(rt: HostRuntime) {
-    let rest = take_field(&rt, b" \t400ms press\t a\r \t", b"400ms");
-    let rest = take_field(&rt, rest, b"press");
-    let rest = take_field(&rt, rest, b"a\r");
-    assert!(rt; next_field(rest).is_none());
-    assert!(rt; next_field(b" \t ").is_none());
+    let fields: [&[u8]; 3] = [b"400ms", b"press", b"a\r"];
+    assert!(rt; has_fields(b" \t400ms press\t a\r \t", &fields));
+    assert!(rt; has_fields(b" \t ", &[]));
     assert!(rt; is_blank_line(b" \t "));
     assert!(rt; !is_blank_line(b" \r"));
 }
@@ -48,23 +46,37 @@ fn single_spaces_part_empty_pieces_too(rt: HostRuntime) {
     let Some((first, rest)) = split_once(b' ', b"step  5") else {
         panic!(rt; "no space")
     };
-    assert!(rt; first == b"step".as_slice());
-    assert!(rt; rest == b" 5".as_slice());
+    assert!(rt; first == b"step".as_slice() && rest == b" 5".as_slice());
     assert!(rt; split_once(b' ', b"step").is_none());
 }
 
+/// A number's digits, in decimal at most so many and in hexadecimal just so many, and the number, if it is one.
+type Digits = (usize, &'static [u8], Option<u32>);
+
+static DECIMAL: [Digits; 6] = [
+    (9, b"999999999", Some(999_999_999)),
+    (9, b"0000000000", None),
+    (2, b"07", Some(7)),
+    (9, b"", None),
+    (9, b"1a", None),
+    (9, b"-1", None),
+];
+
+static HEXADECIMAL: [Digits; 5] = [
+    (2, b"eD", Some(0xed)),
+    (3, b"7FF", Some(0x7ff)),
+    (8, b"FFFFFFFF", Some(0xffff_ffff)),
+    (2, b"0ED", None),
+    (2, b"G0", None),
+];
+
 #[test]
 fn numbers_have_a_bounded_number_of_digits(rt: HostRuntime) -> Result<(), Fail> {
-    assert_eq!(rt; decimal(9, b"999999999"), Some(999_999_999));
-    assert_eq!(rt; decimal(9, b"0000000000"), None);
-    assert_eq!(rt; decimal(2, b"07"), Some(7));
-    assert_eq!(rt; decimal(9, b""), None);
-    assert_eq!(rt; decimal(9, b"1a"), None);
-    assert_eq!(rt; decimal(9, b"-1"), None);
-    assert_eq!(rt; hexadecimal(2, b"eD"), Some(0xed));
-    assert_eq!(rt; hexadecimal(3, b"7FF"), Some(0x7ff));
-    assert_eq!(rt; hexadecimal(8, b"FFFFFFFF"), Some(0xffff_ffff));
-    assert_eq!(rt; hexadecimal(2, b"0ED"), None);
-    assert_eq!(rt; hexadecimal(2, b"G0"), None);
+    for (most, digits, number) in &DECIMAL {
+        assert!(rt; *most < 10 && decimal(*most, digits) == *number);
+    }
+    for (count, digits, number) in &HEXADECIMAL {
+        assert!(rt; *count < 9 && hexadecimal(*count, digits) == *number);
+    }
     Ok(())
 }

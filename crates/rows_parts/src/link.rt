@@ -38,29 +38,35 @@ use Row::{
     Comes, Filled, HandedOver, InputFull, Is, OutputFull, Read, Resends, Settle, Status, Write,
 };
 
+/// Plays a row. Answers whether what it says is so.
+fn is_so(port: &mut LinkEnd<u8>, row: Row) -> bool {
+    match row {
+        Write(to, byte) => port.core.host_write(to, byte).is_ok(),
+        Read(byte) => port.core.host_read60() == byte,
+        Comes(_, _) | HandedOver if port.core.output_full() => false,
+        Comes(now, byte) => {
+            port.receive(now, byte);
+            true
+        }
+        HandedOver => {
+            port.hand_over();
+            true
+        }
+        Settle(now, did) => port.settle(now) == did,
+        Is(link) => port.link == link,
+        Filled(cycle) => port.filled == cycle,
+        InputFull(full) => port.core.input_full() == full,
+        OutputFull(full) => port.core.output_full() == full,
+        Resends(count) => port.core.resends() == count,
+        Status(byte) => port.core.status() == byte,
+    }
+}
+
 /// Plays the rows of an example, from the start on.
 fn play(rt: &impl Abort, rows: &[Row]) {
     let mut port: LinkEnd<u8> = LinkEnd::new();
     for (at, row) in rows.iter().enumerate() {
-        match *row {
-            Write(to, byte) => assert!(rt; port.core.host_write(to, byte).is_ok(), "row {at}"),
-            Read(byte) => assert_eq!(rt; port.core.host_read60(), byte, "row {at}"),
-            Comes(now, byte) => {
-                assert!(rt; !port.core.output_full(), "row {at}");
-                port.receive(now, byte);
-            }
-            HandedOver => {
-                assert!(rt; !port.core.output_full(), "row {at}");
-                port.hand_over();
-            }
-            Settle(now, did) => assert_eq!(rt; port.settle(now), did, "row {at}"),
-            Is(link) => assert_eq!(rt; port.link, link, "row {at}"),
-            Filled(cycle) => assert_eq!(rt; port.filled, cycle, "row {at}"),
-            InputFull(full) => assert_eq!(rt; port.core.input_full(), full, "row {at}"),
-            OutputFull(full) => assert_eq!(rt; port.core.output_full(), full, "row {at}"),
-            Resends(count) => assert_eq!(rt; port.core.resends(), count, "row {at}"),
-            Status(byte) => assert_eq!(rt; port.core.status(), byte, "row {at}"),
-        }
+        assert!(rt; is_so(&mut port, *row), "row {at}");
     }
 }
 

@@ -92,159 +92,239 @@ impl Bench {
     }
 }
 
-/// The host writes a byte, while the keyboard lets both wires go.
-fn write(rt: &impl Abort, bench: &mut Bench, port: Port, byte: u8) {
-    assert!(rt; bench.cycle(HIGH, Some((port, byte))));
+/// A row of an example: what the keyboard or the host does at the wires, or what is so then.
+#[derive(Clone, Copy, Drop)]
+enum Row {
+    /// Cycles up to before this one, in which the keyboard drives these levels.
+    To(u64, Lines),
+    /// The keyboard's cells of these bits.
+    Cells(&'static [u8]),
+    /// The host writes a byte, which is taken into the input buffer, while the keyboard lets both wires go.
+    Write(Port, u8),
+    /// The host reads this byte from port 60h.
+    Read(u8),
+    /// Noise turns round this bit of the next frame.
+    Flip(u8),
+    /// The controller drives these levels.
+    Drives(Lines),
+    /// Whether the input buffer is full.
+    InputFull(bool),
+    /// Whether the output buffer is full.
+    OutputFull(bool),
+    /// The output buffer was last filled in this cycle.
+    Filled(u64),
+    /// How many times in a row a byte was asked for again.
+    Resends(u8),
+}
+
+use Port::{P60, P64};
+use Row::{Cells, Drives, Filled, Flip, InputFull, OutputFull, Read, Resends, To, Write};
+
+/// Plays a row. Answers whether what it says is so.
+fn is_so(bench: &mut Bench, row: Row) -> bool {
+    match row {
+        To(cycle, keyboard) => bench.run_to(cycle, keyboard),
+        Cells(bits) => bench.cells(bits),
+        Flip(bit) => bench.flip(bit),
+        Write(port, byte) => return bench.cycle(HIGH, Some((port, byte))),
+        Read(byte) => return bench.wire.host_read60() == byte,
+        Drives(lines) => return bench.wire.drive() == lines,
+        InputFull(full) => return bench.wire.core().input_full() == full,
+        OutputFull(full) => return bench.wire.core().output_full() == full,
+        Filled(cycle) => return bench.wire.filled() == cycle,
+        Resends(count) => return bench.wire.core().resends() == count,
+    }
+    true
+}
+
+/// Plays the rows of an example, from the start on.
+fn play(rt: &impl Abort, rows: &[Row]) {
+    let mut bench = Bench::new();
+    for (at, row) in rows.iter().enumerate() {
+        assert!(rt; is_so(&mut bench, *row), "row {at}");
+    }
 }
 
 #[test]
 fn a_byte_of_the_keyboard_is_received_at_the_eleventh_edge(rt: HostRuntime) {
-    let mut bench = Bench::new();
-    bench.run_to(100, HIGH);
-    bench.cells(b"0001110000");
-    assert_eq!(rt; bench.wire.drive(), HIGH);
-    assert!(rt; !bench.wire.core().output_full());
-    bench.run_to(421, CLOCK_LOW);
-    assert!(rt; bench.wire.core().output_full());
-    assert_eq!(rt; bench.wire.filled(), 420);
-    assert_eq!(rt; bench.wire.drive(), CLOCK_LOW);
-    bench.run_to(436, CLOCK_LOW);
-    bench.run_to(600, HIGH);
-    assert_eq!(rt; bench.wire.drive(), CLOCK_LOW);
-    assert_eq!(rt; bench.wire.host_read60(), 0x1e);
-    bench.run_to(601, HIGH);
-    assert_eq!(rt; bench.wire.drive(), HIGH);
+    play(
+        &rt,
+        &[
+            To(100, HIGH),
+            Cells(b"0001110000"),
+            Drives(HIGH),
+            OutputFull(false),
+            To(421, CLOCK_LOW),
+            OutputFull(true),
+            Filled(420),
+            Drives(CLOCK_LOW),
+            To(436, CLOCK_LOW),
+            To(600, HIGH),
+            Drives(CLOCK_LOW),
+            Read(0x1e),
+            To(601, HIGH),
+            Drives(HIGH),
+        ],
+    );
 }
 
 #[test]
 fn a_byte_read_at_once_leaves_a_hold_of_64_cycles(rt: HostRuntime) {
-    let mut bench = Bench::new();
-    bench.run_to(100, HIGH);
-    bench.cells(b"0001110000");
-    bench.run_to(421, CLOCK_LOW);
-    assert_eq!(rt; bench.wire.host_read60(), 0x1e);
-    bench.run_to(484, HIGH);
-    assert_eq!(rt; bench.wire.drive(), CLOCK_LOW);
-    bench.run_to(485, HIGH);
-    assert_eq!(rt; bench.wire.drive(), HIGH);
+    play(
+        &rt,
+        &[
+            To(100, HIGH),
+            Cells(b"0001110000"),
+            To(421, CLOCK_LOW),
+            Read(0x1e),
+            To(484, HIGH),
+            Drives(CLOCK_LOW),
+            To(485, HIGH),
+            Drives(HIGH),
+        ],
+    );
 }
 
 #[test]
 fn a_byte_of_wrong_parity_is_asked_for_again(rt: HostRuntime) {
-    let mut bench = Bench::new();
-    bench.run_to(100, HIGH);
-    bench.cells(b"0001110001");
-    bench.run_to(421, CLOCK_LOW);
-    assert!(rt; !bench.wire.core().output_full());
-    assert_eq!(rt; bench.wire.filled(), 0);
-    assert_eq!(rt; bench.wire.drive(), CLOCK_LOW);
-    assert_eq!(rt; bench.wire.core().resends(), 1);
-    bench.run_to(485, HIGH);
-    assert_eq!(rt; bench.wire.drive(), DATA_LOW);
+    play(
+        &rt,
+        &[
+            To(100, HIGH),
+            Cells(b"0001110001"),
+            To(421, CLOCK_LOW),
+            OutputFull(false),
+            Filled(0),
+            Drives(CLOCK_LOW),
+            Resends(1),
+            To(485, HIGH),
+            Drives(DATA_LOW),
+        ],
+    );
 }
 
 #[test]
 fn the_last_flip_is_used_by_the_next_frame_alone(rt: HostRuntime) {
-    let mut bench = Bench::new();
-    bench.flip(9);
-    bench.flip(3);
-    bench.run_to(100, HIGH);
-    bench.cells(b"0001110000");
-    bench.run_to(421, CLOCK_LOW);
-    assert_eq!(rt; bench.wire.core().resends(), 1);
-    // FE goes out to the keyboard, which sends its byte again
-    bench.run_to(600, HIGH);
-    bench.cells(b"11111111111");
-    bench.run_to(1100, HIGH);
-    bench.cells(b"0001110000");
-    bench.run_to(1421, CLOCK_LOW);
-    assert_eq!(rt; bench.wire.core().resends(), 0);
-    assert_eq!(rt; bench.wire.host_read60(), 0x1e);
+    play(
+        &rt,
+        &[
+            Flip(9),
+            Flip(3),
+            To(100, HIGH),
+            Cells(b"0001110000"),
+            To(421, CLOCK_LOW),
+            Resends(1),
+            // FE goes out to the keyboard, which sends its byte again
+            To(600, HIGH),
+            Cells(b"11111111111"),
+            To(1100, HIGH),
+            Cells(b"0001110000"),
+            To(1421, CLOCK_LOW),
+            Resends(0),
+            Read(0x1e),
+        ],
+    );
 }
 
 #[test]
 fn a_waiting_input_breaks_off_a_frame_before_its_tenth_edge(rt: HostRuntime) {
-    let mut bench = Bench::new();
-    bench.run_to(100, HIGH);
-    bench.cells(b"000111000");
-    assert_eq!(rt; bench.wire.drive(), HIGH);
-    write(&rt, &mut bench, Port::P64, 0xaa);
-    assert_eq!(rt; bench.wire.drive(), CLOCK_LOW);
-    assert!(rt; bench.wire.core().output_full());
-    assert_eq!(rt; bench.wire.filled(), 388);
+    play(
+        &rt,
+        &[
+            To(100, HIGH),
+            Cells(b"000111000"),
+            Drives(HIGH),
+            Write(P64, 0xaa),
+            Drives(CLOCK_LOW),
+            OutputFull(true),
+            Filled(388),
+        ],
+    );
 }
 
 #[test]
 fn from_the_tenth_edge_on_an_input_waits(rt: HostRuntime) {
-    let mut bench = Bench::new();
-    bench.run_to(100, HIGH);
-    bench.cells(b"0001110000");
-    write(&rt, &mut bench, Port::P64, 0xaa);
-    assert_eq!(rt; bench.wire.drive(), HIGH);
-    assert!(rt; bench.wire.core().input_full());
-    bench.run_to(422, CLOCK_LOW);
-    assert_eq!(rt; bench.wire.host_read60(), 0x1e);
+    play(
+        &rt,
+        &[
+            To(100, HIGH),
+            Cells(b"0001110000"),
+            Write(P64, 0xaa),
+            Drives(HIGH),
+            InputFull(true),
+            To(422, CLOCK_LOW),
+            Read(0x1e),
+        ],
+    );
 }
 
 #[test]
 fn a_byte_for_the_keyboard_is_put_out_at_its_edges(rt: HostRuntime) {
-    let mut bench = Bench::new();
-    bench.run_to(600, HIGH);
-    write(&rt, &mut bench, Port::P60, 0xed);
-    assert_eq!(rt; bench.wire.drive(), CLOCK_LOW);
-    bench.run_to(664, HIGH);
-    assert_eq!(rt; bench.wire.drive(), CLOCK_LOW);
-    bench.run_to(665, HIGH);
-    assert_eq!(rt; bench.wire.drive(), DATA_LOW);
-    bench.run_to(700, HIGH);
-    assert_eq!(rt; bench.wire.drive(), DATA_LOW);
-    // ED is 1011 0111, the lowest bit first, with the parity bit 1
-    bench.cell(true);
-    assert_eq!(rt; bench.wire.drive(), HIGH);
-    bench.cell(true);
-    assert_eq!(rt; bench.wire.drive(), DATA_LOW);
-    bench.cell(true);
-    assert_eq!(rt; bench.wire.drive(), HIGH);
-    bench.cell(true);
-    assert_eq!(rt; bench.wire.drive(), HIGH);
-    bench.cell(true);
-    assert_eq!(rt; bench.wire.drive(), DATA_LOW);
-    bench.cells(b"1111");
-    assert_eq!(rt; bench.wire.drive(), HIGH);
-    bench.cell(true);
-    assert_eq!(rt; bench.wire.drive(), HIGH);
-    // the eleventh edge hands the byte over, and a reply is awaited: nothing more is taken
-    bench.cell(false);
-    assert_eq!(rt; bench.wire.drive(), HIGH);
-    bench.run_to(1052, HIGH);
-    write(&rt, &mut bench, Port::P60, 0x02);
-    assert!(rt; bench.wire.core().input_full());
-    assert_eq!(rt; bench.wire.drive(), HIGH);
-    // FA comes, is read, and the next byte is asked for under the same hold
-    bench.run_to(1100, HIGH);
-    bench.cells(b"00101111111");
-    assert_eq!(rt; bench.wire.filled(), 1420);
-    assert_eq!(rt; bench.wire.host_read60(), 0xfa);
-    bench.run_to(1484, HIGH);
-    assert!(rt; !bench.wire.core().input_full());
-    assert_eq!(rt; bench.wire.drive(), CLOCK_LOW);
-    bench.run_to(1485, HIGH);
-    assert_eq!(rt; bench.wire.drive(), DATA_LOW);
+    play(
+        &rt,
+        &[
+            To(600, HIGH),
+            Write(P60, 0xed),
+            Drives(CLOCK_LOW),
+            To(664, HIGH),
+            Drives(CLOCK_LOW),
+            To(665, HIGH),
+            Drives(DATA_LOW),
+            To(700, HIGH),
+            Drives(DATA_LOW),
+            // ED is 1011 0111, the lowest bit first, with the parity bit 1
+            Cells(b"1"),
+            Drives(HIGH),
+            Cells(b"1"),
+            Drives(DATA_LOW),
+            Cells(b"1"),
+            Drives(HIGH),
+            Cells(b"1"),
+            Drives(HIGH),
+            Cells(b"1"),
+            Drives(DATA_LOW),
+            Cells(b"1111"),
+            Drives(HIGH),
+            Cells(b"1"),
+            Drives(HIGH),
+            // the eleventh edge hands the byte over, and a reply is awaited: nothing more is taken
+            Cells(b"0"),
+            Drives(HIGH),
+            To(1052, HIGH),
+            Write(P60, 0x02),
+            InputFull(true),
+            Drives(HIGH),
+            // FA comes, is read, and the next byte is asked for under the same hold
+            To(1100, HIGH),
+            Cells(b"00101111111"),
+            Filled(1420),
+            Read(0xfa),
+            To(1484, HIGH),
+            InputFull(false),
+            Drives(CLOCK_LOW),
+            To(1485, HIGH),
+            Drives(DATA_LOW),
+        ],
+    );
 }
 
 #[test]
 fn edges_are_ignored_while_the_clock_is_pulled(rt: HostRuntime) {
-    let mut bench = Bench::new();
-    write(&rt, &mut bench, Port::P64, 0xad);
-    assert_eq!(rt; bench.wire.drive(), CLOCK_LOW);
-    bench.run_to(100, HIGH);
-    bench.cells(b"00011100001");
-    assert!(rt; !bench.wire.core().output_full());
-    bench.run_to(452, HIGH);
-    write(&rt, &mut bench, Port::P64, 0xae);
-    assert_eq!(rt; bench.wire.drive(), HIGH);
-    bench.run_to(500, HIGH);
-    bench.cells(b"00011100001");
-    assert!(rt; bench.wire.core().output_full());
-    assert_eq!(rt; bench.wire.filled(), 820);
+    play(
+        &rt,
+        &[
+            Write(P64, 0xad),
+            Drives(CLOCK_LOW),
+            To(100, HIGH),
+            Cells(b"00011100001"),
+            OutputFull(false),
+            To(452, HIGH),
+            Write(P64, 0xae),
+            Drives(HIGH),
+            To(500, HIGH),
+            Cells(b"00011100001"),
+            OutputFull(true),
+            Filled(820),
+        ],
+    );
 }
