@@ -177,32 +177,34 @@ fn joint_of(alloc: Global, image: &Image, part: Mcu) -> Result<Joint, AllocError
     }))
 }
 
-/// A run under a history: how many of its edges and events were made, how many ticks have started, and what was said.
+/// The next events of a history, after so many of its edges and events.
+fn next_due(history: &History, edges: usize, host: usize) -> Due {
+    let mut due = Due {
+        edges: ArrayVec::new(),
+        host: ArrayVec::new(),
+    };
+    for edge in history.edges().iter().skip(edges).take(4) {
+        let _ = due.edges.try_push(*edge);
+    }
+    for event in history.host().iter().skip(host).take(2) {
+        let _ = due.host.try_push(*event);
+    }
+    due
+}
+
+/// A run under a history: how many of its edges and events were made, the next ones, how many ticks have started, and what was
+/// said.
 #[derive(Drop)]
 struct Run {
     joint: Joint,
     edges: usize,
     host: usize,
+    due: Due,
     ticks: u32,
     text: Vec<u8>,
 }
 
 impl Run {
-    /// The next events.
-    fn due(&self, history: &History) -> Due {
-        let mut due = Due {
-            edges: ArrayVec::new(),
-            host: ArrayVec::new(),
-        };
-        for edge in history.edges().iter().skip(self.edges).take(4) {
-            let _ = due.edges.try_push(*edge);
-        }
-        for event in history.host().iter().skip(self.host).take(2) {
-            let _ = due.host.try_push(*event);
-        }
-        due
-    }
-
     /// Puts down what was said in this tick.
     fn note(&mut self, items: &[Stamped]) -> Result<(), AllocError> {
         for said in items {
@@ -217,11 +219,13 @@ impl Run {
         if self.joint.cycle() > 10_000_000 {
             return Err("too long".into());
         }
-        let due = self.due(history);
-        let seen = self.joint.step(&due)?;
-        self.edges = self.edges.saturating_add(usize::from(seen.edges));
-        self.host = self.host.saturating_add(usize::from(seen.host));
+        let seen = self.joint.step(&self.due)?;
         self.note(seen.items.as_slice())?;
+        if seen.edges > 0 || seen.host > 0 {
+            self.edges = self.edges.saturating_add(usize::from(seen.edges));
+            self.host = self.host.saturating_add(usize::from(seen.host));
+            self.due = next_due(history, self.edges, self.host);
+        }
         Ok(())
     }
 
@@ -243,6 +247,7 @@ fn log_of(alloc: Global, joint: Joint, history: &History) -> Result<(Vec<u8>, u3
         joint,
         edges: 0,
         host: 0,
+        due: next_due(history, 0, 0),
         ticks: 0,
         text: Vec::new(alloc),
     };
