@@ -18,7 +18,7 @@ use toml::{Table, Value};
 
 /// An entry of a layout: the place of a key, the key, and what it sends. The Fn key, which selects the second layer,
 /// sends nothing.
-#[derive(Clone, Copy, PartialEq, Eq)]
+#[derive(Clone, Copy, Debug, PartialEq, Eq)]
 pub struct Entry {
     /// Where the key is.
     pub place: Place,

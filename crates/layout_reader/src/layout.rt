@@ -13,7 +13,7 @@ use std::marker::Model;
 
 /// A layout: a rate and entries in the order of the document, in which no place and no key occurs twice, and at most
 /// one is the Fn key's.
-#[derive(Drop)]
+#[derive(Debug, Drop)]
 pub struct Layout {
     rate: u8,
     entries: Vec<Entry>,

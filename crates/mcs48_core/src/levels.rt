@@ -2,7 +2,7 @@
 
 /// The levels at the processor's pins in one step: the eight pins of port 1, of port 2 and of the bus, pin k as bit
 /// k, and T0, T1 and INT, each true if it is high.
-#[derive(Clone, Copy, PartialEq, Eq, Drop)]
+#[derive(Clone, Copy, Debug, PartialEq, Eq, Drop)]
 pub struct Pins {
     pub p1: u8,
     pub p2: u8,
