@@ -1,4 +1,4 @@
--- What a plain instruction leaves alone.
+-- An instruction by its group: a plain one leaves the timer alone, and a closed one lets no interrupt in.
 use Rattle.std.proofs.Common.{◌≡◌, ℕ, List, true, refl, inl, inr}
 use Rattle.mcs48_isa.specs.declared.operation.Op.{Op}
 use Rattle.mcs48_isa.specs.declared.operation.Op.TheVariants.{Moves, Alu, Unary, Flow, PortIo, Control}
@@ -25,6 +25,7 @@ use Rattle.mcs48_core.specs.Control.{control}
 use Rattle.mcs48_core.specs.Step.{effect}
 use Rattle.fw_logic.proofs.TimerParts.{IsFree, is_closed, is_plain, timer_parts}
 
+-- of each group, whether its plain instructions leave the timer alone; those that set it, or its flags, aren't plain
 moves_timer : (op : MoveOp) (bytes : List ℕ) (m : Cpu) → is_plain (Moves op) ≡ true
     → timer_parts (move op bytes m) ≡ timer_parts m
 moves_timer MovTA bytes m h = absurd cc
@@ -67,6 +68,8 @@ effect_timer (Flow op) bytes pins m h = flow_timer op bytes pins m h
 effect_timer (PortIo op) bytes pins m h = port_timer op pins m
 effect_timer (Control op) bytes pins m h = control_timer op m h
 
+-- of each group, whether its closed instructions leave a processor that takes no interrupt so; those that let one in
+-- aren't closed
 moves_free : (op : MoveOp) (bytes : List ℕ) (m : Cpu) → IsFree m → IsFree (move op bytes m)
 moves_free MovTA bytes m h = h
 moves_free op bytes m h = h
@@ -107,6 +110,7 @@ effect_free (Flow op) bytes pins m c h = flow_free op bytes pins m c h
 effect_free (PortIo op) bytes pins m c h = port_free op pins m h
 effect_free (Control op) bytes pins m c h = control_free op m c h
 
+-- a plain instruction is closed too
 plain_moves : (op : MoveOp) → is_plain (Moves op) ≡ true → is_closed (Moves op) ≡ true
 plain_moves MovTA h = refl
 plain_moves op h = refl
