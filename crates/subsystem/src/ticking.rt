@@ -15,8 +15,9 @@ use key_file::History;
 use layout_reader::Layout;
 use std::alloc::{AllocError, Global};
 
-/// The stamps of the tick starts in the run that `run` makes. After each step each probe looks at the state that it led to. Each start is at its multiple of 2,048 or at most five cycles past it. Only memory may run out:
-/// then the probes have looked at the states of some first steps.
+/// The stamps of the tick starts in the run that `run` makes. After each step each probe looks at the state that it led
+/// to. Each start is at its multiple of 2,048 or at most five cycles past it. Only memory may run out: then the probes have
+/// looked at the states of some first steps.
 pub fn tick_starts(
     alloc: Global,
     layout: &Layout,
