@@ -38,25 +38,25 @@ all_said x y text rest h none =
 
 -- the next line is said, or a put of it fails
 module _ (x y z : Shown) (text rest line after : List ℕ) (h : IsSaidTo x y text rest) (next : rest ≡ line ++ after) (ends : EndsLine line)
-    where
-  afterwards : (h.front ++ line) ++ after ≡ text
-  afterwards = append_assoc h.front line after ∙ ap (λ t. h.front ++ t) (sym next) ∙ h.whole
+  where
+    afterwards : (h.front ++ line) ++ after ≡ text
+    afterwards = append_assoc h.front line after ∙ ap (λ t. h.front ++ t) (sym next) ∙ h.whole
 
-  front_lines : AreLines (h.front ++ line)
-  front_lines = lines_after h.front line h.lines (inr ends)
+    front_lines : AreLines (h.front ++ line)
+    front_lines = lines_after h.front line h.lines (inr ends)
 
-  pub line_said : IsSaid y z line → IsSaidTo x z text after
-  line_said k = record {
-    front = h.front ++ line;
-    lines = front_lines;
-    said = said_then_said x y z h.front line h.lines h.said k;
-    whole = afterwards;
-  }
+    pub line_said : IsSaid y z line → IsSaidTo x z text after
+    line_said k = record {
+      front = h.front ++ line;
+      lines = front_lines;
+      said = said_then_said x y z h.front line h.lines h.said k;
+      whole = afterwards;
+    }
 
-  pub line_cut : IsBrokenOff y z line → IsBrokenOff x z text
-  line_cut k =
-      subst (λ t. IsBrokenOff x z t) afterwards
-      (broken_before x z (h.front ++ line) after front_lines (said_then_broken x y z h.front line h.lines h.said k))
+    pub line_cut : IsBrokenOff y z line → IsBrokenOff x z text
+    line_cut k =
+        subst (λ t. IsBrokenOff x z t) afterwards
+        (broken_before x z (h.front ++ line) after front_lines (said_then_broken x y z h.front line h.lines h.said k))
 
 -- the text of the first k steps is that of the first `last`, and the step after these makes it that of the first n: it
 -- adds `put`
