@@ -51,7 +51,7 @@ export async function wholeProgram(programModule: Uint8Array): Promise<Answer> {
 
 export function faults(error: unknown): string {
   if (error instanceof Trapped) return error.message;
-  return error instanceof Kbd48Error && error.status === Status.BAD_TEXT ? `${error.place}: ${error.number}` : 'none of ours';
+  return error instanceof Kbd48Error && error.status === Status.BAD_TEXT ? `${error.position}: ${error.number}` : 'none of ours';
 }
 
 export function refused(keyboard: Keyboard, program: Program): void {
