@@ -154,8 +154,8 @@ int32_t kbd48_key(kbd48 *handle, uint8_t place, bool down);
 int32_t kbd48_run(kbd48 *handle, uint64_t cycles, bool watched, uint64_t *passed, kbd48_spot *spot);
 
 /* A queue of edges of keys. It hands each edge to the keyboard as soon as the keyboard can see it and has had the time
-   to send the edge before: 2,240 cycles after a press, 4,480 after a release. So keys are reported in the order in
-   which they were pushed, and a stroke of any length is seen. The queue is a struct of yours: it begins as
+   to send the edge before: 2,240 cycles after a press, 4,480 after a release. So the keyboard sees the edges in the order
+   in which they were pushed, and a stroke of any length. The queue is a struct of yours: it begins as
    KBD48_NO_KEYS, is written only by these functions, takes no memory and has no pointer. Copy it by assignment; keep
    one for each keyboard. */
 typedef struct {
@@ -226,8 +226,8 @@ int32_t kbd48_status(kbd48 *handle, uint8_t *byte);
 int32_t kbd48_bios(kbd48 *handle, bool on);
 
 /* Noise turns round a bit of the next frame that the keyboard begins, in one step: a data bit, 1 to 8, or the parity, 9.
-   Another call before that frame replaces it. The byte then comes wrong, and the controller asks for it again. It is
-   what `flip` of a key file does. Returns KBD48_NO_SUCH_BIT for any other bit. */
+   Another call before that frame replaces it. The byte then comes wrong, and the controller asks for it again, but for
+   the fourth in a row. It is what `flip` of a key file does. Returns KBD48_NO_SUCH_BIT for any other bit. */
 int32_t kbd48_flip(kbd48 *handle, uint8_t bit);
 
 /* A program takes the next word from the buffer of INT 09h: the scan code is the high byte, the character the low one.
@@ -275,7 +275,7 @@ int32_t kbd48_next(kbd48 *handle, kbd48_item *item);
 int32_t kbd48_lost(kbd48 *handle, uint64_t *lost);
 
 /* Whether the interrupt line (IRQ 1) is up: the output buffer is full, and its interrupt is enabled. It stays up until
-   port 0x60 is read. */
+   port 0x60 is read, or a command disables the interrupt. */
 int32_t kbd48_interrupt(kbd48 *handle, bool *up);
 
 /* How often the line rose in the last run, which may be of no step, or in the last call of the host's that wasn't

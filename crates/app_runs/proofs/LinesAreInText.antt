@@ -1,5 +1,5 @@
 -- A line of the log is in the text that is printed of it.
-use Rattle.std.proofs.Common.{◌≡◌, ℕ, suc, zero, ◌+◌, ◌-◌, ◌<◌, List, [], ◌∷◌, ◌++◌, length, inl}
+use Rattle.std.proofs.Common.{◌≡◌, ◌≤◌, ℕ, suc, zero, ◌+◌, ◌-◌, ◌<◌, List, [], ◌∷◌, ◌++◌, length, inl}
 use Rattle.std.proofs.Common.{inr, Ok, refl, ap, sym, ◌∙◌, subst, arith, append_assoc}
 use Rattle.std.specs.Prelude.{if◌then◌else◌, slice_index_or, Contains}
 use Rattle.std.specs.Fmt.{decimal}
@@ -11,8 +11,8 @@ use Rattle.key_file.specs.Histories.{KeyHistory}
 use Rattle.layout_reader.specs.Layouts.{KeyLayout}
 use Rattle.link_model.specs.Expected.{expected_log}
 use Rattle.link_model.specs.declared.line.LogLine.{LogLine}
-use Rattle.link_times.specs.Flowing.{IsHostQuiet}
-use Rattle.link_times.specs.Latency.{ComesInTime, KeysComeInTime, Strikes}
+use Rattle.link_times.specs.Flowing.{IsHostQuiet, IsQuietFrom}
+use Rattle.link_times.specs.Latency.{ComesInTime, KeysComeInTime, KeysComeInTimeFrom, Strikes}
 use Rattle.mcs48_core.specs.StateText.{state_text_of}
 use Rattle.pc_tables.specs.declared.item.Item.TheVariants.{Port}
 use Rattle.subsystem.specs.Agreement.{IsAsExpected}
@@ -79,35 +79,60 @@ line_of_run Expect layout history run line p e c =
     line_in (expected_log layout history run.starts) line c.0 c.1 c.2
 line_of_run Trace layout history run line p e c = absurd p
 
-module _ (in_time : KeysComeInTime) (layout : KeyLayout) (history : KeyHistory) (command : RunCommand)
-    (prints : PrintsLog command) (quiet : IsHostQuiet history) where
+module _ (layout : KeyLayout) (history : KeyHistory) (command : RunCommand) (prints : PrintsLog command) where
   -- an edge of a run
   edge_in_time : (text : List ℕ) (run : Outcome) → IsAsExpected layout history run
       → text ≡ text_of_run command layout history run → (n : ℕ) (edge : Edge) (code : List ℕ)
-      → n < length run.starts - 1 → Strikes layout history (listed run.starts) n edge code
+      → ComesInTime layout history (listed run.starts) (length run.starts - 1) n edge code
       → IsPrintedInTime layout history run text n edge code
-  edge_in_time text run e is n edge code l struck =
-      let c : ComesInTime layout history (listed run.starts) (length run.starts - 1) n edge code =
-      in_time layout history (listed run.starts) (length run.starts - 1) n edge code quiet e.cadence l struck in
+  edge_in_time text run e is n edge code c =
       record {
         place = c.place;
         in_its_place = c.in_its_place;
+        reads = λ i byte put g u p. (c.reads i byte g u).reads put p;
         prints = λ i byte put g u p.
             let line : LogLine = record { tick = i + c.place + suc n; item = Port put } in
             subst (λ v. HasLine v line) (sym is)
             (line_of_run command layout history run line prints e ((c.reads i byte g u).says put p));
-        soon = c.soon;
+        soon = λ i u. c.prompt i u (e.prompt (i + c.place + suc n) u).most;
       }
 
-  pub printed : (text : List ℕ) (probes : List Watch) (left : Left)
+  -- the run that a text is of
+  run_of : (text : List ℕ) (probes : List Watch) (left : Left) → MayAnswerRun command layout history (Ok text) probes left
+      → (run : Outcome) × IsRunText command layout history text run
+  run_of text probes left (inl w) = absurd (let e = w.0 in cc)
+  run_of text probes left (inr r) =
+      let same : r.0 ≡ text = let e = r.3 in cc in
+      (r.1, subst (λ v. IsRunText command layout history v r.1) same r.2)
+
+  pub printed : KeysComeInTime → IsHostQuiet history → (text : List ℕ) (probes : List Watch) (left : Left)
       → MayAnswerRun command layout history (Ok text) probes left
       → (run : Outcome) × IsRunText command layout history text run
       × ((n : ℕ) (edge : Edge) (code : List ℕ) → n < length run.starts - 1
       → Strikes layout history (listed run.starts) n edge code → IsPrintedInTime layout history run text n edge code)
-  printed text probes left (inl w) = absurd (let e = w.0 in cc)
-  printed text probes left (inr r) =
-      let run : Outcome = r.1 in
-      let same : r.0 ≡ text = let e = r.3 in cc in
-      let t : IsRunText command layout history text run =
-      subst (λ v. IsRunText command layout history v run) same r.2 in
-      (run, t, λ n edge code l struck. edge_in_time text run t.1 t.2 n edge code l struck)
+  printed in_time quiet text probes left may =
+      let of = run_of text probes left may in
+      let run = of.0 in (
+        run,
+        of.1,
+        λ n edge code l struck.
+            edge_in_time text run of.1.1 of.1.2 n edge code
+            (in_time layout history (listed run.starts) (length run.starts - 1) n edge code quiet of.1.1.cadence l struck),
+      )
+
+  pub printed_from : KeysComeInTimeFrom → (text : List ℕ) (probes : List Watch) (left : Left)
+      → MayAnswerRun command layout history (Ok text) probes left
+      → (run : Outcome) × IsRunText command layout history text run
+      × ((first n : ℕ) (edge : Edge) (code : List ℕ) → IsQuietFrom layout history (listed run.starts) first → first ≤ n
+      → n < length run.starts - 1 → Strikes layout history (listed run.starts) n edge code
+      → IsPrintedInTime layout history run text n edge code)
+  printed_from in_time text probes left may =
+      let of = run_of text probes left may in
+      let run = of.0 in (
+        run,
+        of.1,
+        λ first n edge code rests since l struck.
+            edge_in_time text run of.1.1 of.1.2 n edge code
+            (in_time layout history (listed run.starts) first (length run.starts - 1) n edge code rests of.1.1.cadence since
+            l struck),
+      )

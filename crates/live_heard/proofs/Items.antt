@@ -19,10 +19,8 @@ use Rattle.live_board.specs.Passing.{passed_in as reported_in}
 use Rattle.live_board.specs.Pasts.{Past, story_of}
 use Rattle.live_heard.proofs.Cycles.{same_bytes}
 use Rattle.live_heard.specs.Heard.{BytesAreHeard, BytesArePassed, byte_of, bytes_among, history_of, passed_from, transfers_from}
-use Rattle.mcs48_core.specs.Cpu.{Cpu}
-use Rattle.mcs48_core.specs.Reset.{reset_cpu}
 use Rattle.mcs48_core.specs.Step.{Stepped, stepped}
-use Rattle.wires_heard.specs.Hearing.{HeardLaw, heard_in, heard_to, transfer_at, transfer_in}
+use Rattle.wires_heard.specs.Hearing.{AnyMemoryHeard, heard_in, heard_to, transfer_at, transfer_in}
 use Rattle.wires_heard.specs.Passing.{ended_within, passed_at, passed_between, passed_in}
 
 -- in a step
@@ -71,11 +69,7 @@ bytes_passed p from (suc n) all h =
 
 -- a story of these keys and events, with this end
 abbrev ended_story : Past → List ℕ → ℕ → Story
-ended_story p bytes stop = record { bytes = bytes; edges = p.edges; events = p.events; stop = stop; held = reset_cpu }
-
--- the story of a past whose part held this at power-on
-abbrev begun_with : Past → Cpu → Story
-begun_with p cpu = record { bytes = p.bytes; edges = p.edges; events = p.events; stop = 0; held = cpu }
+ended_story p bytes stop = record { bytes = bytes; edges = p.edges; events = p.events; stop = stop; held = p.held }
 
 -- what is heard doesn't depend on the end
 heard_alike : (p : Past) (bytes : List ℕ) (stop k : ℕ) → heard_to (ended_story p bytes stop) k ≡ heard_to (ended_story p bytes 0) k
@@ -93,14 +87,12 @@ all_alike s from (suc n) each =
     let last = sym (each (from + n)) in
     λ i. before i ++ last i
 
-pub bytes_heard : HeardLaw → BytesAreHeard
-bytes_heard law layout p stop from n all is bytes cleared lawful h =
+pub bytes_heard : AnyMemoryHeard → BytesAreHeard
+bytes_heard law layout p stop from n all is bytes fine lawful h =
     let image = image_of layout in
-    let hears = law layout (history_of p stop) is lawful in
+    let hears = law layout (history_of p stop) p.held is lawful fine in
     let there : (k : ℕ) → transfer_at (ended_story p image 0) k ≡ passed_at (ended_story p image 0) k =
     λ k. sym (transfer_alike p image stop k) ∙ hears.each k in
-    let own : (k : ℕ) → transfer_at (ended_story p p.bytes 0) k ≡ passed_at (ended_story p p.bytes 0) k =
-    subst (λ b. (k : ℕ) → transfer_at (ended_story p b 0) k ≡ passed_at (ended_story p b 0) k) (sym bytes) there in
     let each : (k : ℕ) → transfer_at (story_of p) k ≡ passed_at (story_of p) k =
-    subst (λ (c : Cpu). (k : ℕ) → transfer_at (begun_with p c) k ≡ passed_at (begun_with p c) k) (sym cleared) own in
+    subst (λ b. (k : ℕ) → transfer_at (ended_story p b 0) k ≡ passed_at (ended_story p b 0) k) (sym bytes) there in
     bytes_passed p from n all h ∙ all_alike (story_of p) from n each

@@ -11,7 +11,7 @@ use Rattle.key_file.specs.Histories.{KeyHistory}
 use Rattle.layout_reader.specs.Layouts.{IsKeyLayout, KeyLayout}
 use Rattle.live_board.specs.Heard.{HasHappened}
 use Rattle.live_board.specs.Pasts.{Past, story_of}
-use Rattle.mcs48_core.specs.Reset.{reset_cpu}
+use Rattle.mcs48_ranges.specs.Sizes.{IsFine}
 use Rattle.wires_heard.specs.Hearing.{transfer_at}
 use Rattle.wires_heard.specs.Passing.{passed_at}
 
@@ -44,8 +44,9 @@ BytesArePassed =
 abbrev pub history_of : Past → ℕ → KeyHistory
 history_of p stop = record { edges = p.edges; host = p.events; end = stop }
 
--- of a past from cleared memory that is lawful for a layout it is what is heard on the wires, in order, and nothing else
+-- of a past that is lawful for a layout it is what is heard on the wires, in order, and nothing else, whatever the part held
+-- when it was switched on
 abbrev pub BytesAreHeard : Type 0
 BytesAreHeard =
     (layout : KeyLayout) (p : Past) (stop from n : ℕ) (all : List Happened) → IsKeyLayout layout → p.bytes ≡ image_of layout
-    → p.held ≡ reset_cpu → IsLawfulFor layout (history_of p stop) → HasHappened p from n all → bytes_among all ≡ transfers_from (story_of p) from n
+    → IsFine p.held → IsLawfulFor layout (history_of p stop) → HasHappened p from n all → bytes_among all ≡ transfers_from (story_of p) from n

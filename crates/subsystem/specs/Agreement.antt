@@ -1,5 +1,6 @@
 -- What a run says, against what the model expects.
-use Rattle.std.specs.Prelude.{◌≡◌, ◌<◌, ◌-◌, length}
+use Rattle.std.specs.Prelude.{◌≡◌, ◌≤◌, ◌<◌, ◌-◌, ℕ, length}
+use Rattle.agreement.specs.Agreement.{IsPrompt}
 use Rattle.board_terms.specs.Cadence.{KeepsCadenceTo, listed}
 use Rattle.fw_compile.specs.Image.{image_of}
 use Rattle.joint_feed.specs.Stories.{story}
@@ -11,10 +12,12 @@ use Rattle.quiet_log.specs.Quiet.{IsQuiet, quiet_log}
 use Rattle.subsystem.specs.LayoutOutcomes.{Outcome, IsOutcome}
 
 -- a run's log is the one that the model expects if its ticks start when the run's do, and these starts keep the
--- cadence; for a quiet history it is a function of layout and history alone. If the history is accepted, it has fewer than 800,000 items
+-- cadence: each is at its multiple of 2,048 or one cycle past it. For a quiet history the log is a function of layout and
+-- history alone. If the history is accepted, it has fewer than 800,000 items
 pub record IsAsExpected (layout : KeyLayout) (history : KeyHistory) (run : Outcome) : Type 0 where
   pub log : run.log ≡ expected_log layout history run.starts
   pub cadence : KeepsCadenceTo (listed run.starts) (length run.starts - 1)
+  pub prompt : (n : ℕ) → n ≤ length run.starts - 1 → IsPrompt n (listed run.starts n)
   pub quiet : IsQuiet history → run.log ≡ quiet_log layout history
   pub few : IsAccepted history → length run.log < 800000
 

@@ -6,8 +6,8 @@ use agreement::run_and_model_agree;
 use quiet_log::{logs_are_limited, quiet_histories};
 
 /// Every run of a layout's compiled image under a history that is lawful for it gives the log that the model expects
-/// if its ticks start when the run's do, and these starts keep the cadence; for a quiet history it is a function of
-/// layout and history alone. The log of an accepted history has fewer than 800,000 items. Nothing is done when it is
+/// if its ticks start when the run's do, and each of these starts is at its multiple of 2,048 or one cycle past it; for a
+/// quiet history it is a function of layout and history alone. The log of an accepted history has fewer than 800,000 items. Nothing is done when it is
 /// called; the law is its contract.
 pub fn runs_are_expected()
     ensures expected { RunsAsExpected }

@@ -16,7 +16,7 @@ use Rattle.wires_heard.specs.Hearing.{sample_in, heard_in, heard_to, listed, tra
 use Rattle.wires_heard.specs.Passing.{passed_at}
 use Rattle.wires_heard.specs.Probing.{is_among, passing_from, CountsPassing, ProbeLaw}
 use Rattle.wires_heard.proofs.Pulls.{comes_from, later}
-use Rattle.wires_heard.proofs.Run.{every_run_is_heard}
+use Rattle.wires_heard.proofs.Run.{any_run_is_heard}
 
 -- one or none
 or_none : (b : Bool) → (b || false) ≡ b
@@ -88,4 +88,4 @@ module _ (s : Story) where
   }
 
 pub every_probe_counts : ProbeLaw
-every_probe_counts layout history fine ok a b k n = counts _ (every_run_is_heard layout history fine ok) a b k n
+every_probe_counts layout history m fine ok small a b k n = counts _ (any_run_is_heard layout history m fine ok small) a b k n

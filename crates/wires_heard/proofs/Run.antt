@@ -3,7 +3,7 @@ use Rattle.std.proofs.Common.{◌≡◌, ◌≤◌, ◌<◌, ℕ, suc, zero, ◌
 use Rattle.std.proofs.lemmas.List.Elements.{All-replicate}
 use Rattle.std.specs.declared.option.Option.{Option}
 use Rattle.agreement.specs.Wires.{DrivesWires, IsFrameOf, IsLetGo}
-use Rattle.agreement.proofs.Run.{every_run, every_wire}
+use Rattle.agreement.proofs.Run.{every_memory, every_wire}
 use Rattle.bits.specs.Bits.{bit}
 use Rattle.byte_time.specs.declared.meeting.Meeting.{Meeting}
 use Rattle.byte_time.specs.declared.meeting.Meeting.TheVariants.{Got, Inhibited, Idle, Sent, Cut}
@@ -13,12 +13,13 @@ use Rattle.fw_link.proofs.TickLatch.{before_lights, without_frame}
 use Rattle.fw_link.proofs.Wired.{IsReleased}
 use Rattle.fw_link.specs.Latch.{Frame, NoFrame, SentFrame, CutFrame, ReceivedFrame, tick_latch}
 use Rattle.fw_logic.specs.JointRun.{KeepsTimeFrom}
-use Rattle.joint_feed.specs.Stories.{Story, story, state_at}
+use Rattle.joint_feed.specs.Stories.{Story, story_from, state_at}
 use Rattle.joint_run.specs.Joint.{Beside, beside_at_start, joint_board, joint_start_of}
 use Rattle.joint_run.specs.Run.{Board, World, step_on}
 use Rattle.joint_run.specs.Starts.{at_tick, IsStart, starts_before}
 use Rattle.link_model.specs.Expected.{meeting_from, whole_at}
 use Rattle.link_model.specs.Machine.{keyboard}
+use Rattle.mcs48_core.specs.Cpu.{Cpu}
 use Rattle.mcs48_core.specs.Reset.{reset_cpu}
 use Rattle.mcs48_ranges.specs.Sizes.{IsByte, IsFine}
 use Rattle.std.proofs.lemmas.Bool.Decides.{nat_tests}
@@ -31,7 +32,7 @@ use Rattle.wires_heard.proofs.Pulls.{same_state}
 use Rattle.wires_heard.proofs.Silent.{IsTick}
 use Rattle.wires_heard.proofs.Steps.{step_of}
 use Rattle.wires_heard.proofs.HeardAtLastCell.{whole}
-use Rattle.wires_heard.specs.Hearing.{HeardLaw, transfer_at, transfers_to}
+use Rattle.wires_heard.specs.Hearing.{AnyMemoryHeard, HeardLaw, transfer_at, transfers_to}
 use Rattle.wires_heard.specs.Passing.{passed_at, passed_to}
 
 released : (v : ℕ) → IsLetGo v → IsReleased v
@@ -231,9 +232,16 @@ cleared =
       sp = omega arith;
     }
 
-pub every_run_is_heard : HeardLaw
-every_run_is_heard layout history fine ok =
-    let s : Story = story (image_of layout) history in
-    let time = (every_run layout history fine ok).0 in
-    let wires = every_wire layout history fine ok reset_cpu cleared in
+-- reset leaves no interrupt in service, so the run of a part that was reset is that of one that was switched on without one
+abbrev unserved : Cpu → Cpu
+unserved m = record m { svc = false }
+
+pub any_run_is_heard : AnyMemoryHeard
+any_run_is_heard layout history m fine ok small =
+    let s : Story = story_from m (image_of layout) history in
+    let time = (every_memory layout history fine ok (unserved m) small).0 in
+    let wires = every_wire layout history fine ok (unserved m) small in
     record { each = each s time (keyboard layout) wires; all = all s time (keyboard layout) wires }
+
+pub every_run_is_heard : HeardLaw
+every_run_is_heard layout history fine ok = any_run_is_heard layout history reset_cpu fine ok cleared

@@ -5,12 +5,14 @@ use Rattle.fw_compile.specs.Image.{image_of}
 use Rattle.board_probes.specs.Transfers.{Ear, heard, sample, silence, completed}
 use Rattle.board_probes.specs.declared.heard.Sample.{Sample}
 use Rattle.board_probes.specs.declared.heard.Transfer.{Transfer}
-use Rattle.joint_feed.specs.Stories.{Story, story, state_at}
+use Rattle.joint_feed.specs.Stories.{Story, story, story_from, state_at}
 use Rattle.joint_run.specs.Joint.{Beside, latch_of}
 use Rattle.joint_run.specs.Run.{World}
 use Rattle.key_file.specs.Accepted.{IsLawfulFor}
 use Rattle.key_file.specs.Histories.{KeyHistory}
 use Rattle.layout_reader.specs.Layouts.{KeyLayout, IsKeyLayout}
+use Rattle.mcs48_core.specs.Cpu.{Cpu}
+use Rattle.mcs48_ranges.specs.Sizes.{IsFine}
 use Rattle.ctl_wire.specs.Wires.{wires}
 use Rattle.wires_heard.specs.Passing.{passed_at, passed_to}
 
@@ -57,3 +59,9 @@ abbrev pub HeardLaw : Type 0
 HeardLaw =
     (layout : KeyLayout) (history : KeyHistory) → IsKeyLayout layout → IsLawfulFor layout history
     → HearsAll (story (image_of layout) history)
+
+-- and whatever the part held when it was switched on
+abbrev pub AnyMemoryHeard : Type 0
+AnyMemoryHeard =
+    (layout : KeyLayout) (history : KeyHistory) (m : Cpu) → IsKeyLayout layout → IsLawfulFor layout history → IsFine m
+    → HearsAll (story_from m (image_of layout) history)

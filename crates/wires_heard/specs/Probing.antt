@@ -6,10 +6,12 @@ use Rattle.board_probes.specs.declared.tally.Arms.{Arms}
 use Rattle.board_probes.specs.Counts.{met_between, ear_between}
 use Rattle.board_probes.specs.Probes.{Watch, heard_as, is_awaited}
 use Rattle.board_probes.specs.Tallies.{armed}
-use Rattle.joint_feed.specs.Stories.{Story, story}
+use Rattle.joint_feed.specs.Stories.{Story, story_from}
 use Rattle.key_file.specs.Accepted.{IsLawfulFor}
 use Rattle.key_file.specs.Histories.{KeyHistory}
 use Rattle.layout_reader.specs.Layouts.{KeyLayout, IsKeyLayout}
+use Rattle.mcs48_core.specs.Cpu.{Cpu}
+use Rattle.mcs48_ranges.specs.Sizes.{IsFine}
 use Rattle.wires_heard.specs.Hearing.{heard_to}
 use Rattle.wires_heard.specs.Passing.{passed_at}
 
@@ -35,8 +37,8 @@ pub record CountsPassing (s : Story) (a b k n : ℕ) : Type 0 where
   pub steps : met_between s k n (armed_at s k a b) ≡ passing_from s (record { a = a; b = b }) k (n - k)
   pub hears : k ≤ n → ear_between s k n (armed_at s k a b) ≡ heard_to s n
 
--- for every layout and every history that is lawful for it
+-- for every layout and every history that is lawful for it, whatever the part held when it was switched on
 abbrev pub ProbeLaw : Type 0
 ProbeLaw =
-    (layout : KeyLayout) (history : KeyHistory) → IsKeyLayout layout → IsLawfulFor layout history
-    → (a b k n : ℕ) → CountsPassing (story (image_of layout) history) a b k n
+    (layout : KeyLayout) (history : KeyHistory) (m : Cpu) → IsKeyLayout layout → IsLawfulFor layout history → IsFine m
+    → (a b k n : ℕ) → CountsPassing (story_from m (image_of layout) history) a b k n

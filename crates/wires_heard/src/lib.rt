@@ -6,7 +6,7 @@
 //! of it looks like. Our own.
 #![tactic(auto)]
 
-ghost use Rattle.wires_heard.specs.Hearing.{HeardLaw};
+ghost use Rattle.wires_heard.specs.Hearing.{AnyMemoryHeard, HeardLaw};
 ghost use Rattle.wires_heard.specs.Probing.{ProbeLaw};
 
 /// For every layout and every history that is lawful for it, however long: in each step of the joint run of the
@@ -14,9 +14,11 @@ ghost use Rattle.wires_heard.specs.Probing.{ProbeLaw};
 /// eleventh edge of a frame lies in one of the step's cycles, and nowhere else: the keyboard's byte, as its bits were
 /// on the wires, if the controller takes one; the controller's own, if it has sent one. A frame that is broken
 /// off is none. So the transfers heard in the first steps of the run are, in order, the bytes that the controller takes
-/// and sends in them. Nothing is done when it is called; the law is its contract.
+/// and sends in them. So it is of the run from cleared memory, which the program makes, and of the run from whatever a part
+/// holds when it is switched on. Nothing is done when it is called; the laws are its contract.
 pub fn wires_are_heard()
     ensures heard { HeardLaw }
+    ensures any_memory { AnyMemoryHeard }
 {}
 
 /// A probe that listens to the wires counts exactly the steps in which the controller takes, or sends, its byte: in the
