@@ -16,7 +16,7 @@ export class KeyboardPane {
   /** `open(layout, names)` begins a live keyboard; `press(place, down)` hands it an edge; `bench(words)` shows words in the
       workbench. */
   constructor({ open, press, bench }) {
-    Object.assign(this, { open, press, drawn: new Map(), held: new Map(), moved: new Map(), stuck: new Set(), hasLeft: false });
+    Object.assign(this, { open, press, drawn: new Map(), held: new Map(), moved: new Map(), anew: new Set(), stuck: new Set(), hasLeft: false });
     this.element = byId('keyboard');
     this.board = byId('board');
     this.select = byId('layout');
@@ -54,6 +54,7 @@ export class KeyboardPane {
     byId('layout-fault').hidden = true;
     this.held.clear();
     this.moved.clear();
+    this.anew.clear();
     this.stuck.clear();
     this.#draw();
     this.open(text, new Map(this.keys.map(key => [key.place, key.name])));
@@ -64,14 +65,17 @@ export class KeyboardPane {
 
   get wentUp() { return [...this.moved.values()].includes(false); }
 
-  /** Draws the keys that went down or up since the last time. A key that did both is drawn down once. */
+  /** Draws the keys that went down or up since the last time. A key that did both is drawn down once. One that is down anew, and
+      was never drawn up, changes between two looks. */
   draw() {
     for (const [name, wentDown] of this.moved) {
-      const isDown = this.held.get(name).size > 0;
-      this.drawn.get(name).classList.toggle('down', wentDown || isDown);
+      const isDown = this.held.get(name).size > 0, { classList } = this.drawn.get(name);
+      classList.toggle('down', wentDown || isDown);
+      classList.toggle('anew', (wentDown || isDown) && classList.contains('anew') !== this.anew.has(name));
       if (wentDown && !isDown) this.moved.set(name, false);
       else this.moved.delete(name);
     }
+    this.anew.clear();
   }
 
   lamps(lights) {
@@ -157,8 +161,8 @@ export class KeyboardPane {
     if (down) holders.add(by);
     else holders.delete(by);
     if (was === holders.size > 0) return;
-    // It was up, and that isn't drawn yet.
-    if (down && this.moved.get(name) === false) this.drawn.get(name).classList.remove('down');
+    // It was up, and that isn't drawn: another look shows that it is down anew.
+    if (down && this.moved.get(name) === false) this.anew.add(name);
     this.press(key.place, down);
     this.moved.set(name, down || this.moved.get(name) === true);
     if (key.fn) this.#legends();

@@ -1,29 +1,33 @@
-// A list that grows at its end, as lines of text. Only new lines are made: each costs a layout of its own.
+// A list that grows at its end, as lines of text. Only new lines are made. The lines of one picture are one block of text, because
+// each element costs the browser a layout of its own.
 import { make, scrollToEnd } from './dom.js';
 
-const SHOWN = 200, NEAR = 4; // lines; pixels
+const SHOWN = 200, NEAR = 4; // lines, at least; pixels
 
 export class Lines {
   /** `textOf(entry)` answers the line of an entry. */
   constructor(element, textOf) {
-    Object.assign(this, { element, textOf, last: undefined, isAtEnd: true, isFresh: false });
+    Object.assign(this, { element, textOf, last: undefined, blocks: [], isAtEnd: true, isFresh: false });
     element.addEventListener('scroll', () => { this.isAtEnd = element.scrollTop + element.clientHeight >= element.scrollHeight - NEAR; });
   }
 
   clear() {
     this.element.replaceChildren();
+    this.blocks = [];
     this.last = undefined;
     this.isAtEnd = true;
   }
 
   /** Shows the last of these entries. */
   show(entries) {
-    const had = entries.lastIndexOf(this.last), { element } = this;
+    const had = entries.lastIndexOf(this.last);
     if (had < 0) this.clear();
-    const fresh = entries.slice(Math.max(had + 1, entries.length - SHOWN));
+    const fresh = entries.slice(Math.max(had + 1, entries.length - SHOWN)), { blocks } = this;
     if (fresh.length === 0) return;
-    element.append(...fresh.map(entry => make('div', { textContent: `${this.textOf(entry)}\n` })));
-    while (element.childElementCount > SHOWN) element.firstChild.remove();
+    blocks.push({ many: fresh.length, element: make('div', { textContent: `${fresh.map(this.textOf).join('\n')}\n` }) });
+    this.element.append(blocks.at(-1).element);
+    let many = blocks.reduce((sum, block) => sum + block.many, 0);
+    for (; many - blocks[0].many >= SHOWN; blocks.shift().element.remove()) many -= blocks[0].many;
     this.last = entries.at(-1);
     this.isFresh = true;
   }

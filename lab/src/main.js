@@ -15,12 +15,17 @@ import { WorkbenchPane } from './workbench_pane.js';
 
 const LONGEST = 200; // ms that are made up for, after a time in which the page wasn't called
 // The keyboard goes on 25 times a second, or 10 times while nothing happens. A key is answered soon after it: its byte has
-// passed by then. A picture costs the browser ten times what a stretch costs, however little changes in it. So a key that goes up
-// is drawn with the next picture, or a little later if none comes. Wires and logs are drawn with a key that goes up, or a little
-// later if none does, and 4 times a second at most; more often if time is slow, which somebody watches.
-const STRETCH = 40, CALM_STRETCH = 100, SOON = 20, BETWEEN_PICTURES = 160, BETWEEN_NEWS = 240, LATEST = 100; // ms
+// passed by then.
+const STRETCH = 40, CALM_STRETCH = 100, SOON = 20; // ms
+// A picture costs the browser several times what a stretch costs, however little changes in it. Who types slowly has two of each
+// stroke: the key that goes down and its letter; then the key that goes up, with wires and logs. Who types fast has one: a key
+// that went up is drawn with the next that goes down, and so are wires and logs, some twice a second. If no key follows, they are
+// drawn a little later. If time is slow, which somebody watches, wires and logs are drawn ten times a second.
+const FAST = 240; // ms between two strokes
+const BETWEEN_NEWS = 240, BETWEEN_FAST_NEWS = 380, BETWEEN_PICTURES = 160, LATEST = 100; // ms
 const STROKE = 150; // ms after which a key that is down is a held one
-const UP_LATEST = LATEST - STRETCH; // ms: a key that is up is drawn so a tenth of a second after the stroke at the latest
+// A key that went up is drawn after a tenth of a second at the latest, or after 150 ms if somebody types fast.
+const UP_LATEST = LATEST - STRETCH, FAST_UP_LATEST = 150 - STRETCH; // ms
 
 const moduleOf = async id => unpacked(bytesOf(byId(id).textContent));
 
@@ -36,7 +41,7 @@ addEventListener('unhandledrejection', event => trouble(event.reason));
 class Lab {
   constructor(keyboard, program) {
     this.keyboard = keyboard;
-    Object.assign(this, { files, fromKle, program, owed: 0, drawn: -Infinity, newsDrawn: -Infinity, news: 0, since: null, upSince: null, stirred: -Infinity, pressed: -Infinity, pace: Infinity, place: null, isRepeated: false, timer: null, last: performance.now(), isPassing: false, inSight: new Set() });
+    Object.assign(this, { files, fromKle, program, owed: 0, drawn: -Infinity, newsDrawn: -Infinity, news: 0, since: null, upSince: null, stirred: -Infinity, pressed: -Infinity, pace: Infinity, timer: null, last: performance.now(), isPassing: false, inSight: new Set() });
     this.keys = new KeyboardPane({
       open: (layout, names) => this.open(layout, names), press: (place, down) => this.press(place, down),
       bench: words => {
@@ -90,7 +95,7 @@ class Lab {
   press(place, down) {
     if (down) {
       const now = performance.now();
-      Object.assign(this, { pace: now - this.pressed, pressed: now, isRepeated: place === this.place, place });
+      Object.assign(this, { pace: now - this.pressed, pressed: now });
     }
     this.live.press(place, down);
   }
@@ -117,14 +122,18 @@ class Lab {
     this.keys.lamps(this.keyboard.lights());
   }
 
-  // Whether it is time for a picture of the wires and the logs. It isn't made with that of a key that goes down and of its letter,
-  // unless it has waited long: the browser draws all that is between them. It waits for the key to go up.
+  // Whether somebody types fast, on a keyboard that is in sight.
+  get #isFast() { return this.inSight.has('keyboard') && this.pace <= FAST && this.last - this.pressed <= FAST; }
+
+  // Whether it is time for a picture of the wires and the logs. It waits for a key that goes up, or down if somebody types fast. Of
+  // a single stroke it isn't made with the key that goes down: the browser draws all that is between them, and a release follows.
   #isDue(isSharp, isUp) {
-    const { last, live } = this;
+    const { last, live } = this, isReal = byId('speed').value === '1';
     if (live.news === this.news) return last - this.drawn >= BETWEEN_PICTURES;
     this.since ??= last;
-    const isReal = byId('speed').value === '1', waited = last - this.since;
-    if (last - this.newsDrawn < (isReal ? BETWEEN_NEWS : LATEST)) return false;
+    const ago = last - this.newsDrawn, waited = last - this.since;
+    if (isReal && this.#isFast) return isSharp && ago >= BETWEEN_FAST_NEWS;
+    if (ago < (isReal ? BETWEEN_NEWS : LATEST)) return false;
     const isStroke = isSharp || (live.down.size > 0 && last - this.stirred < STROKE);
     return waited >= (isReal && isStroke ? BETWEEN_NEWS : LATEST) || (isUp && !isSharp);
   }
@@ -145,13 +154,12 @@ class Lab {
     if (this.inSight.has('processor')) this.processor.draw();
   }
 
-  // Draws what is due. A key that goes down, and what it writes on the PC's screen, is drawn now. A key that goes up is drawn with
-  // the next of these if somebody types fast, else with the wires; and now if it is pressed time and again.
+  // Draws what is due. A key that goes down, and what it writes on the PC's screen, is drawn now.
   #pictures() {
-    const { keys } = this, isSeen = this.inSight.has('keyboard');
+    const { keys, last } = this, isSeen = this.inSight.has('keyboard');
     const isSharp = isSeen && (keys.wentDown || this.pc.isNew), isUp = isSeen && keys.wentUp, isDue = this.#isDue(isSharp, isUp);
-    if (isUp) this.upSince ??= this.last;
-    const isUpNow = isUp && (this.isRepeated || (isDue && this.pace > BETWEEN_NEWS) || this.last - this.upSince >= UP_LATEST);
+    if (isUp) this.upSince ??= last;
+    const isUpNow = isUp && (isDue || last - this.upSince >= (this.#isFast ? FAST_UP_LATEST : UP_LATEST));
     if (isSharp || isUpNow) this.drawKeys();
     if (isDue) this.draw();
   }

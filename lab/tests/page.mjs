@@ -41,6 +41,7 @@ try {
   await part('out of sight', () => keyboard.outOfSight(browser));
   await part('leaving', () => keyboard.leaving(browser));
   await part('lost focus', () => keyboard.lostFocus(browser));
+  await part('panes', () => look.panes(browser));
   await part('commands', () => wires.commands(browser));
   await part('masked', () => wires.masked(browser));
   await part('noise', () => wires.noise(browser));

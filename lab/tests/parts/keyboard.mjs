@@ -48,36 +48,41 @@ export async function typing(browser, shot) {
 }
 
 // ms until a picture has what was done, with what a timer of the browser may be late.
-const LATEST = { down: 60, letter: 100, up: 130, log: 270 };
+const LATEST = { down: 60, letter: 100, up: 130, log: 270 }, UP_AFTER_FAST = 180;
 
-/** A key is drawn down at once; its letter, and the key that is up again, within a tenth of a second; the log within a quarter. That
-    holds for strokes that are far apart, for fast ones, and for one key pressed time and again. Of each the best of several
-    strokes counts, because other work delays any. */
+/** A key is drawn down at once; its letter, and the key that is up again, within a tenth of a second; the log within a quarter.
+    That holds for strokes that are far apart, and for fast ones. One key that is pressed time and again changes its look at once
+    with each stroke, and is drawn up 150 ms after the last. Of each the best of several strokes counts, because other work delays
+    any. */
 export async function prompt(browser) {
-  for (const [keys, apart] of [['jkl', 450], ['jkl', 97], ['j', 97]]) {
+  for (const [keys, gaps] of [['jkl', [450]], ['jkl', [97]], ['j', [97, 97, 450]]]) {
     const best = await browser.evaluate(`(async () => {
-      const of = id => document.getElementById(id), isDown = name => document.querySelector('[data-key=' + name + ']').classList.contains('down');
+      const of = id => document.getElementById(id), keyOf = name => document.querySelector('[data-key=' + name + ']');
+      const isDown = name => keyOf(name).classList.contains('down'), look = name => getComputedStyle(keyOf(name)).backgroundColor;
       const wait = ms => new Promise(yes => setTimeout(yes, ms)), best = { down: Infinity, letter: Infinity, up: Infinity, log: Infinity };
       const measure = async (what, is) => {
         const from = performance.now();
         while (!is() && performance.now() - from < 2000) await wait(2);
         best[what] = Math.min(best[what], performance.now() - from);
       };
-      const lines = () => of('log').textContent.split('\\n').length, all = [];
+      const lines = () => of('log').textContent.split('\\n').length, all = [], keys = ${JSON.stringify(keys)}, gaps = ${JSON.stringify(gaps)};
       for (let n = 0; n < 12; n++) {
-        const name = ${JSON.stringify(keys)}[n % ${keys.length}], letters = of('screen').textContent.length;
+        const name = keys[n % keys.length], gap = gaps[n % gaps.length], letters = of('screen').textContent.length, was = look(name);
+        const down = measure('down', () => isDown(name) && look(name) !== was);
         lab.keys.hold(name, true, 'test');
-        all.push(measure('down', () => isDown(name)), measure('letter', () => of('screen').textContent.length > letters));
+        all.push(down, measure('letter', () => of('screen').textContent.length > letters));
         await wait(70);
         const had = lines();
         lab.keys.hold(name, false, 'test');
-        all.push(measure('up', () => !isDown(name)), measure('log', () => lines() > had));
-        await wait(${apart});
+        // Its next stroke is measured by the look.
+        if (keys.length > 1 || gap > 97) all.push(measure('up', () => !isDown(name)));
+        all.push(measure('log', () => lines() > had));
+        await wait(gap);
       }
       await Promise.all(all);
       return best;
-    })()`);
-    for (const [what, most] of Object.entries(LATEST)) assert.ok(best[what] <= most, `${keys} after ${apart} ms, ${what}: ${Math.round(best[what])} ms`);
+    })()`), most = keys.length > 1 ? LATEST : { ...LATEST, up: UP_AFTER_FAST };
+    for (const [what, ms] of Object.entries(most)) assert.ok(best[what] <= ms, `${keys} after ${gaps} ms, ${what}: ${Math.round(best[what])} ms`);
   }
 }
 

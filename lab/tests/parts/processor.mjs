@@ -39,7 +39,7 @@ export async function breakpoints(browser) {
 /** By keys alone: two lines on, a breakpoint there and none, and a run up to the line. */
 export async function cursor(browser) {
   await browser.evaluate('document.getElementById("code").focus()');
-  for (const code of ['ArrowDown', 'ArrowDown', 'Enter']) await browser.stroke(code, 5);
+  for (const code of ['ArrowDown', 'ArrowDown', 'ArrowDown', 'ArrowUp', 'Enter']) await browser.stroke(code, 5);
   const place = await browser.valueOf('stop-place');
   assert.match(place, /^0[0-9A-F]{2}$/);
   assert.equal(await browser.evaluate('document.querySelector("#code .stop").textContent.slice(0, 3)'), place);
@@ -54,6 +54,11 @@ export async function cursor(browser) {
   await browser.click('#cursor');
   await browser.says('at', /stopped at place$/);
   assert.match(await here(browser), /^019 {2}send:/);
+  // A double click sets the breakpoint, and another takes it away.
+  for (const stop of ['019', '']) {
+    await browser.evaluate('document.getElementById("place-25").dispatchEvent(new MouseEvent("dblclick", { bubbles: true })); 0');
+    assert.equal(await browser.valueOf('stop-place'), stop);
+  }
 }
 
 /** A hundred steps back and on are the states of the run, however they are asked for; and few runs answer them. */

@@ -158,6 +158,13 @@ export async function waveform(browser, shot) {
     await browser.mouse('up', { x: middle.x + 70, y: middle.y });
   }, 'a drag');
   await changes(() => browser.click('#zoom-out'), 'zoom out');
+  await changes(() => browser.click('#wave-on'), 'on');
+  await browser.evaluate('document.getElementById("wave").focus()');
+  await changes(() => browser.stroke('ArrowRight', 5), 'the right arrow');
+  await changes(() => browser.stroke('Equal', 5, { key: '+' }), 'the key +');
+  // One less is the picture before the last.
+  await changes(async () => { for (let count = 0; count < 2; count++) await browser.stroke('Minus', 5, { key: '-' }); }, 'the key -');
+  await changes(() => browser.evaluate('document.getElementById("wave").dispatchEvent(new WheelEvent("wheel", { deltaY: 200, ctrlKey: true, cancelable: true }))'), 'the wheel with Ctrl');
   await browser.click('#pause');
   await browser.wait(300);
   assert.ok(!shown.includes(await picture(browser)), 'what passed meanwhile is shown');
