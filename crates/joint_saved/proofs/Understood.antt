@@ -1,6 +1,6 @@
 -- What a load read is what the bytes mean.
-use Rattle.std.proofs.Common.{◌≡◌, ℕ, true, false, List, Some, None, Ok, Err, ap, sym, ◌∙◌, inl}
-use Rattle.std.specs.Prelude.{IfOk, IfErr, slice_index, slice_range}
+use Rattle.std.proofs.Common.{◌≡◌, ℕ, true, false, List, Some, None, Ok, Err, ap, sym, ◌∙◌, inr}
+use Rattle.std.specs.Prelude.{IfErr, slice_index, slice_range}
 use Rattle.std.specs.declared.option.Option.{Option}
 use Rattle.std.specs.declared.result.Result.{Result}
 use Rattle.ctl_link.specs.declared.link.Link.{Link}
@@ -53,18 +53,16 @@ pub a_machine : (b : List ℕ) (cpu : Cpu) (link : Link Wire) → cpu_of b ≡ S
 a_machine b cpu link e f g =
     by_both b cpu link e f ∙ ap (λ s. needs s U.State (Ok (kept_by b cpu link))) g
 
--- what is judged of the machine of the bytes
-pub joint_is : (b : List ℕ) (cpu : Cpu) (link : Link Wire) (m : Machine) (r : Result Machine Unloaded) → cpu_of b ≡ Some cpu
-    → link_of b ≡ Some link → m ≡ (kept_by b cpu link).joint → IfOk r (λ j. (j ≡ m) × (is_sound m ≡ true)) → IfOk r (HasMachine b)
-joint_is b cpu link m (Ok j) e f g h = (cpu, link, a_machine b cpu link e f (ap is_sound (sym g) ∙ h.1), h.0 ∙ g)
-joint_is b cpu link m (Err x) e f g h = tt
+-- the machine of the bytes is had, or there was no memory for it
+pub joint_is : (b : List ℕ) (cpu : Cpu) (link : Link Wire) (m : Machine) → cpu_of b ≡ Some cpu → link_of b ≡ Some link
+    → is_sound (kept_by b cpu link).joint ≡ true → m ≡ (kept_by b cpu link).joint → HasMachine b m
+joint_is b cpu link m e f g h = (cpu, link, a_machine b cpu link e f g, h)
 
-pub refused_is : (b : List ℕ) (cpu : Cpu) (link : Link Wire) (m : Machine) (r : Result Machine Unloaded) → cpu_of b ≡ Some cpu
-    → link_of b ≡ Some link → m ≡ (kept_by b cpu link).joint → IfErr r (λ x. (x ≡ U.State) × (is_sound m ≡ false))
+pub no_memory : (b : List ℕ) (cpu : Cpu) (link : Link Wire) (r : Result Machine Unloaded) → cpu_of b ≡ Some cpu
+    → link_of b ≡ Some link → is_sound (kept_by b cpu link).joint ≡ true → IfErr r (λ fault. fault ≡ U.Memory)
     → IfErr r (HasNoMachine b)
-refused_is b cpu link m (Ok j) e f g h = tt
-refused_is b cpu link m (Err x) e f g h =
-    inl (unsound b cpu link e f (ap is_sound (sym g) ∙ h.1) ∙ ap (λ (y : Unloaded). Err y) (sym h.0))
+no_memory b cpu link (Ok m) e f g h = tt
+no_memory b cpu link (Err fault) e f g h = inr (kept_by b cpu link, a_machine b cpu link e f g, h)
 
 -- the parts that were read are those of the bytes
 pub are_kept : (b : List ℕ) (k : Loaded) → HasMachine b k.joint

@@ -153,9 +153,8 @@ abbrev pub HasMachine : List ℕ → Machine → Type 0
 HasMachine b joint = (cpu : Cpu) × (link : Link Wire) × (machine_in b ≡ Ok (kept_by b cpu link)) × (joint ≡ (kept_by b cpu link).joint)
 
 abbrev pub HasNoMachine : List ℕ → Unloaded → Type 0
-HasNoMachine b fault = (machine_in b ≡ Err fault) ⊎ (fault ≡ U.Memory)
+HasNoMachine b fault = (machine_in b ≡ Err fault) ⊎ ((k : Kept) × (machine_in b ≡ Ok k) × (fault ≡ U.Memory))
 
--- why bytes were refused: what they lack first; or there was no memory, of which none is taken for bytes that lack something
--- before a part of them is read
+-- why bytes were refused: what they lack first; or they mean a keyboard, and there was no memory for it
 abbrev pub IsUnloaded : List ℕ → Unloaded → Type 0
-IsUnloaded b fault = (loaded b ≡ Err fault) ⊎ ((checked b ≡ Ok tt) × (fault ≡ U.Memory))
+IsUnloaded b fault = (loaded b ≡ Err fault) ⊎ ((k : Kept) × (loaded b ≡ Ok k) × (fault ≡ U.Memory))

@@ -4,18 +4,18 @@ ghost use Rattle.std.specs.Prelude.{◌≡◌, ◌≤◌, ◌==◌, ◌%◌, ◌
 ghost use Rattle.ctl_link.specs.Empty.{fits, is_held};
 ghost use Rattle.joint_bytes.specs.Lists.{edges_in, have_places, items_in, words_in};
 ghost use Rattle.joint_bytes.specs.Links.{link_in};
-ghost use Rattle.joint_bytes.specs.Numbers.{number_at};
+ghost use Rattle.joint_bytes.specs.Numbers.{number_at, truth_at};
 ghost use Rattle.joint_bytes.specs.Processors.{processor_in};
 ghost use Rattle.joint_bytes.specs.Sides.{bios_in};
-ghost use Rattle.joint_run.specs.Sound.{IsSound};
+ghost use Rattle.mcs48_core.specs.Cpu.{Cpu};
 ghost use Rattle.joint_saved.specs.Saved.{HasMachine, HasNoMachine, IsUnloaded, checked, counts_fit, is_sound, kept_by, kept_of, loaded, machine_in, magic};
-ghost use Rattle.joint_saved.specs.declared.unloaded.Unloaded.TheVariants.{Memory, State};
+ghost use Rattle.joint_saved.specs.declared.unloaded.Unloaded.TheVariants.{Memory};
 
 use crate::saving::SAVED;
 use crate::unloaded::Unloaded;
 use arrayvec::ArrayVec;
 use board_terms::{Edge, Matrix};
-use ctl_link::{Link, LinkEnd};
+use ctl_link::Link;
 use ctl_wire::Wire;
 use int09::Bios;
 use joint_bytes::{
@@ -156,31 +156,29 @@ fn is_held(link: &Link<Wire>) -> bool
     matches!(link, Link::Hold(_))
 }
 
-/// Whether the output buffer is empty or the keyboard is held off.
-fn is_empty_unless_held(port: &LinkEnd<Wire>) -> bool
-    ensures { result ≡ fits port.now.core.output_full port.now.link }
+/// Whether the output buffer of a controller with these bytes is empty, or the keyboard is held off.
+fn is_empty_unless_held(controller: &[u8], link: &Link<Wire>) -> bool
+    requires count { length controller.now ≡ 11 }
+    ensures { result ≡ fits (truth_at 2 controller.now) link.now }
 {
-    !port.core.output_full() || is_held(&port.link)
+    controller[2] != 1 || is_held(link)
 }
 
-/// Whether each step took a cycle at least, and the output buffer is empty unless the keyboard is held off.
-fn is_sound(machine: &Machine) -> bool
-    ensures test { result ≡ is_sound machine.now }
-    ensures sound { result ≡ true → IsSound machine.now }
+/// Whether the machine of these bytes and this link took a cycle at least for each step, and its output buffer is empty
+/// unless the keyboard is held off.
+fn is_sound(bytes: &[u8], link: &Link<Wire>) -> bool
+    requires count { length bytes.now ≡ 3077 }
+    ensures { (cpu : Cpu) → is_sound (kept_by bytes.now cpu link.now).joint ≡ result }
 {
-    machine.steps <= machine.cycle && is_empty_unless_held(&machine.outside.desk.port)
+    number_at(bytes, 16) <= number_at(bytes, 8) && is_empty_unless_held(&bytes[71..82], link)
 }
 
-/// The machine, if its parts fit together.
-fn sound(machine: Machine) -> Result<Joint, Unloaded>
-    ensures joint { IfOk result (λ joint. (joint ≡ machine) × (is_sound machine ≡ true)) }
-    ensures refused { IfErr result (λ fault. (fault ≡ State) × (is_sound machine ≡ false)) }
+/// The joint machine of parts that fit together.
+fn sound(machine: Machine) -> Joint
+    requires fit { is_sound machine ≡ true }
+    ensures { result ≡ machine }
 {
-    if is_sound(&machine) {
-        Ok(Joint::of_parts(machine))
-    } else {
-        Err(Unloaded::State)
-    }
+    Joint::of_parts(machine)
 }
 
 /// The edges of keys that wait.
@@ -225,8 +223,11 @@ fn joint_of(alloc: Global, bytes: &[u8], mcu: Mcu, link: Link<Wire>) -> Result<J
     ensures joint { IfOk result (λ joint. HasMachine bytes.now joint) }
     ensures refused { IfErr result (HasNoMachine bytes.now) }
 {
+    if !is_sound(bytes, &link) {
+        return Err(Unloaded::State);
+    }
     let bios = bios(alloc, bytes)?;
-    sound(machine(bytes, mcu, link, bios))
+    Ok(sound(machine(bytes, mcu, link, bios)))
 }
 
 /// The machine with this processor, which was read from the bytes.

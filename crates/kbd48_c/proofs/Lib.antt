@@ -2,4 +2,3 @@ pub mod Pointing
 pub mod Forms
 pub mod Through
 pub mod SampleKeys
-pub mod Loading
