@@ -1,6 +1,6 @@
 //! The keyboard that saved bytes mean.
 
-ghost use Rattle.std.specs.Prelude.{◌≡◌, ◌≤◌, ◌==◌, ◌%◌, ◌^◌, length, slice_index, slice_range, true, false, Some, Ok, OnOk, IfOk, IfErr};
+ghost use Rattle.std.specs.Prelude.{◌≡◌, ◌≤◌, ◌==◌, ◌%◌, ◌^◌, length, slice_index, slice_range, true, Some, Ok, OnOk, IfOk, IfErr};
 ghost use Rattle.ctl_link.specs.Empty.{fits, is_held};
 ghost use Rattle.joint_bytes.specs.Lists.{edges_in, have_places, items_in, words_in};
 ghost use Rattle.joint_bytes.specs.Links.{link_in};

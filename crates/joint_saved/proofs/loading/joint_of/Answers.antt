@@ -1,4 +1,4 @@
-use Rattle.std.proofs.Common.{inl, rules, ap, sym, ◌∙◌}
+use Rattle.std.proofs.Common.{inl, rules, ap, ◌∙◌}
 use Rattle.joint_saved.specs.Saved.{is_sound}
 use Rattle.joint_saved.proofs.Understood.{joint_is, no_memory, unsound}
 use Rattle.joint_saved.proofs.loading.joint_of.Goals as goal
