@@ -19,10 +19,10 @@ const LONGEST = 200; // ms that are made up for, after a time in which the page 
 const STRETCH = 40, CALM_STRETCH = 100, SOON = 20; // ms
 // A picture costs the browser several times what a stretch costs, however little changes in it. Who types slowly has two of each
 // stroke: the key that goes down and its letter; then the key that goes up, with wires and logs. Who types fast has one: a key
-// that went up is drawn with the next that goes down, and so are wires and logs, some twice a second. If no key follows, they are
+// that went up is drawn with the next that goes down, and so are wires and logs, once or twice a second. If no key follows, they are
 // drawn a little later. If time is slow, which somebody watches, wires and logs are drawn ten times a second.
 const FAST = 240; // ms between two strokes
-const BETWEEN_NEWS = 240, BETWEEN_FAST_NEWS = 380, BETWEEN_PICTURES = 160, LATEST = 100; // ms
+const BETWEEN_NEWS = 240, BETWEEN_FAST_NEWS = 540, BETWEEN_PICTURES = 160, LATEST = 100; // ms
 const STROKE = 150; // ms after which a key that is down is a held one
 // A key that went up is drawn after a tenth of a second at the latest, or after 150 ms if somebody types fast.
 const UP_LATEST = LATEST - STRETCH, FAST_UP_LATEST = 150 - STRETCH; // ms
