@@ -80,8 +80,8 @@ every_memory layout history fine ok m small = (
       (λ w m t. (t.ties.started.entered.early, t.ties.started.entered.late)),
 )
 
--- cleared memory is one
-cleared : IsFine reset_cpu
+-- cleared memory is fine
+pub cleared : IsFine reset_cpu
 cleared =
     record {
       pc = omega arith;

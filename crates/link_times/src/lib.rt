@@ -1,4 +1,4 @@
-//! When what waits arrives, and that nothing comes to the line twice or is read twice: laws of whole runs.
+//! When what waits arrives, and that nothing begins to wait twice by itself or is read twice: laws of whole runs.
 //!
 //! What begins to wait in a tick is a reply, the AA of the test's end, the codes of its keys and the 00 of an overrun,
 //! each once. What waits goes one byte a tick, in its order, if nothing holds it off; and what may hold it off is

@@ -1,9 +1,8 @@
 -- The law over a whole run: from power-on to the first tick start, and from each start to the next.
 use Rattle.std.proofs.Common.{◌≡◌, ◌≤◌, ◌<◌, ℕ, suc, zero, ◌+◌, ◌-◌, ◌*◌, ◌++◌, Bool, true, false, Some, refl, ap, sym, ◌∙◌, arith}
-use Rattle.std.proofs.lemmas.List.Elements.{All-replicate}
 use Rattle.std.specs.declared.option.Option.{Option}
 use Rattle.agreement.specs.Wires.{DrivesWires, IsFrameOf, IsLetGo}
-use Rattle.agreement.proofs.Run.{every_memory, every_wire}
+use Rattle.agreement.proofs.Run.{cleared, every_memory, every_wire}
 use Rattle.bits.specs.Bits.{bit}
 use Rattle.byte_time.specs.declared.meeting.Meeting.{Meeting}
 use Rattle.byte_time.specs.declared.meeting.Meeting.TheVariants.{Got, Inhibited, Idle, Sent, Cut}
@@ -21,7 +20,6 @@ use Rattle.link_model.specs.Expected.{meeting_from, whole_at}
 use Rattle.link_model.specs.Machine.{keyboard}
 use Rattle.mcs48_core.specs.Cpu.{Cpu}
 use Rattle.mcs48_core.specs.Reset.{reset_cpu}
-use Rattle.mcs48_ranges.specs.Sizes.{IsByte, IsFine}
 use Rattle.std.proofs.lemmas.Bool.Decides.{nat_tests}
 use Rattle.std.specs.Prelude.{nat_lt}
 use Rattle.wires_heard.proofs.Chain.{Latches, calm_ends, calm_latches, tick_ends, tick_latches}
@@ -215,22 +213,6 @@ module _ (s : Story) (time : KeepsTimeFrom (joint_start_of s.held) s.bytes s.edg
     pub all : (k : ℕ) → transfers_to s k ≡ passed_to s k
     all zero = refl
     all (suc k) = ap (λ ts. ts ++ transfer_at s k) (all k) ∙ ap (λ ts. passed_to s k ++ ts) (each k)
-
--- cleared memory is fine
-cleared : IsFine reset_cpu
-cleared =
-    record {
-      pc = omega arith;
-      a = omega arith;
-      ram = All-replicate IsByte 128 0 (omega arith);
-      long = refl;
-      t = omega arith;
-      pre = omega arith;
-      p1 = omega arith;
-      p2 = omega arith;
-      bus = omega arith;
-      sp = omega arith;
-    }
 
 -- reset leaves no interrupt in service, so the run of a part that was reset is that of one that was switched on without one
 abbrev unserved : Cpu → Cpu

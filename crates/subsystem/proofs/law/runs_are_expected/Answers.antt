@@ -1,30 +1,13 @@
-use Rattle.std.proofs.Common.{◌<◌, length, refl, subst, sym, ◌∙◌, arith}
-use Rattle.std.proofs.lemmas.List.Elements.{All-replicate}
+use Rattle.std.proofs.Common.{◌<◌, length, refl, subst, sym, ◌∙◌}
+use Rattle.agreement.proofs.Run.{cleared}
 use Rattle.board_terms.specs.Cadence.{listed}
 use Rattle.fw_compile.specs.Image.{image_of}
 use Rattle.joint_feed.specs.Stories.{story}
 use Rattle.link_model.specs.Machine.{keyboard}
 use Rattle.mcs48_core.specs.Reset.{reset_cpu}
-use Rattle.mcs48_ranges.specs.Sizes.{IsByte, IsFine}
 use Rattle.subsystem.proofs.Agreed.{log_as_expected}
 use Rattle.subsystem.proofs.Timekeeping.{keeps_cadence, starts_at}
 use Rattle.subsystem.proofs.law.runs_are_expected.Goals as goal
-
--- cleared memory is fine
-cleared : IsFine reset_cpu
-cleared =
-    record {
-      pc = omega arith;
-      a = omega arith;
-      ram = All-replicate IsByte 128 0 (omega arith);
-      long = refl;
-      t = omega arith;
-      pre = omega arith;
-      p1 = omega arith;
-      p2 = omega arith;
-      bus = omega arith;
-      sp = omega arith;
-    }
 
 pub returns : goal.returns
 returns c = record {
