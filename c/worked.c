@@ -336,6 +336,42 @@ static void a_keyboard_is_loaded_as_it_was_saved_and_other_bytes_are_refused(voi
     CHECK(kbd48_close(&k) == KBD48_DONE && kbd48_close(&other) == KBD48_DONE);
 }
 
+/* Each tick looks at the matrix once, every 2,048 cycles. So a key that bounces for less than that goes down once and up once,
+   wherever in a tick it begins. */
+static void a_key_that_bounces_is_typed_once(void) {
+    static const uint64_t bounces[] = {300, 150, 500, 60}; /* cycles from one change of the contact to the next */
+    for (uint64_t late = 0; late < 2048; late += 89) {
+        kbd48 k = KBD48_EMPTY;
+        kbd48_fault fault;
+        kbd48_spot spot;
+        kbd48_item item = {0, 0, 0};
+        uint64_t passed;
+        uint16_t word = 0;
+        int ports = 0;
+        CHECK(kbd48_open_layout(one_key, sizeof one_key - 1, &k, &fault) == KBD48_DONE && kbd48_bios(&k, true) == KBD48_DONE);
+        CHECK(kbd48_run(&k, SECOND + late, false, &passed, &spot) == KBD48_DONE);
+        while (kbd48_next(&k, &item) == KBD48_DONE) {
+        }
+        for (int way = 0; way < 2; way++) {
+            bool down = way == 0;
+            CHECK(kbd48_key(&k, 95, down) == KBD48_DONE);
+            for (int n = 0; n < 4; n++) {
+                CHECK(kbd48_run(&k, bounces[n], false, &passed, &spot) == KBD48_DONE);
+                CHECK(kbd48_key(&k, 95, n % 2 == 0 ? !down : down) == KBD48_DONE);
+            }
+            CHECK(kbd48_run(&k, 20000, false, &passed, &spot) == KBD48_DONE);
+            while (kbd48_next(&k, &item) == KBD48_DONE) {
+                if (item.kind != KBD48_ITEM_PORT) continue;
+                CHECK(item.value == (down ? 0x1e : 0x9e));
+                ports++;
+            }
+            CHECK(ports == way + 1);
+        }
+        CHECK(kbd48_take(&k, &word) == KBD48_DONE && word == 0x1e61 && kbd48_take(&k, &word) == KBD48_NO_WORD);
+        CHECK(kbd48_close(&k) == KBD48_DONE);
+    }
+}
+
 int main(void) {
     FILE *file = fopen("examples/us84.hex", "rb");
     CHECK(file && (kernel_length = fread(kernel, 1, sizeof kernel, file)) > 0);
@@ -343,6 +379,7 @@ int main(void) {
     an_empty_handle_says_so_and_does_nothing();
     a_host_hears_the_self_test_and_sets_the_lights();
     keys_of_a_layout_become_words();
+    a_key_that_bounces_is_typed_once();
     a_text_with_a_fault_opens_nothing();
     a_program_that_sticks_says_where();
     looks_take_nothing_and_a_copy_goes_its_own_way();
@@ -355,5 +392,5 @@ int main(void) {
     keys_that_are_pushed_at_once_are_read_in_their_order();
     a_key_has_its_place_by_its_name();
     a_keyboard_is_loaded_as_it_was_saved_and_other_bytes_are_refused();
-    puts("worked: fifteen worked examples, call by call");
+    puts("worked: sixteen worked examples, call by call");
 }

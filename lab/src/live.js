@@ -47,10 +47,11 @@ export class Live {
 
   get stamp() { return this.cycle - FIRST_STAMP; }
 
+  /** Whether nothing is under way: no edge and no byte waits to be handed in, no wire is low, and no byte waits to be read. */
+  get isQuiet() { return this.levels === BOTH && !this.up && !this.pushed.length && !this.orders.length; }
+
   /** Whether nothing will be seen for a while: no key is down, and nothing was handed in for a second. */
-  get isCalm() {
-    return this.levels === BOTH && !this.up && !this.pushed.length && !this.orders.length && !this.down.size && this.cycle - this.stirred > CALM_AFTER;
-  }
+  get isCalm() { return this.isQuiet && !this.down.size && this.cycle - this.stirred > CALM_AFTER; }
 
   // Whoever runs this keyboard hears before something is handed in.
   #stir() {

@@ -19,13 +19,13 @@ const LONGEST = 200; // ms that are made up for, after a time in which the page 
 const STRETCH = 40, CALM_STRETCH = 100, SOON = 20; // ms
 // A picture costs the browser several times what a stretch costs, however little changes in it. Who types slowly has two of each
 // stroke: the key that goes down and its letter; then the key that goes up, with wires and logs. Who types fast has one: a key
-// that went up is drawn with the next that goes down, and so are wires and logs, once or twice a second. If no key follows, they are
+// that went up is drawn with the next that goes down, and so are wires and logs, once a second. If no key follows, they are
 // drawn a little later. If time is slow, which somebody watches, wires and logs are drawn ten times a second.
 const FAST = 240; // ms between two strokes
-const BETWEEN_NEWS = 240, BETWEEN_FAST_NEWS = 540, BETWEEN_PICTURES = 160, LATEST = 100; // ms
+const BETWEEN_NEWS = 240, BETWEEN_FAST_NEWS = 900, BETWEEN_PICTURES = 160, LATEST = 100; // ms
 const STROKE = 150; // ms after which a key that is down is a held one
 // A key that went up is drawn after a tenth of a second at the latest, or after 150 ms if somebody types fast.
-const UP_LATEST = LATEST - STRETCH, FAST_UP_LATEST = 150 - STRETCH; // ms
+const UP_LATEST = LATEST - SOON, FAST_UP_LATEST = 150; // ms
 
 const moduleOf = async id => unpacked(bytesOf(byId(id).textContent));
 
@@ -93,11 +93,12 @@ class Lab {
 
   /** A key goes down or up. */
   press(place, down) {
-    if (down) {
-      const now = performance.now();
-      Object.assign(this, { pace: now - this.pressed, pressed: now });
-    }
+    const now = performance.now();
+    if (down) Object.assign(this, { pace: now - this.pressed, pressed: now });
+    else this.upSince ??= now;
     this.live.press(place, down);
+    // Of somebody who types fast, nothing is drawn before the next key.
+    if (!down && this.timer !== null && this.#isFast) this.#wait(this.#stretch);
   }
 
   show(name, shown, scrolled = true) {
@@ -122,17 +123,20 @@ class Lab {
     this.keys.lamps(this.keyboard.lights());
   }
 
+  // Whether time is real.
+  get #isReal() { return byId('speed').value === '1'; }
+
   // Whether somebody types fast, on a keyboard that is in sight.
-  get #isFast() { return this.inSight.has('keyboard') && this.pace <= FAST && this.last - this.pressed <= FAST; }
+  get #isFast() { return this.#isReal && this.inSight.has('keyboard') && this.pace <= FAST && this.last - this.pressed <= FAST; }
 
   // Whether it is time for a picture of the wires and the logs. It waits for a key that goes up, or down if somebody types fast. Of
   // a single stroke it isn't made with the key that goes down: the browser draws all that is between them, and a release follows.
   #isDue(isSharp, isUp) {
-    const { last, live } = this, isReal = byId('speed').value === '1';
+    const { last, live } = this, isReal = this.#isReal;
     if (live.news === this.news) return last - this.drawn >= BETWEEN_PICTURES;
     this.since ??= last;
     const ago = last - this.newsDrawn, waited = last - this.since;
-    if (isReal && this.#isFast) return isSharp && ago >= BETWEEN_FAST_NEWS;
+    if (this.#isFast) return isSharp && ago >= BETWEEN_FAST_NEWS;
     if (ago < (isReal ? BETWEEN_NEWS : LATEST)) return false;
     const isStroke = isSharp || (live.down.size > 0 && last - this.stirred < STROKE);
     return waited >= (isReal && isStroke ? BETWEEN_NEWS : LATEST) || (isUp && !isSharp);
@@ -140,10 +144,10 @@ class Lab {
 
   /** Draws the keys and the PC's screen, if they are in sight. */
   drawKeys() {
-    this.upSince = null;
     if (!this.inSight.has('keyboard')) return;
     this.keys.draw();
     this.pc.draw();
+    this.upSince = this.keys.wentUp ? this.last : null;
   }
 
   /** Draws what changed in the other panes that are in sight. */
@@ -158,7 +162,6 @@ class Lab {
   #pictures() {
     const { keys, last } = this, isSeen = this.inSight.has('keyboard');
     const isSharp = isSeen && (keys.wentDown || this.pc.isNew), isUp = isSeen && keys.wentUp, isDue = this.#isDue(isSharp, isUp);
-    if (isUp) this.upSince ??= last;
     const isUpNow = isUp && (isDue || last - this.upSince >= (this.#isFast ? FAST_UP_LATEST : UP_LATEST));
     if (isSharp || isUpNow) this.drawKeys();
     if (isDue) this.draw();
@@ -184,6 +187,15 @@ class Lab {
     this.#wait(SOON);
   }
 
+  // How long the keyboard may wait before it goes on, in ms.
+  get #stretch() {
+    const { last, live, upSince } = this;
+    // Somebody who stopped time steps through it, and wants to see each step.
+    if (isStopped()) return STRETCH;
+    if (this.#isFast && live.isQuiet) return upSince === null ? CALM_STRETCH : Math.min(CALM_STRETCH, Math.max(0, upSince + FAST_UP_LATEST - last));
+    return live.isCalm ? CALM_STRETCH : STRETCH;
+  }
+
   #wait(ms) {
     clearTimeout(this.timer);
     this.timer = setTimeout(() => this.tick(), ms);
@@ -198,8 +210,7 @@ class Lab {
       trouble(error);
       return;
     }
-    // Somebody who stopped time steps through it, and wants to see each step.
-    this.#wait(this.live.isCalm && !isStopped() ? CALM_STRETCH : STRETCH);
+    this.#wait(this.#stretch);
   }
 }
 

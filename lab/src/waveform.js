@@ -3,7 +3,7 @@ import { CLOCK, DATA, PC_SIDE } from './wires.js';
 import { hex } from './dom.js';
 
 const LONG = 96; // cycles
-const TOP = { [CLOCK]: 24, [DATA]: 78 }, SWING = 30, LABELS = 132;
+const TOP = { [CLOCK]: 24, [DATA]: 78 }, SWING = 30, LABELS = 132, EDGE = 4; // pixels
 const COLOURS = { ground: '#10201a', wire: '#7dffb0', gap: '#4fa878', name: '#b9e8cd', keyboard: '#ffd866', host: '#8fc7ff' };
 const THIN = 1.5, THICK = 3, DASH = 2, DASHES_APART = 6; // pixels
 const LEAST_ZOOM = 0.125, MOST_ZOOM = 8;
@@ -99,13 +99,17 @@ export class Waveform {
     if (x > 0) this.back = 0;
   }
 
+  // Each byte below its frame; if there is room, with its way.
   #labels(pen, bytes) {
     pen.font = '600 13px system-ui, sans-serif';
     for (let n = bytes.length - 1; n >= 0; n--) {
       const { begin, end, sender, byte } = bytes[n], left = this.places.get(begin), right = this.places.get(end);
       if (left === undefined && right === undefined) break;
+      const x = left ?? EDGE, room = (right ?? Infinity) - x, value = hex(byte);
+      const text = [sender === 'host' ? `PC → ${value}` : `${value} → PC`, value].find(it => pen.measureText(it).width <= room);
+      if (text === undefined) continue;
       pen.fillStyle = COLOURS[sender];
-      pen.fillText(sender === 'host' ? `PC → ${hex(byte)}` : `${hex(byte)} → PC`, left ?? 4, LABELS + 8);
+      pen.fillText(text, x, LABELS + 8);
     }
   }
 }

@@ -129,10 +129,11 @@ export async function load(browser, pane) {
   return 100 * (browser.processorSeconds() - before) / ((Date.now() - began) / 1000);
 }
 
-/** The least load of up to three measures: other work on the machine only adds to one. */
+/** The least load of up to six measures. Other work on the machine only adds to one; so does the browser's compiler, which is at
+    work in the first seconds of what is new. */
 async function least(browser, pane = 'keyboard') {
   let found = await load(browser, pane);
-  for (let more = 0; more < 2 && found !== null && found > GOAL; more++) found = Math.min(found, await load(browser, pane));
+  for (let more = 0; more < 5 && found !== null && found > GOAL; more++) found = Math.min(found, await load(browser, pane));
   return found;
 }
 
@@ -148,17 +149,26 @@ async function leastTyping(browser, pane, letters = 'KEYBOARD') {
       send('keydown', code);
       setTimeout(send, ${HELD}, 'keyup', code);
     }, ${BETWEEN_STROKES});
-    // What one task of the page changes is seen at once, and is one picture.
+  })(); 0`);
+  const found = await least(browser, pane);
+  await fewPictures(browser, letters);
+  await browser.evaluate('clearInterval(strokes)');
+  return found;
+}
+
+/** What one task of the page changes is seen at once, and is one picture. They are counted after the load, to which a watcher adds. */
+async function fewPictures(browser, letters) {
+  await browser.evaluate(`(() => {
     globalThis.pictures = 0;
     globalThis.watch = new MutationObserver(() => { pictures++; });
     watch.observe(document.body, { subtree: true, childList: true, characterData: true, attributes: true });
   })(); 0`);
-  const before = await typed(browser), began = Date.now(), found = await least(browser, pane);
-  const pictures = await browser.evaluate('clearInterval(strokes); watch.disconnect(); pictures');
+  const before = await typed(browser), began = Date.now();
+  await browser.wait(MEASURED);
+  const pictures = await browser.evaluate('watch.disconnect(); pictures');
   const strokes = await typed(browser) - before, rate = strokes / ((Date.now() - began) / 1000);
   assert.ok(rate > 3, `${rate.toFixed(1)} strokes a second arrived`);
   assert.ok(pictures / strokes <= MOST_PICTURES, `${(pictures / strokes).toFixed(2)} pictures for each stroke of ${letters}`);
-  return found;
 }
 
 const typed = browser => browser.evaluate('lab.live.events.filter(it => it.words.startsWith("press ")).length');
