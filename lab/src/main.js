@@ -87,6 +87,7 @@ class Lab {
     this.live.onWord = word => this.pc.word(word);
     this.live.onStir = () => this.stir();
     byId('masked').checked = false;
+    this.upSince = null;
     this.wires?.begin();
     this.processor?.begin();
   }
