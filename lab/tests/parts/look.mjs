@@ -118,22 +118,27 @@ export async function policy(browser) {
   assert.ok(said2.length > 0 && said2.every(line => /Content.Security.Policy/i.test(line)), said2.join('\n'));
 }
 
-/** The part of one processor that the browser takes, with all its processes and all panes open, one of them in sight. */
-export async function load(browser, pane) {
+/** All panes are open, and one of them is in sight. */
+async function arrange(browser, pane) {
   for (const name of PANES) await browser.evaluate(`lab.show(${JSON.stringify(name)}, true)`);
   await browser.evaluate(`document.getElementById("board").focus(); document.getElementById("${pane}").scrollIntoView()`);
   await browser.wait(1500);
+}
+
+/** The part of one processor that the browser takes, with all its processes. */
+async function load(browser) {
   const before = browser.processorSeconds(), began = Date.now();
   if (before === null) return null;
   await browser.wait(MEASURED);
   return 100 * (browser.processorSeconds() - before) / ((Date.now() - began) / 1000);
 }
 
-/** The least load of up to six measures. Other work on the machine only adds to one; so does the browser's compiler, which is at
-    work in the first seconds of what is new. */
+/** The least load of up to ten measures. Other work on the machine only adds to one; and Firefox draws more in the first half
+    minute of what is new. */
 async function least(browser, pane = 'keyboard') {
-  let found = await load(browser, pane);
-  for (let more = 0; more < 5 && found !== null && found > GOAL; more++) found = Math.min(found, await load(browser, pane));
+  await arrange(browser, pane);
+  let found = await load(browser);
+  for (let more = 0; more < 9 && found !== null && found > GOAL; more++) found = Math.min(found, await load(browser));
   return found;
 }
 
