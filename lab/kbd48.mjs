@@ -84,10 +84,10 @@ class Machine {
   }
 }
 
-/** Compiles a module's bytes and starts it. */
-async function started(bytes) {
-  const { instance } = await WebAssembly.instantiate(bytes, {});
-  return new Machine(instance.exports);
+/** Starts a module, given as bytes, which are compiled first, or compiled. */
+async function started(module) {
+  const made = await WebAssembly.instantiate(module, {});
+  return new Machine((made.instance ?? made).exports);
 }
 
 // Where the values lie that calls pass by pointer, in one block. The last is the keyboard's queue, a `kbd48_keys`.
@@ -100,8 +100,8 @@ const COUNTS = ['off', 'cycles', 'falls of T1'];
 
 /** One keyboard, as `c/kbd48.h` has it. Time is counted in cycles of 2.5 microseconds. */
 export class Keyboard {
-  static async load(bytes) {
-    return new Keyboard(await started(bytes));
+  static async load(module) {
+    return new Keyboard(await started(module));
   }
 
   /** A keyboard that isn't open yet, in the same module as another. */
@@ -456,8 +456,8 @@ const PIECE = 16, SAID = 16;
 
 /** The whole program: each command of kbd48, over files in memory. */
 export class Program {
-  static async load(bytes) {
-    return new Program(await started(bytes));
+  static async load(module) {
+    return new Program(await started(module));
   }
 
   constructor(machine) {
