@@ -66,10 +66,12 @@ async function compiled(bytes) {
 }
 
 async function answered([page, count, closed, ...words]) {
-  if (parseInt(process.versions.node, 10) < NODE) throw new Ended(UNUSABLE, `Node ${process.version} is too old: ${NODE} or later runs the module`);
+  if (parseInt(process.versions.node, 10) < NODE) {
+    throw new Ended(UNUSABLE, `${process.execPath} is too old: Node ${NODE} or later runs the module in lab/lab.html`);
+  }
   const program = await compiled(programOf(page));
   const answer = answerOver(program, wordsOf(words), Number(count), !closed.includes('in'));
-  if (answer.exit === WRITE) throw new Ended(NO_ANSWER, 'the text is longer than the module has room for; the program itself prints it');
+  if (answer.exit === WRITE) throw new Ended(NO_ANSWER, 'the text has more than 256 MiB, for which the module has no room');
   const taken = answer.bytes.length === 0 || !closed.includes('out') && written(answer.bytes);
   return taken ? answer.exit : WRITE;
 }

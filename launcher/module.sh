@@ -76,8 +76,8 @@ node_failed() {
 # there is no answer; of these two the reason was said.
 node_answers() {
     closed=none
-    { true <&0; } 2>/dev/null || closed=in
-    { true >&1; } 2>/dev/null || closed=$closed,out
+    { true 3<&0; } 2>/dev/null || closed=in
+    { true 3>&1; } 2>/dev/null || closed=$closed,out
     "$node" "$here/launcher/module.mjs" "$page" "$("$here/launcher/files" "$@")" "$closed" "$@"
     ended=$?
     case $ended in
