@@ -90,7 +90,7 @@ export declare class Trapped extends Error {}
 
 /** One keyboard. A cycle is 2.5 microseconds; a place is eight times the column and the row, 0 to 95. */
 export declare class Keyboard {
-  static load(bytes: BufferSource): Promise<Keyboard>;
+  static load(module: BufferSource | WebAssembly.Module): Promise<Keyboard>;
   openLayout(text: Uint8Array): void;
   openHex(text: Uint8Array): void;
   openSample(): void;
@@ -149,6 +149,6 @@ export interface Answer {
 
 /** The whole program over files in memory. */
 export declare class Program {
-  static load(bytes: BufferSource): Promise<Program>;
+  static load(module: BufferSource | WebAssembly.Module): Promise<Program>;
   run(words: string[], files?: Record<string, Uint8Array | string>): Answer;
 }

@@ -84,10 +84,10 @@ class Machine {
   }
 }
 
-/** Compiles a module's bytes and starts it. */
-async function started(bytes) {
-  const { instance } = await WebAssembly.instantiate(bytes, {});
-  return new Machine(instance.exports);
+/** Starts a module, given as bytes, which are compiled first, or compiled. */
+async function started(module) {
+  const made = await WebAssembly.instantiate(module, {});
+  return new Machine((made.instance ?? made).exports);
 }
 
 // Where the values lie that calls pass by pointer, in one block. The last is the keyboard's queue, a `kbd48_keys`.
@@ -100,8 +100,8 @@ const COUNTS = ['off', 'cycles', 'falls of T1'];
 
 /** One keyboard, as `c/kbd48.h` has it. Time is counted in cycles of 2.5 microseconds. */
 export class Keyboard {
-  static async load(bytes) {
-    return new Keyboard(await started(bytes));
+  static async load(module) {
+    return new Keyboard(await started(module));
   }
 
   /** A keyboard that isn't open yet, in the same module as another. */
@@ -451,20 +451,21 @@ export class Keyboard {
 // The statuses of kbd48_call, and the room for a text: it grows while the program says that its sink is full.
 const CALL_DONE = 0, CALL_NO_MEMORY = 2;
 const EXIT_WRITE = 6;
-const FIRST_ROOM = 1 << 20, MOST_ROOM = 1 << 26;
+const FIRST_ROOM = 1 << 20, MOST_ROOM = 1 << 28;
 const PIECE = 16, SAID = 16;
 
 /** The whole program: each command of kbd48, over files in memory. */
 export class Program {
-  static async load(bytes) {
-    return new Program(await started(bytes));
+  static async load(module) {
+    return new Program(await started(module));
   }
 
   constructor(machine) {
     this.machine = machine;
   }
 
-  /** Runs the program: `words` are strings, `files` maps names to bytes or strings. Its exit status and its text. */
+  /** Runs the program: `words` are strings, `files` maps names to bytes or strings. Its exit status and its text, whose bytes are
+      at most 256 MiB: exit 6 says that it would be longer. */
   run(words, files = {}) {
     for (let room = FIRST_ROOM; ; room *= 4) {
       const said = this.#run(words, files, room);
@@ -502,6 +503,6 @@ export class Program {
     machine.give(at);
     if (status === CALL_NO_MEMORY) throw new Kbd48Error(Status.NO_MEMORY);
     if (status !== CALL_DONE) throw new Error('a word or a name of a file is no UTF-8 text');
-    return { exit, bytes: out, text: new TextDecoder().decode(out) };
+    return { exit, bytes: out, get text() { return new TextDecoder().decode(out); } };
   }
 }

@@ -15,8 +15,17 @@ follow() {
 # The toolchain's command, and the file beside it that names its version; empty if it isn't on the path.
 rt=$(command -v rt) && follow "$rt" && rt=$file && kit=${rt%/*}/../KIT-ID
 
-# untouched FILE: whether nothing was touched since this file was written: no source, no folder of them, not the toolchain.
-# The times of change tell it, which no copying sets back. Any doubt, one of `find` itself included, is a no.
+# unchanged FILE PLACE ..: whether nothing in these places was touched since the file was written. The times of change tell it,
+# which no copying sets back. Any doubt, one of `find` itself included, is a no.
+unchanged() {
+    looked=$1
+    shift
+    [ -e "$looked" ] || return 1
+    touched=$(find "$@" -name out -prune -o -name must-fail -prune -o -name 'rows_*' -prune -o -cnewer "$looked" -print 2>&1) &&
+        [ -z "$touched" ]
+}
+
+# untouched FILE: whether neither a source was touched since this file was written, nor a folder of them, nor the toolchain.
 untouched() {
     [ -e "$1" ] || return 1
     looked=$1
@@ -25,8 +34,7 @@ untouched() {
         read -r by <"$looked" && [ "$rt" = "$by" ] || return 1
         set -- "$@" "$rt" "$kit"
     fi
-    touched=$(find "$@" -name out -prune -o -name must-fail -prune -o -name 'rows_*' -prune -o -cnewer "$looked" -print 2>&1) &&
-        [ -z "$touched" ]
+    unchanged "$looked" "$@"
 }
 
 # stands FOLDER: whether the program in it is built of these sources, by this toolchain if there is one. If the checksum
