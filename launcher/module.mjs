@@ -6,7 +6,7 @@
 // both is on standard error.
 import { readFileSync, writeSync } from 'node:fs';
 import { setFlagsFromString } from 'node:v8';
-import { answerOver } from './module_files.mjs';
+import { answerOver, written } from './module_files.mjs';
 import { PageFault, programOf } from './module_page.mjs';
 
 const ANSWERED = 100, UNUSABLE = 90, NO_ANSWER = 91;
@@ -19,18 +19,6 @@ class Ended extends Error {
     super(reason);
     this.status = status;
   }
-}
-
-// Writes it all, or returns false where the output takes no more.
-function written(bytes) {
-  for (let at = 0; at < bytes.length;) {
-    try {
-      at += writeSync(1, bytes, at);
-    } catch {
-      return false;
-    }
-  }
-  return true;
 }
 
 function say(line) {

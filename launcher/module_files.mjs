@@ -1,5 +1,6 @@
-// The files of a call, as the program fetches them: in the order of the words, each judged before the next is opened.
-import { closeSync, fstatSync, openSync, readSync, statSync } from 'node:fs';
+// The files of a call, as the program fetches them: in the order of the words, each judged before the next is opened. And the
+// standard output.
+import { closeSync, fstatSync, openSync, readSync, statSync, writeSync } from 'node:fs';
 
 // One byte past the longest file's limit: the program reads no more of any file.
 const MOST = 4_194_305, PIECE = 1 << 16;
@@ -37,6 +38,18 @@ function isRegular(name) {
   } catch {
     return false;
   }
+}
+
+/** Writes it all to the standard output, or returns false if that takes no more. */
+export function written(bytes) {
+  for (let at = 0; at < bytes.length;) {
+    try {
+      at += writeSync(1, bytes, at);
+    } catch {
+      return false;
+    }
+  }
+  return true;
 }
 
 /** What the program answers to these words, of which so many after the first name files. To the program, files have names
