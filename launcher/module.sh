@@ -109,7 +109,7 @@ make_portable() {
         flock 9
     fi
     if ! portable_can; then
-        echo "kbd48: making the C program of the proved module in lab/lab.html, once for these sources" >&2
+        echo "kbd48: making the C program of the proved module in lab/lab.html, once for these sources; it takes about a minute" >&2
         "$here/c/portable" --program >&2 9>&- || echo "kbd48: c/portable could not make it" >&2
     fi
     exec 9>&-
