@@ -33,7 +33,7 @@ use Rattle.agreement.proofs.Found.{found}
 use Rattle.agreement.proofs.Ran.{Ran}
 use Rattle.agreement.specs.Agreement.{switched_on}
 use Rattle.agreement.specs.AnyKeys.{longest_tick, tick_with, NeverStops}
-use Rattle.agreement.specs.Firmware.{HasNoPrefix, HasWholeCodes}
+use Rattle.agreement.specs.Firmware.{HasNoPrefix, HasWholeCodes, least_of}
 
 module _ (d : Board) (bytes : List ℕ) (hk : HasKernel bytes) (alike : IsSilentAlike bytes) (bare : HasNoPrefix bytes)
     (small : All IsByte bytes) (low : (p1 p2 c : ℕ) (s : d.State) → (d.pins p1 p2 c s).bus < 256) where
@@ -68,7 +68,7 @@ module _ (d : Board) (bytes : List ℕ) (hk : HasKernel bytes) (alike : IsSilent
             let kept = tick_sound (image_keys bytes) bare f.meeting (edges_now d w) (layers_met bytes f.meeting w.cpu.ram)
             (shown_by w.cpu.ram) (edges_low (changed_now d w) (column_read d w)) refl sound in
             let before : 4096 ≤ w.cycle = g.past in
-            let later : w.cycle ≤ v.cycle = r.later in (
+            let later : w.cycle + least_of f.frame ≤ v.cycle = r.later in (
               record {
                 start = r.started;
                 repeating = r.repeating;

@@ -187,7 +187,7 @@ down_read edges events w late c r lc lr =
     ∙ ap (λ n. is_down edges (8 * c + r) (w.cycle - 4096 + 16 + 16 * n)) (sym column)
 
 -- and a cell of memory has a 1 for each key that is held
-held_read : (ram : List ℕ) (c r : ℕ) → c < 12 → r < 8
+pub held_read : (ram : List ℕ) (c r : ℕ) → c < 12 → r < 8
     → bit r (slice_index ram (32 + c)) ≡ is_held (shown_by ram) (8 * c + r)
 held_read ram c r lc lr =
     let row : (8 * c + r) % 8 ≡ r = omega (arith, lr) in

@@ -12,7 +12,7 @@ use Rattle.fw_keys.specs.State.{made}
 use Rattle.fw_link.proofs.Wired.{IsReleased, lights_leave}
 use Rattle.bits.proofs.Every.{by_below}
 use Rattle.fw_logic.proofs.Memory.{memory_is}
-use Rattle.mcs48_ranges.specs.Sizes.{IsByte}
+use Rattle.mcs48_ranges.specs.Sizes.{IsByte, IsFine}
 use Rattle.joint_run.specs.Joint.{Beside, lights_of}
 use Rattle.joint_run.specs.Run.{World}
 use Rattle.kbd_model.specs.Keyboard.{offer}
@@ -28,7 +28,7 @@ the (Some v) = v
 same_byte : (a b : ℕ) → a < 256 → Some a ≡ Some b → b < 256
 same_byte a b l e = let h : a ≡ b = ap the e in rw (sym h) l
 
-module _ (m : Cpu) (s : IsStarted m) where
+module _ (m : Cpu) (fine : IsFine m) where
   abbrev f : ℕ → ℕ
   f = cells_in m.ram
 
@@ -36,12 +36,12 @@ module _ (m : Cpu) (s : IsStarted m) where
   ring = drop 112 m.ram
 
   cell : (i : ℕ) → i < 128 → f i < 256
-  cell i l = All-get_or IsByte m.ram i 0 (let n : length m.ram ≡ 128 = s.fine.long in omega (arith, n, l)) s.fine.ram
+  cell i l = All-get_or IsByte m.ram i 0 (let n : length m.ram ≡ 128 = fine.long in omega (arith, n, l)) fine.ram
 
   place : (i : ℕ) → i < 16 → slice_index ring i < 256
   place i l =
       let at : f (112 + i) ≡ slice_index ring i =
-      ap (λ r. slice_index r (112 + i)) (memory_is m.ram s.fine.long) ∙ ring-get f 0 112 ring i in
+      ap (λ r. slice_index r (112 + i)) (memory_is m.ram fine.long) ∙ ring-get f 0 112 ring i in
       subst (λ v. v < 256) at (cell (112 + i) (omega (arith, l)))
 
   abbrev queued : ℕ → ℕ

@@ -127,25 +127,25 @@ unless_full true t i = tt
 unless_full false t i = i
 
 -- what is reported becomes what is asked for
-asking_in : (since : ℕ) (d : Did) (l : Link UnderWay) → SaysByte d → AsksByte l → AsksByte (asking since d l)
+asking_in : {F : Type 0} (since : ℕ) (d : Did) (l : Link F) → SaysByte d → AsksByte l → AsksByte (asking since d l)
 asking_in since Nothing l t a = a
 asking_in since (ToKeyboard byte) l t a = t
 asking_in since (Output byte) l t a = a
 asking_in since (Pulse lines) l t a = a
 
 -- the input is taken
-took_in : (now : ℕ) (since : Option ℕ) (input : Option Taken) (p : LinkEnd UnderWay) → IsTakenWhere input → IsPortInBytes p
+took_in : {F : Type 0} (now : ℕ) (since : Option ℕ) (input : Option Taken) (p : LinkEnd F) → IsTakenWhere input → IsPortInBytes p
     → IsPortInBytes (took_where now since input p).port
 took_in now None input p t b = b
 took_in now (Some since) None p t b = b
 took_in now (Some since) (Some x) p t b = (t.0, asking_in since x.did p.link t.1 b.1)
 
 -- the link by itself
-either : (b : Bool) (k l : Link UnderWay) → AsksByte k → AsksByte l → AsksByte (if b then k else l)
+either : {F : Type 0} (b : Bool) (k l : Link F) → AsksByte k → AsksByte l → AsksByte (if b then k else l)
 either true k l ak al = ak
 either false k l ak al = al
 
-after_in : (now : ℕ) (stop awaits : Bool) (l : Link UnderWay) → AsksByte l → AsksByte (link_after now stop awaits l)
+after_in : {F : Type 0} (now : ℕ) (stop awaits : Bool) (l : Link F) → AsksByte l → AsksByte (link_after now stop awaits l)
 after_in now stop true Free a = tt
 after_in now true false Free a = tt
 after_in now false false Free a = tt
@@ -156,12 +156,12 @@ after_in now stop awaits (Request byte) a = a
 after_in now stop awaits (Busy under_way) a = tt
 
 -- the settling: the input is taken, and the link changes
-pub settled_in : (now : ℕ) (p : LinkEnd UnderWay) → IsPortInBytes p → IsPortInBytes (settled now p).port
+pub settled_in : {F : Type 0} (now : ℕ) (p : LinkEnd F) → IsPortInBytes p → IsPortInBytes (settled now p).port
 settled_in now p b =
     let input : Option Taken = if p.core.output_full then None else taken p.core in
     let full = unless_full p.core.output_full (taken p.core) (from_in p.core.input p.core b.0) in
     let took = took_in now (held_since now p.awaits p.link) input p full b in
-    let q : LinkEnd UnderWay = (takes_input now p).port in
+    let q = (takes_input now p).port in
     (took.0, after_in now (q.core.output_full || is_disabled q.core) q.awaits q.link took.1)
 
 -- what comes over the link leaves the input buffer; a byte that came wrong is asked for again by FE
@@ -175,7 +175,7 @@ wrong_in : (again : Bool) (s : ControllerState) → HoldsByte s.input
 wrong_in true s i = i
 wrong_in false s i = i
 
-received_in : (now : ℕ) (came : Option ℕ) (p : LinkEnd UnderWay) → IsPortInBytes p → IsPortInBytes (received now came p)
+pub received_in : {F : Type 0} (now : ℕ) (came : Option ℕ) (p : LinkEnd F) → IsPortInBytes p → IsPortInBytes (received now came p)
 received_in now (Some byte) p b =
     let t : Translated = translation (translates p.core) p.core.break_mark byte in
     (put_in t.byte (record p.core { break_mark = t.mark; resends = 0 }) b.0, tt)
@@ -208,7 +208,7 @@ happened_in now (Arrives byte) p b = arrived_at now byte p.link p b
 happened_in now IsWhole p b = (b.0, tt)
 
 -- a byte that is broken off leaves a hold
-pub broken_in : (breaks : Bool) (now : ℕ) (p : LinkEnd UnderWay) → IsPortInBytes p
+pub broken_in : {F : Type 0} (breaks : Bool) (now : ℕ) (p : LinkEnd F) → IsPortInBytes p
     → IsPortInBytes (if breaks then record p { link = Hold now } else p)
 broken_in true now p b = (b.0, tt)
 broken_in false now p b = b

@@ -12,11 +12,12 @@ use Rattle.kbd_model.specs.Tick.{ticked}
 use Rattle.kbd_model.specs.declared.meeting.Meeting.{Meeting}
 use Rattle.agreement.proofs.Happened.{Happened}
 use Rattle.agreement.specs.AnyKeys.{longest_tick, tick_with}
+use Rattle.agreement.specs.Firmware.{least_of}
 
 -- from tick start w to tick start v: as a tick in time, but for its length, if the next start isn't in time
 pub record Ran (d : Board) (bytes : List ℕ) (meeting : Meeting) (frame : Frame) (w v : World d.State) : Type 0 where
   pub started : IsAnyStart v.cpu
-  pub later : w.cycle ≤ v.cycle
+  pub later : w.cycle + least_of frame ≤ v.cycle
   pub soon : v.cycle ≤ w.cycle + longest_tick
   pub by_keys : v.cycle ≤ w.cycle + tick_with (length (edges_now d w))
   pub prompt : IsStarted w.cpu → length (edges_now d w) ≤ 4

@@ -157,7 +157,7 @@ module _ (layout : KeyLayout) (history : KeyHistory) (fine : IsKeyLayout layout)
         (is_alike layout fine) (are_bytes layout fine) (bus_low edges events) layout (same_keys layout)
         (no_prefix layout fine) (image_fn layout) n w m time tie columns of_layout (subst (λ v. length v ≤ 4) (sym columns) four)
         released lamps ok.flips
-        (λ byte is. offers_byte w.cpu tie.started byte (ap offer tie.keyboard ∙ is)) asked
+        (λ byte is. offers_byte w.cpu tie.started.fine byte (ap offer tie.keyboard ∙ is)) asked
 
     -- by the service's end
     pub passes : Passes joint bytes w
@@ -217,7 +217,7 @@ module _ (layout : KeyLayout) (history : KeyHistory) (fine : IsKeyLayout layout)
         (are_bytes layout fine) (low_over edges events W beneath above) layout (same_keys layout)
         (no_prefix layout fine) (image_fn layout) n (watched w) m time
         tie columns_above of_layout (subst (λ v. length v ≤ 4) (sym columns_above) four) released lamps ok.flips
-        (λ byte is. offers_byte w.cpu tie.started byte (ap offer tie.keyboard ∙ is)) asked in
+        (λ byte is. offers_byte w.cpu tie.started.fine byte (ap offer tie.keyboard ∙ is)) asked in
         record {
           frame = frame;
           of_meeting = t.rest.goal.2;
@@ -232,7 +232,7 @@ module _ (layout : KeyLayout) (history : KeyHistory) (fine : IsKeyLayout layout)
           idle = tie.idle;
           goes_with = goes_with edges events w tie.lit released frame
               (together events lit w.cycle released (at_look edges events w) (offer m.keys.keyboard) asked
-              (λ byte is. offers_byte w.cpu tie.started byte (ap offer tie.keyboard ∙ is)) (m.keys.keyboard.test == 0));
+              (λ byte is. offers_byte w.cpu tie.started.fine byte (ap offer tie.keyboard ∙ is)) (m.keys.keyboard.test == 0));
           asked = asks_for edges events w tie.lit released (offer m.keys.keyboard)
               (meeting_from (keyboard layout) events w.cycle m) frame t.rest.goal.2 went.rest.goal.4;
           none = tied.column;

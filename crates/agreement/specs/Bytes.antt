@@ -14,7 +14,7 @@ HoldsByte None = Unit {0}
 HoldsByte (Some input) = input.byte < 256
 
 -- so is the byte for the keyboard, if the link has one
-abbrev pub AsksByte : Link UnderWay → Type 0
+abbrev pub AsksByte : {F : Type 0} → Link F → Type 0
 AsksByte Free = Unit {0}
 AsksByte (Hold since) = Unit {0}
 AsksByte (Ask byte since) = byte < 256
@@ -22,7 +22,7 @@ AsksByte (Request byte) = byte < 256
 AsksByte (Busy under_way) = Unit {0}
 
 -- both, of the controller and of the PC's side
-abbrev pub IsPortInBytes : LinkEnd UnderWay → Type 0
+abbrev pub IsPortInBytes : {F : Type 0} → LinkEnd F → Type 0
 IsPortInBytes p = HoldsByte p.core.input × AsksByte p.link
 
 abbrev pub IsInBytes : Side UnderWay → Type 0
