@@ -1,0 +1,17 @@
+pub mod Above
+pub mod OwnKeys
+pub mod Keeping
+pub mod Run
+pub mod OneMeeting
+pub mod FrameLines
+pub mod Ears
+pub mod Offsets
+pub mod Still
+pub mod Alone
+pub mod SentTick
+pub mod GotTick
+pub mod Heard
+pub mod SameLines
+pub mod Hosted
+pub mod OnRun
+pub mod Latch

@@ -1,0 +1,7 @@
+pub mod Wires
+pub mod Ears
+pub mod Rules
+pub mod Ticks
+pub mod Hearing
+pub mod AnyPins
+pub mod AnyHost

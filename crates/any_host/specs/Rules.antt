@@ -1,0 +1,25 @@
+-- The rules of a host: what it must do on the two wires.
+use Rattle.std.specs.Prelude.{◌≡◌, ◌≤◌, ◌<◌, ℕ, suc, ◌+◌, Bool, true, false, List, length}
+use Rattle.fw_link.specs.Latch.{frame_bit}
+use Rattle.any_host.specs.Ears.{Gives, Takes, ear_to, fell}
+use Rattle.any_host.specs.Wires.{Wiring}
+
+-- a host keeps the rules, field by field: each pull of the clock lasts 24 cycles, 60 microseconds; none begins from 28
+-- cycles, 70 microseconds, after the tenth fall of a byte that it takes up to the eleventh; there is none while it sends.
+-- To request to send it pulls data once a pull of the clock has lasted 21 cycles, 52.5 microseconds, and holds it until
+-- the first fall. From 14 cycles, 35 microseconds, after each fall on it puts the next bit. It reads each bit of the
+-- keyboard in the 16 cycles, 40 microseconds, after the fall. What it sends are bytes
+pub record IsRuleful (w : Wiring) : Type 0 where
+  pub long : (c : ℕ) → (w.host c).clk ≡ false
+      → (a : ℕ) × (a ≤ c) × (c < a + 24) × ((i : ℕ) → a ≤ i → i < a + 24 → (w.host i).clk ≡ false)
+  pub ends : (c i : ℕ) (nine ten : List Bool) → (ear_to w c).mode ≡ Takes nine → length nine ≡ 9 → fell w c ≡ true → 28 ≤ i
+      → (ear_to w (c + i)).mode ≡ Takes ten → length ten ≡ 10 → (w.host (c + i)).clk ≡ true
+  pub sends : (c byte falls : ℕ) → (ear_to w c).mode ≡ Gives byte falls → (w.host c).clk ≡ true
+  pub asks : (c : ℕ) (bits : List Bool) → (ear_to w c).mode ≡ Takes bits → (w.host c).dat ≡ false
+      → (i : ℕ) → i < c → c ≤ i + 21 → (w.host i).clk ≡ false
+  pub holds : (c byte : ℕ) → (ear_to w c).mode ≡ Gives byte 0 → (w.host c).dat ≡ false
+  pub puts : (c byte falls i : ℕ) → (ear_to w c).mode ≡ Gives byte falls → fell w c ≡ true → 14 ≤ i
+      → (ear_to w (c + i)).mode ≡ Gives byte (suc falls) → (w.host (c + i)).dat ≡ frame_bit byte (suc falls)
+  pub reads : (c : ℕ) (level : Bool) → fell w c ≡ true
+      → ((i : ℕ) → i ≤ 16 → (w.seen (c + i)).dat ≡ level) → w.reads c ≡ level
+  pub bytes : (c : ℕ) → w.wants c < 256
