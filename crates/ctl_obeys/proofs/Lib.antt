@@ -1,0 +1,4 @@
+pub mod InBytes
+pub mod LinkSteps
+pub mod CtlRules
+pub mod Joined
