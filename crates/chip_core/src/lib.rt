@@ -6,5 +6,7 @@
 #![tactic(auto)]
 
 mod chip;
+mod saving;
 
 pub use chip::Chip;
+pub use saving::Saved;

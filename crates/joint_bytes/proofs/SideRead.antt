@@ -11,7 +11,7 @@ use Rattle.ctl_core.specs.declared.port.Input.{Input}
 use Rattle.ctl_core.specs.declared.port.Port.{Port}
 use Rattle.ctl_core.specs.declared.port.Port.TheVariants.{P60, P64}
 use Rattle.joint_run.specs.declared.outside.Outside.{Outside}
-use Rattle.joint_bytes.proofs.Choices.{maybe_read, truth_read}
+use Rattle.mcs48_bytes.proofs.Choices.{maybe_read, truth_read}
 use Rattle.joint_bytes.specs.Sides.{
   awaited_by,
   awaited_byte,

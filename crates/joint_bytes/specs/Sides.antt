@@ -12,7 +12,7 @@ use Rattle.ctl_link.specs.declared.link.Link.{Link}
 use Rattle.ctl_wire.specs.declared.wire.Wire.{Wire}
 use Rattle.int09.specs.Bios.{State}
 use Rattle.joint_run.specs.declared.outside.Outside.{Outside}
-use Rattle.joint_bytes.specs.Numbers.{byte_or_0, maybe_at, number_at, truth_at}
+use Rattle.mcs48_bytes.specs.Numbers.{byte_or_0, maybe_at, number_at, truth_at}
 
 -- the input buffer: 0 for an empty one, 1 for a byte for port 60h, 2 for one for 64h
 abbrev pub port_kind : Port → ℕ

@@ -1,6 +1,7 @@
 -- The levels at a chip's pins and its latches, as numbers of 32 bits.
-use Rattle.std.specs.Prelude.{ℕ, ◌+◌, ◌*◌, ◌/◌, ◌%◌}
+use Rattle.std.specs.Prelude.{ℕ, ◌+◌, ◌*◌, ◌/◌, ◌%◌, ℤ, pos, Option, None, Some}
 use Rattle.bits.specs.Bits.{bit}
+use Rattle.mcs48_core.specs.Cpu.{Cpu}
 use Rattle.mcs48_core.specs.declared.levels.Pins.{Pins}
 use Rattle.chip_core.specs.declared.chip.Chip.{Chip}
 
@@ -18,3 +19,8 @@ pins_in levels = record {
 -- what a step answers: the latches of the bus, of port 1 and of port 2 in the same bits, and above them the step's cycles
 abbrev pub answer_of : ℕ → Chip → ℕ
 answer_of cycles c = c.mcu.bus + 0x100 * c.mcu.p1 + 0x10000 * c.mcu.p2 + 0x1000000 * cycles
+
+-- what a load answers
+abbrev pub load_status : Option Cpu → ℤ
+load_status None = pos 0
+load_status (Some cpu) = pos 1

@@ -1,11 +1,12 @@
 //! What C calls.
 
-ghost use Rattle.std.specs.Prelude.{◌≡◌, ◌<◌, pos};
+ghost use Rattle.std.specs.Prelude.{◌≡◌, ◌<◌, pos, Some};
 ghost use Rattle.chip_core.specs.Chips.{after, cycles_of, next_of, powered_on, reset_of};
-ghost use Rattle.kbd48_chip.specs.Words.{answer_of, pins_in};
+ghost use Rattle.chip_core.specs.Saves.{loaded, loaded_into, saved_of};
+ghost use Rattle.kbd48_chip.specs.Words.{answer_of, load_status, pins_in};
 
 use crate::chip_at::ChipAt;
-use chip_core::Chip;
+use chip_core::{Chip, Saved};
 use mcs48_core::Pins;
 
 /// A program memory.
@@ -71,4 +72,25 @@ pub extern "C" fn kbd48_chip_step_at(chip: &mut ChipAt, levels: u32) -> i32
     let it = chip.chip();
     let cycles = it.step(pins_in(levels));
     answer(cycles, it)
+}
+
+/// Writes the chip's state but for the program.
+#[unsafe(no_mangle)]
+pub extern "C" fn kbd48_chip_save_at(chip: &mut ChipAt, saved: &mut Saved)
+    ensures saved { saved.new ≡ saved_of chip.old.chip }
+    ensures loaded { loaded saved.new ≡ Some chip.old.chip.mcu }
+    ensures unchanged { chip.new.chip ≡ chip.old.chip }
+    ensures place { chip.new.at ≡ chip.old.at }
+{
+    chip.chip().save(saved);
+}
+
+/// Goes to this state; the program stays. Answers 1, or 0 if no processor has that state; then nothing has changed.
+#[unsafe(no_mangle)]
+pub extern "C" fn kbd48_chip_load_at(chip: &mut ChipAt, saved: &Saved) -> i32
+    ensures chip { chip.new.chip ≡ loaded_into chip.old.chip (loaded saved.now) }
+    ensures answer { result ≡ load_status (loaded saved.now) }
+    ensures place { chip.new.at ≡ chip.old.at }
+{
+    i32::from(chip.chip().load(saved))
 }
