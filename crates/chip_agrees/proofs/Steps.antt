@@ -1,5 +1,5 @@
 -- A step of the chip and a step of the board are one step of the processor.
-use Rattle.std.proofs.Common.{◌≡◌, ℕ, suc, zero, ◌+◌, List, Some, None, refl, ap, sym, ◌∙◌, subst}
+use Rattle.std.proofs.Common.{◌≡◌, ℕ, suc, zero, ◌+◌, List, Some, None, refl, ap, ◌∙◌}
 use Rattle.std.specs.declared.option.Option.{Option}
 use Rattle.board_terms.specs.declared.event.Edge.{Edge}
 use Rattle.board_terms.specs.declared.event.HostEvent.{HostEvent}
@@ -24,7 +24,7 @@ module _ (edges : List Edge) (events : List HostEvent) (program : List ℕ) wher
 
   next_by : (w : World Beside) (o : Option Stepped) → IsNext w o (after_step d w o)
   next_by w None = refl
-  next_by w (Some n) = (refl, (refl, refl))
+  next_by w (Some n) = (refl, refl, refl)
 
   said : (w : World Beside) (next : Option (World Beside)) → IsNext w (stepped program (seen d w) w.cpu) next
       → IsNextOf edges events program w next

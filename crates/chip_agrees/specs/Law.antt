@@ -4,7 +4,7 @@ use Rattle.board_terms.specs.declared.event.Edge.{Edge}
 use Rattle.board_terms.specs.declared.event.HostEvent.{HostEvent}
 use Rattle.mcs48_core.specs.Cpu.{Cpu}
 use Rattle.mcs48_core.specs.Reset.{reset_in}
-use Rattle.joint_run.specs.Run.{Board, World, after_cycles, joint_step, run_at, seen}
+use Rattle.joint_run.specs.Run.{World, after_cycles, joint_step, run_at, seen}
 use Rattle.joint_run.specs.Joint.{Beside, joint_board, joint_cycle, joint_start_of}
 use Rattle.joint_run.specs.Filled.{filled}
 use Rattle.chip_core.specs.declared.chip.Chip.{Chip}
