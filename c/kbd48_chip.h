@@ -59,10 +59,18 @@ typedef struct {
 #define KBD48_P2(answer) ((uint8_t)((uint32_t)(answer) >> 16))
 #define KBD48_CYCLES(answer) ((uint32_t)(answer) >> 24)
 
+/* The state but for the program, in one form for all machines: the processor's bytes as in a saved keyboard ("Saved bytes" of
+   `docs/EMBEDDING.md`), and data memory. */
+typedef struct {
+    uint8_t processor[19], ram[128];
+} kbd48_chip_saved;
+
 /* The exports. Each takes the place of a pointer to the chip, and leaves that pointer as it is. */
 void kbd48_chip_open_at(kbd48_chip **chip, const kbd48_program *program, uint8_t fill);
 void kbd48_chip_reset_at(kbd48_chip **chip);
 int32_t kbd48_chip_step_at(kbd48_chip **chip, uint32_t levels);
+void kbd48_chip_save_at(kbd48_chip **chip, kbd48_chip_saved *saved);
+int32_t kbd48_chip_load_at(kbd48_chip **chip, const kbd48_chip_saved *saved);
 
 /* Switches the chip off, and on with this program. Data memory, the accumulator and the timer hold the byte `fill` then; a
    real part may hold anything. */
@@ -79,6 +87,17 @@ static inline void kbd48_chip_reset(kbd48_chip *chip) {
 /* One step with these levels at the pins. */
 static inline int32_t kbd48_chip_step(kbd48_chip *chip, uint32_t levels) {
     return kbd48_chip_step_at(&chip, levels);
+}
+
+/* Writes the chip's state. */
+static inline void kbd48_chip_save(kbd48_chip *chip, kbd48_chip_saved *saved) {
+    kbd48_chip_save_at(&chip, saved);
+}
+
+/* Goes to this state; the program stays. Returns 1, or 0 if the program counter, the prescaler or the status byte is none
+   that a processor has; then nothing has changed. Any other bytes are a state: of what is true or false, 1 alone is true. */
+static inline int32_t kbd48_chip_load(kbd48_chip *chip, const kbd48_chip_saved *saved) {
+    return kbd48_chip_load_at(&chip, saved);
 }
 
 #ifdef __cplusplus

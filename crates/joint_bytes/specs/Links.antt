@@ -1,5 +1,5 @@
 -- The bytes of the controller's link.
-use Rattle.std.specs.Prelude.{ℕ, ◌==◌, ◌+◌, ◌&&◌, ◌||◌, Bool, false, nat_lt, nat_le, if◌then◌else◌, is_some, List, [], ◌∷◌, ◌++◌, take, length}
+use Rattle.std.specs.Prelude.{ℕ, ◌==◌, Bool, false, nat_lt, if◌then◌else◌, is_some, List, [], ◌∷◌, ◌++◌, take, length}
 use Rattle.std.specs.Prelude.{slice_index, slice_index_or, Some, None}
 use Rattle.std.specs.declared.option.Option.{Option}
 use Rattle.std.specs.Int.{w64, to_le_bytes, from_bool}

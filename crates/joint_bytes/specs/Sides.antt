@@ -1,5 +1,5 @@
 -- The bytes of what is outside the processor, but for the link, the words of INT 09h and the keys.
-use Rattle.std.specs.Prelude.{ℕ, ◌==◌, Bool, if◌then◌else◌, is_some, List, [], ◌∷◌, ◌++◌, slice_index, Some, None}
+use Rattle.std.specs.Prelude.{ℕ, ◌==◌, if◌then◌else◌, is_some, List, [], ◌∷◌, ◌++◌, slice_index, Some, None}
 use Rattle.std.specs.declared.option.Option.{Option}
 use Rattle.std.specs.Int.{w64, to_le_bytes, from_bool}
 use Rattle.ctl_core.specs.Controller.{ControllerState}
