@@ -1,7 +1,7 @@
 -- Places for a list's items, one after another, and the items read from them.
-use Rattle.std.proofs.Common.{◌≡◌, ◌<◌, ◌-◌, ℕ, zero, suc, Bool, true, false, List, [], ◌∷◌, ◌++◌, drop, take, length, length-drop}
-use Rattle.std.proofs.Common.{refl, ap, ◌∙◌, append_assoc, arith}
-use Rattle.std.specs.Prelude.{◌&&◌, nat_lt, slice_index}
+use Rattle.std.proofs.Common.{◌≡◌, ◌<◌, ◌-◌, ℕ, zero, suc, true, List, ◌∷◌, ◌++◌, drop, take, length, length-drop}
+use Rattle.std.proofs.Common.{ap, ◌∙◌, append_assoc, arith}
+use Rattle.std.specs.Prelude.{nat_lt, slice_index}
 use Rattle.std.proofs.lemmas.List.{take_all}
 use Rattle.bits.proofs.Every.{and-right}
 use Rattle.joint_bytes.specs.Lists.{edge_in, edges_in, have_places, item_in, items_in}

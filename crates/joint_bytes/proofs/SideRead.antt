@@ -1,6 +1,5 @@
 -- What is outside the processor is read from its bytes.
-use Rattle.std.proofs.Common.{◌≡◌, ◌<◌, ◌^◌, ◌==◌, ℕ, List, Some, None, refl, ap, ◌∙◌}
-use Rattle.std.specs.Prelude.{if◌then◌else◌}
+use Rattle.std.proofs.Common.{◌≡◌, ◌<◌, ◌^◌, ℕ, List, Some, None, refl, ap, ◌∙◌}
 use Rattle.std.specs.declared.option.Option.{Option}
 use Rattle.std.specs.Int.{w64, to_le_bytes, from_le_bytes}
 use Rattle.std.proofs.lemmas.Nat.{from_le_bytes-to_le_bytes_8}
@@ -11,7 +10,7 @@ use Rattle.ctl_core.specs.declared.port.Input.{Input}
 use Rattle.ctl_core.specs.declared.port.Port.{Port}
 use Rattle.ctl_core.specs.declared.port.Port.TheVariants.{P60, P64}
 use Rattle.joint_run.specs.declared.outside.Outside.{Outside}
-use Rattle.joint_bytes.proofs.Choices.{maybe_read, truth_read}
+use Rattle.mcs48_bytes.proofs.Choices.{maybe_read, truth_read}
 use Rattle.joint_bytes.specs.Sides.{
   awaited_by,
   awaited_byte,

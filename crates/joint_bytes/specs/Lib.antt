@@ -1,5 +1,3 @@
-pub mod Numbers
-pub mod Processors
 pub mod Links
 pub mod Sides
 pub mod Kinds

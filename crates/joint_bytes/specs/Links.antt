@@ -1,5 +1,5 @@
 -- The bytes of the controller's link.
-use Rattle.std.specs.Prelude.{ℕ, ◌==◌, ◌+◌, ◌&&◌, ◌||◌, Bool, false, nat_lt, nat_le, if◌then◌else◌, is_some, List, [], ◌∷◌, ◌++◌, take, length}
+use Rattle.std.specs.Prelude.{ℕ, ◌==◌, Bool, false, nat_lt, if◌then◌else◌, is_some, List, [], ◌∷◌, ◌++◌, take, length}
 use Rattle.std.specs.Prelude.{slice_index, slice_index_or, Some, None}
 use Rattle.std.specs.declared.option.Option.{Option}
 use Rattle.std.specs.Int.{w64, to_le_bytes, from_bool}
@@ -7,7 +7,7 @@ use Rattle.ctl_link.specs.declared.link.Link.{Link}
 use Rattle.ctl_link.specs.declared.link.Link.TheVariants.{Free, Hold, Ask, Request, Busy}
 use Rattle.ctl_wire.specs.declared.wire.Wire.{Wire}
 use Rattle.ctl_wire.specs.declared.wire.Wire.TheVariants.{Recv, Send}
-use Rattle.joint_bytes.specs.Numbers.{byte_or_0, maybe_at, number_at, truth_at}
+use Rattle.mcs48_bytes.specs.Numbers.{byte_or_0, maybe_at, number_at, truth_at}
 
 -- the link's 23 bytes: its kind (0 free, 1 held, 2 it pulls the clock with a byte, 3 it requests, 4 a byte comes, 5 one
 -- goes), since when (8 bytes), its byte, how many bits or edges of a frame have been, the bit that noise turns round in

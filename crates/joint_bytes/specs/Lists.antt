@@ -6,7 +6,7 @@ use Rattle.pc_tables.specs.declared.item.Item.TheVariants.{Port}
 use Rattle.joint_bytes.specs.Kinds.{what_by, what_kind, what_value}
 use Rattle.joint_bytes.specs.declared.happened.Happened.{Happened}
 use Rattle.joint_bytes.specs.declared.happened.What.TheVariants.{Said}
-use Rattle.joint_bytes.specs.Numbers.{number_at, truth_at, word_at}
+use Rattle.mcs48_bytes.specs.Numbers.{number_at, truth_at, word_at}
 
 -- words of 2 bytes
 abbrev pub words_bytes : ℕ → List ℕ → List ℕ

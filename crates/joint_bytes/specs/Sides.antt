@@ -1,5 +1,5 @@
 -- The bytes of what is outside the processor, but for the link, the words of INT 09h and the keys.
-use Rattle.std.specs.Prelude.{ℕ, ◌==◌, Bool, if◌then◌else◌, is_some, List, [], ◌∷◌, ◌++◌, slice_index, Some, None}
+use Rattle.std.specs.Prelude.{ℕ, ◌==◌, if◌then◌else◌, is_some, List, [], ◌∷◌, ◌++◌, slice_index, Some, None}
 use Rattle.std.specs.declared.option.Option.{Option}
 use Rattle.std.specs.Int.{w64, to_le_bytes, from_bool}
 use Rattle.ctl_core.specs.Controller.{ControllerState}
@@ -12,7 +12,7 @@ use Rattle.ctl_link.specs.declared.link.Link.{Link}
 use Rattle.ctl_wire.specs.declared.wire.Wire.{Wire}
 use Rattle.int09.specs.Bios.{State}
 use Rattle.joint_run.specs.declared.outside.Outside.{Outside}
-use Rattle.joint_bytes.specs.Numbers.{byte_or_0, maybe_at, number_at, truth_at}
+use Rattle.mcs48_bytes.specs.Numbers.{byte_or_0, maybe_at, number_at, truth_at}
 
 -- the input buffer: 0 for an empty one, 1 for a byte for port 60h, 2 for one for 64h
 abbrev pub port_kind : Port → ℕ

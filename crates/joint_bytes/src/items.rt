@@ -4,13 +4,13 @@ ghost use Rattle.std.specs.Prelude.{◌≡◌, ◌≤◌, ◌+◌, ◌*◌, ◌+
 ghost use Rattle.std.specs.Int.{w16, to_le_bytes};
 ghost use Rattle.arrayvec.specs.ArrayVec.{array_vec_len};
 ghost use Rattle.joint_bytes.specs.Kinds.{item_by, kind_of, value_of, what_by, what_kind, what_value};
-ghost use Rattle.joint_bytes.specs.Numbers.{word_at};
+ghost use Rattle.mcs48_bytes.specs.Numbers.{word_at};
 ghost use Rattle.joint_bytes.specs.Lists.{item_bytes, item_in, items_bytes, items_in};
 
-use crate::happened::{Happened, Transfer, What};
-use crate::numbers::{number_at, word_at};
 use arrayvec::ArrayVec;
+use crate::happened::{Happened, Transfer, What};
 use hex_text::append;
+use mcs48_bytes::{number_at, word_at};
 use pc_tables::Item;
 
 /// The keyboard has sent a byte over the wires, as a kind.

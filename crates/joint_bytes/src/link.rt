@@ -5,10 +5,10 @@ ghost use Rattle.std.specs.Int.{from_bool};
 ghost use Rattle.ctl_link.specs.declared.link.Link.TheVariants.{Busy};
 ghost use Rattle.joint_bytes.specs.Links.{bits_at, link_bytes, link_in, link_row};
 
-use crate::numbers::{maybe_at, number_at, truth_at};
 use crate::side::byte_or_0;
 use ctl_link::Link;
 use ctl_wire::{Bits, Edges, Wire};
+use mcs48_bytes::{maybe_at, number_at, truth_at};
 
 /// The bit of this number as a byte, 0 if there are fewer.
 fn bit_byte(bits: &[bool], number: usize) -> u8

@@ -4,10 +4,10 @@ ghost use Rattle.std.specs.Prelude.{◌≡◌, ◌≤◌, ◌<◌, ◌+◌, ◌*
 ghost use Rattle.arrayvec.specs.ArrayVec.{array_vec_len};
 ghost use Rattle.joint_bytes.specs.Lists.{edge_bytes, edge_in, edges_bytes, edges_in, have_places, words_bytes, words_in};
 
-use crate::numbers::{number_at, truth_at, word_at};
 use arrayvec::ArrayVec;
 use board_terms::{Edge, Place};
 use hex_text::append;
+use mcs48_bytes::{number_at, truth_at, word_at};
 
 /// Appends the places for words.
 pub fn push_words(bytes: &mut ArrayVec<u8, 3077>, words: &[u16], places: usize)

@@ -2,7 +2,7 @@
 
 ghost use Rattle.std.specs.Prelude.{◌≡◌, [], length};
 ghost use Rattle.int09.specs.Flags.{flags_of};
-ghost use Rattle.joint_bytes.specs.Numbers.{byte_or_0};
+ghost use Rattle.mcs48_bytes.specs.Numbers.{byte_or_0};
 ghost use Rattle.joint_bytes.specs.Sides.{
   awaited_by,
   awaited_byte,
@@ -16,13 +16,13 @@ ghost use Rattle.joint_bytes.specs.Sides.{
   side_in,
 };
 
-use crate::numbers::{maybe_at, number_at, truth_at};
 use ctl_core::{Buffers, Controller, Input, Parameter, Port};
 use ctl_link::{Link, LinkEnd};
 use ctl_wire::Wire;
 use host_turn::Desk;
 use int09::{Bios, Flags9};
 use joint_run::Outside;
+use mcs48_bytes::{maybe_at, number_at, truth_at};
 
 /// The kind of what is in the input buffer, and its byte.
 fn input_bytes(input: Option<Input>) -> (u8, u8)

@@ -12,7 +12,7 @@ use Rattle.ctl_link.specs.declared.link.Link.{Link}
 use Rattle.ctl_wire.specs.declared.wire.Wire.{Wire}
 use Rattle.joint_bytes.specs.Links.{link_in}
 use Rattle.joint_bytes.specs.Lists.{edges_bytes, edges_in, have_places, items_bytes, items_in, words_bytes, words_in}
-use Rattle.joint_bytes.specs.Processors.{processor_in}
+use Rattle.mcs48_bytes.specs.Processors.{processor_in}
 use Rattle.joint_bytes.specs.Sides.{controller_bytes, side_bytes, side_in}
 use Rattle.joint_run.specs.Sound.{IsSound}
 use Rattle.joint_run.specs.declared.machine.Machine.{Machine}

@@ -7,8 +7,8 @@ use Rattle.ctl_link.specs.declared.link.Link.{Link}
 use Rattle.ctl_wire.specs.declared.wire.Wire.{Wire}
 use Rattle.joint_bytes.specs.Links.{link_in}
 use Rattle.joint_bytes.specs.Lists.{edges_in, items_in}
-use Rattle.joint_bytes.specs.Numbers.{number_at}
-use Rattle.joint_bytes.specs.Processors.{processor_in}
+use Rattle.mcs48_bytes.specs.Numbers.{number_at}
+use Rattle.mcs48_bytes.specs.Processors.{processor_in}
 use Rattle.joint_run.specs.declared.machine.Machine.{Machine}
 use Rattle.mcs48_core.specs.Cpu.{Cpu}
 use Rattle.joint_saved.specs.Saved.{HasMachine, HasNoMachine, Kept, is_sound, kept_by, kept_of}

@@ -7,7 +7,7 @@
 -- | 16 | 8 | the joint steps so far |
 -- | 24 | 8 | the rises of the interrupt line in the last run or call of the host's that wasn't refused |
 -- | 32 | 8 | the items that were lost and not reported yet |
--- | 40 | 19 | the processor (joint_bytes, Processors) |
+-- | 40 | 19 | the processor (mcs48_bytes, Processors) |
 -- | 59 | 12 | the columns of the matrix: bit k is row k, 0 for down |
 -- | 71 | 11 | the controller (joint_bytes, Sides) |
 -- | 82 | 19 | what else is outside the processor (joint_bytes, Sides) |
@@ -32,8 +32,8 @@ use Rattle.ctl_wire.specs.declared.wire.Wire.{Wire}
 use Rattle.joint_bytes.specs.declared.happened.Happened.{Happened}
 use Rattle.joint_bytes.specs.Links.{link_bytes, link_in}
 use Rattle.joint_bytes.specs.Lists.{edges_bytes, edges_in, have_places, items_bytes, items_in, words_bytes, words_in}
-use Rattle.joint_bytes.specs.Numbers.{number_at}
-use Rattle.joint_bytes.specs.Processors.{processor_bytes, processor_in}
+use Rattle.mcs48_bytes.specs.Numbers.{number_at}
+use Rattle.mcs48_bytes.specs.Processors.{processor_bytes, processor_in}
 use Rattle.joint_bytes.specs.Sides.{controller_bytes, side_bytes, side_in}
 use Rattle.joint_run.specs.declared.machine.Machine.{Machine}
 use Rattle.mcs48_core.specs.Cpu.{Cpu}

@@ -4,8 +4,8 @@ ghost use Rattle.std.specs.Prelude.{◌≡◌, ◌≤◌, ◌==◌, ◌%◌, ◌
 ghost use Rattle.ctl_link.specs.Empty.{fits, is_held};
 ghost use Rattle.joint_bytes.specs.Lists.{edges_in, have_places, items_in, words_in};
 ghost use Rattle.joint_bytes.specs.Links.{link_in};
-ghost use Rattle.joint_bytes.specs.Numbers.{number_at, truth_at};
-ghost use Rattle.joint_bytes.specs.Processors.{processor_in};
+ghost use Rattle.mcs48_bytes.specs.Numbers.{number_at, truth_at};
+ghost use Rattle.mcs48_bytes.specs.Processors.{processor_in};
 ghost use Rattle.joint_bytes.specs.Sides.{bios_in};
 ghost use Rattle.mcs48_core.specs.Cpu.{Cpu};
 ghost use Rattle.joint_saved.specs.Saved.{HasMachine, HasNoMachine, IsUnloaded, checked, counts_fit, is_sound, kept_by, kept_of, loaded, machine_in, magic};
@@ -19,10 +19,10 @@ use ctl_link::Link;
 use ctl_wire::Wire;
 use int09::Bios;
 use joint_bytes::{
-    Happened, flags_in, have_places, link_in, number_at, processor_in, side_in, take_edges,
-    take_items, take_words,
+    Happened, flags_in, have_places, link_in, side_in, take_edges, take_items, take_words,
 };
 use joint_run::{Joint, Machine};
+use mcs48_bytes::{number_at, processor_in};
 use mcs48_core::Mcu;
 use mcs48_isa::Image;
 use std::alloc::Global;

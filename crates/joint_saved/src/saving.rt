@@ -4,17 +4,17 @@ ghost use Rattle.std.specs.Prelude.{◌≡◌, ◌≤◌, ◌<◌, ◌+◌, ◌^
 ghost use Rattle.arrayvec.specs.ArrayVec.{array_vec_len};
 ghost use Rattle.board_terms.specs.Columns.{keys_in};
 ghost use Rattle.joint_bytes.specs.Links.{link_bytes, link_in};
-ghost use Rattle.joint_bytes.specs.Processors.{processor_bytes, processor_in};
+ghost use Rattle.mcs48_bytes.specs.Processors.{processor_bytes, processor_in};
 ghost use Rattle.joint_bytes.specs.Sides.{controller_bytes, side_bytes, side_in};
 ghost use Rattle.joint_saved.specs.Saved.{IsRead, columns_of, kept, loaded, machine_bytes, number_bytes, saved_bytes};
 
 use arrayvec::ArrayVec;
 use board_terms::Edge;
 use joint_bytes::{
-    Happened, controller_bytes, link_bytes, processor_bytes, push_edges, push_items, push_words,
-    side_bytes,
+    Happened, controller_bytes, link_bytes, push_edges, push_items, push_words, side_bytes,
 };
 use joint_run::Joint;
+use mcs48_bytes::processor_bytes;
 
 /// How many bytes a saved keyboard has.
 pub const SAVED: usize = 3077;

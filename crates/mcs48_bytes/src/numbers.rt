@@ -1,7 +1,7 @@
 //! Numbers and truth values as bytes.
 
 ghost use Rattle.std.specs.Prelude.{◌≡◌, ◌≤◌, ◌<◌, ◌+◌, length};
-ghost use Rattle.joint_bytes.specs.Numbers.{maybe_at, number_at, truth_at, word_at};
+ghost use Rattle.mcs48_bytes.specs.Numbers.{maybe_at, number_at, truth_at, word_at};
 
 /// The number of the two bytes from a place on.
 pub fn word_at(bytes: &[u8], at: usize) -> u16
@@ -29,7 +29,7 @@ pub fn number_at(bytes: &[u8], at: usize) -> u64
 }
 
 /// Whether the byte at a place is 1.
-pub(crate) fn truth_at(bytes: &[u8], at: usize) -> bool
+pub fn truth_at(bytes: &[u8], at: usize) -> bool
     requires { at < length bytes.now }
     ensures { result ≡ truth_at at bytes.now }
 {
@@ -37,7 +37,7 @@ pub(crate) fn truth_at(bytes: &[u8], at: usize) -> bool
 }
 
 /// The byte after the one at a place, if that is 1.
-pub(crate) fn maybe_at(bytes: &[u8], at: usize) -> Option<u8>
+pub fn maybe_at(bytes: &[u8], at: usize) -> Option<u8>
     requires { at + 2 ≤ length bytes.now }
     ensures { result ≡ maybe_at at bytes.now }
 {

@@ -2,7 +2,7 @@
 
 ghost use Rattle.std.specs.Prelude.{◌≡◌, length, Some};
 ghost use Rattle.mcs48_core.specs.Status.{psw_of};
-ghost use Rattle.joint_bytes.specs.Processors.{count_by, count_byte, processor_bytes, processor_in};
+ghost use Rattle.mcs48_bytes.specs.Processors.{count_by, count_byte, processor_bytes, processor_in};
 
 use crate::numbers::{truth_at, word_at};
 use mcs48_core::{Count, Mcu};

@@ -1,7 +1,7 @@
 use Rattle.std.proofs.Common.{◌<◌, ◌∷◌, [], rules, slice_index_or, subst, arith}
 use Rattle.mcs48_core.specs.Cpu.{Cpu}
-use Rattle.joint_bytes.proofs.ProcessorRead.{processor_read}
-use Rattle.joint_bytes.proofs.processor.processor_bytes.Goals as goal
+use Rattle.mcs48_bytes.proofs.ProcessorRead.{processor_read}
+use Rattle.mcs48_bytes.proofs.processor.processor_bytes.Goals as goal
 
 pub returns-clause-read : goal.returns-clause-read
 returns-clause-read c =

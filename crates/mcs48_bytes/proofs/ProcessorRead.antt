@@ -10,8 +10,8 @@ use Rattle.mcs48_core.specs.Cpu.{Cpu}
 use Rattle.mcs48_core.specs.Status.{digit, psw_of}
 use Rattle.mcs48_core.specs.declared.processor.Count.{Count}
 use Rattle.mcs48_core.specs.declared.processor.Count.TheVariants.{Off, Timer, Counter}
-use Rattle.joint_bytes.proofs.Choices.{truth_read}
-use Rattle.joint_bytes.specs.Processors.{count_by, count_byte, processor_by, processor_bytes, processor_fits, processor_in}
+use Rattle.mcs48_bytes.proofs.Choices.{truth_read}
+use Rattle.mcs48_bytes.specs.Processors.{count_by, count_byte, processor_by, processor_bytes, processor_fits, processor_in}
 
 -- the status byte of these flags and this stack pointer
 abbrev status_by : Bool → Bool → Bool → Bool → ℕ → ℕ

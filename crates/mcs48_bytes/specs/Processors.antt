@@ -7,7 +7,7 @@ use Rattle.mcs48_core.specs.Cpu.{Cpu}
 use Rattle.mcs48_core.specs.Status.{psw_of}
 use Rattle.mcs48_core.specs.declared.processor.Count.{Count}
 use Rattle.mcs48_core.specs.declared.processor.Count.TheVariants.{Off, Timer, Counter}
-use Rattle.joint_bytes.specs.Numbers.{truth_at, word_at}
+use Rattle.mcs48_bytes.specs.Numbers.{truth_at, word_at}
 
 -- how the timer runs: 0 not at all, 1 on the machine cycles, 2 on the falls of T1
 abbrev pub count_byte : Count → ℕ

@@ -3,7 +3,7 @@ use Rattle.std.proofs.Common.{◌≡◌, ◌<◌, ◌^◌, ◌==◌, ℕ, Bool, 
 use Rattle.std.specs.Prelude.{is_some, if◌then◌else◌}
 use Rattle.std.specs.declared.option.Option.{Option}
 use Rattle.std.specs.Int.{from_bool}
-use Rattle.joint_bytes.specs.Numbers.{byte_or_0}
+use Rattle.mcs48_bytes.specs.Numbers.{byte_or_0}
 
 pub truth_read : (b : Bool) → (from_bool b == 1) ≡ b
 truth_read true = refl
