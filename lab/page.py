@@ -8,6 +8,8 @@ import gzip
 import hashlib
 import json
 import re
+import subprocess
+import zlib
 from pathlib import Path
 
 from tables import tables
@@ -16,7 +18,6 @@ LAB = Path(__file__).resolve().parent
 ROOT = LAB.parent
 PAGE = LAB / "lab.html"
 MOST_BYTES = 900_000
-MODULES = ("kbd48_c", "kbd48_call")
 
 # The examples that the page has, and what they are called when that differs.
 EXAMPLES = """
@@ -107,6 +108,20 @@ def packed(module: bytes) -> str:
     return base64.b64encode(gzip.compress(module, 9, mtime=0)).decode()
 
 
+def checksum(module: str) -> str:
+    """The SHA-256 of a packed module's WebAssembly, or a reason why it is none."""
+    try:
+        return hashlib.sha256(gzip.decompress(base64.b64decode(module, validate=True))).hexdigest()
+    except (ValueError, EOFError, OSError, zlib.error) as why:
+        return str(why)
+
+
+def head(keyboard: str, program: str, sources: str) -> str:
+    """What the page says of its modules: the checksums of their sources and of their bytes."""
+    fields = {"sources": sources, "keyboard-module": checksum(keyboard), "program-module": checksum(program)}
+    return "\n".join(f'<meta name="kbd48-{name}" content="{it}">' for name, it in fields.items())
+
+
 def page(keyboard: str, program: str, sources: str) -> str:
     """The page, with the two packed modules and the checksum of the crates that they were made of."""
     style, code = (LAB / "src/style.css").read_text(encoding="utf-8"), script()
@@ -118,7 +133,7 @@ def page(keyboard: str, program: str, sources: str) -> str:
     )
     fields = {
         "<!--POLICY-->": f'<meta http-equiv="Content-Security-Policy" content="{policy}">',
-        "<!--SOURCES-->": f'<meta name="kbd48-sources" content="{sources}">',
+        "<!--MODULES-->": head(keyboard, program, sources),
         "/*STYLE*/": style,
         "/*FILES*/": data(examples()),
         "/*FAULTS*/": data(faults()),
@@ -138,39 +153,26 @@ def page(keyboard: str, program: str, sources: str) -> str:
 
 
 def sources() -> str:
-    """A checksum of what the modules are made of: the crates' code, what they export, and the tools of lab/wasm."""
-    lines = (ROOT / "crates.txt").read_text(encoding="utf-8").splitlines()
-    rows = (line.partition("#")[0].partition(":") for line in lines)
-    uses = {head.split()[0]: rest.split() for head, colon, rest in rows if colon}
-    mine: set[str] = set()
+    """The checksum of what the modules are made of."""
+    return subprocess.run([ROOT / "launcher/sources", "--module"], check=True, stdout=subprocess.PIPE, text=True).stdout.strip()
 
-    def take(name: str) -> None:
-        if name in uses and name not in mine:
-            mine.add(name)
-            for it in uses[name]:
-                take(it)
 
-    for name in MODULES:
-        take(name)
-    files = [path for name in mine for path in (ROOT / "crates" / name / "src").rglob("*.rt")]
-    files += [*(LAB / "wasm").glob("*.[cp]*"), ROOT / "launcher/bitcode.py", ROOT / "launcher/keeping_clang", ROOT / "c/kbd48.h"]
-    counted = hashlib.sha256()
-    for path in sorted(it for it in files if it.is_file()):
-        counted.update(f"\0{path.relative_to(ROOT)}\0".encode() + path.read_bytes())
-    return counted.hexdigest()[:32]
+def content(text: str, name: str) -> str:
+    """What the page's head says under a name."""
+    found = re.search(f'<meta name="kbd48-{name}" content="([0-9a-f]{{64}})">', text)
+    if not found:
+        raise Broken(f"lab/lab.html has no kbd48-{name}")
+    return found[1]
 
 
 def kept() -> tuple[str, str, str]:
-    """The packed modules and the checksum of the page that is there."""
+    """The packed modules and the checksum of the page that is there. Each module must be the one that the head names."""
     text = PAGE.read_text(encoding="utf-8")
-    found = [
-        re.search(form, text)
-        for form in (
-            r'id="keyboard-module">([A-Za-z0-9+/=]+)<',
-            r'id="program-module">([A-Za-z0-9+/=]+)<',
-            r'name="kbd48-sources" content="([^"]+)"',
-        )
-    ]
-    if not all(found):
-        raise Broken("lab/lab.html has no modules")
-    return found[0][1], found[1][1], found[2][1]
+    found = {}
+    for name in ("keyboard-module", "program-module"):
+        if not (module := re.search(f'id="{name}">([A-Za-z0-9+/=]+)<', text)):
+            raise Broken(f"lab/lab.html has no {name}")
+        if checksum(module[1]) != content(text, name):
+            raise Broken(f"lab/lab.html: the {name} was changed: its checksum is another than the page says")
+        found[name] = module[1]
+    return found["keyboard-module"], found["program-module"], content(text, "sources")
