@@ -2,8 +2,8 @@
 
    A file is read when the program asks for it: a call without it has the exit 5, and the next word is its name. So files are
    read in the order of the words, each once, and only if those before it are right. The call sees a file under a name
-   that is longer than any word, so a file that is named twice is read twice. A file named - is the standard input, read
-   once. The text is printed when the call has ended. With BOTH the program also opens a keyboard of the other library. */
+   that is longer than any word, so a file that is named twice is read twice. /dev/stdin is the standard input on every
+   system. The text is printed when the call has ended. With BOTH the program also opens a keyboard of the other library. */
 #include "kbd48_call.h"
 #ifdef BOTH
 #include "kbd48.h"
@@ -26,10 +26,9 @@ enum { MOST_OF_A_FILE = 4194304 + 1, FIRST_ROOM = 1 << 20, MOST_ROOM = 1 << 29 }
 typedef struct {
     uint8_t *bytes;
     size_t used, room;
-    kbd48_piece *words, input;
+    kbd48_piece *words;
     kbd48_named *files;
     size_t word_count, file_count, longest;
-    bool has_input;
 } request;
 
 static void *memory_for(void *old, size_t size) {
@@ -62,17 +61,12 @@ static bool has_read(request *it, FILE *file, kbd48_piece *piece) {
 
 /* Adds the file that a word names. */
 static bool has_added(request *it, size_t number, const char *word) {
-    kbd48_named added = {name_of(it, number), it->input};
-    if (strcmp(word, "-")) {
-        FILE *file = fopen(word, "rb");
-        bool whole = has_read(it, file, &added.file);
-        if (file) fclose(file);
-        if (!whole) return false;
-    } else {
-        if (!it->has_input && !has_read(it, stdin, &it->input)) return false;
-        it->has_input = true;
-        added.file = it->input;
-    }
+    kbd48_named added = {name_of(it, number), {0, 0}};
+    FILE *file = fopen(word, "rb");
+    if (!file && !strcmp(word, "/dev/stdin")) file = stdin;
+    bool whole = has_read(it, file, &added.file);
+    if (file && file != stdin) fclose(file);
+    if (!whole) return false;
     it->words[number] = added.name;
     it->files[it->file_count++] = added;
     return true;
@@ -92,7 +86,7 @@ static request request_of(int argc, char **argv) {
         size_t length = strlen(word), start = it.used;
         if (length) memcpy(room_for(&it, length), word, length);
         it.used += length;
-        it.words[i] = i > 0 && !strcmp(word, "-") ? name_of(&it, i) : (kbd48_piece){start, it.used};
+        it.words[i] = (kbd48_piece){start, it.used};
     }
     return it;
 }

@@ -1,20 +1,26 @@
 /* The calls of kbd48.h. A handle that is open points to a machine of its own: the module with its memory. So handles have
-   nothing in common, and two threads may use two of them at the same time. */
+   nothing in common, and two threads may use two of them at the same time.
+
+   A call that reads a text needs much more stack and memory than the others. So it is made in a machine that is given back
+   when the call ends; the keyboard that it opened is saved there, and loaded in a machine of the usual size. */
 
 /* What a call passes by pointer is between the stack and the data: the module's own handle first, which stays there. */
 enum {
-    STACK = 64 * 1024,
-    ONE = STACK_TOP - 64,   /* what a call returns, or its first of them */
-    TWO = ONE + 32,         /* its second */
-    THREE = TWO + 8,        /* its third */
-    BYTES = ONE - 3088,     /* a queue, or a saved keyboard */
+    STACK = 24 * 1024,
+    STACK_FOR_TEXTS = 256 * 1024,
+    ONE = STACK_TOP - 64, /* what a call returns, or its first of them */
+    TWO = ONE + 32,       /* its second */
+    THREE = TWO + 8,      /* its third */
+    BYTES = ONE - 3088,   /* a queue, a name, or a saved keyboard */
     HANDLE = BYTES - 16,
     LOWEST = HANDLE - STACK,
-    MOST_TEXT = 65537       /* a byte more than the longest layout: a text of more bytes is refused for its length */
+    LOWEST_FOR_TEXTS = HANDLE - STACK_FOR_TEXTS,
+    MOST_TEXT = 65537 /* a byte more than the longest layout: a text of more bytes is refused for its length */
 };
 
 /* What must be so for all of that. */
 HOLDS(stack_is_large_enough, (long)MOST_NEEDED <= (long)STACK);
+HOLDS(stack_for_texts_is_large_enough, (long)MOST_NEEDED_FOR_TEXTS <= (long)STACK_FOR_TEXTS);
 HOLDS(stack_is_aligned, HANDLE % 16 == 0);
 HOLDS(a_saved_one_fits, KBD48_SAVED + 1 <= ONE - BYTES && sizeof(kbd48_keys) <= ONE - BYTES);
 HOLDS(queues_are_alike_everywhere, sizeof(kbd48_keys) == 2672 && offsetof(kbd48_keys, edges) == 8 && sizeof(kbd48_pushed) == 16);
@@ -108,9 +114,31 @@ static u64 put_text(machine *m, const uint8_t *text, size_t *length) {
     return at;
 }
 
+int32_t kbd48_load(kbd48 *handle, const uint8_t *bytes, size_t length) {
+    machine *m = made(LOWEST, HANDLE);
+    if (!m) return KBD48_NO_MEMORY;
+    if (length > KBD48_SAVED) length = KBD48_SAVED + 1; /* refused for its length, however long */
+    put(m, BYTES, bytes, length);
+    int32_t status = (int32_t)wasm_kbd48_load(m, HANDLE, BYTES, length);
+    if (status == KBD48_DONE) replaced(handle, m);
+    else unmade(m);
+    return status;
+}
+
+/* Saves the keyboard of a machine at BYTES. */
+static int32_t saved_in(machine *m, size_t length) {
+    jmp_buf overflow;
+    m->overflow = &overflow;
+    if (setjmp(overflow)) {
+        m->sp = HANDLE;
+        return KBD48_NO_MEMORY;
+    }
+    return (int32_t)wasm_kbd48_save(m, HANDLE, BYTES, length);
+}
+
 typedef u32 opening(machine *, u64, u64, u64, u64);
 
-/* A keyboard is opened in a new machine. One whose stack has no room is given back, as if there were no memory. */
+/* Opens a keyboard in a machine. If the stack has no room, the status is that of no memory. */
 static int32_t opened_in(machine *m, opening *call, const uint8_t *text, size_t length, kbd48_fault *fault) {
     jmp_buf overflow;
     u64 at = put_text(m, text, &length);
@@ -122,16 +150,16 @@ static int32_t opened_in(machine *m, opening *call, const uint8_t *text, size_t 
     int32_t status = (int32_t)call(m, at, length, HANDLE, ONE);
     get_number(m, ONE, &fault->position, 4);
     get_number(m, ONE + 4, &fault->number, 4);
-    wasm_page_give(m, at);
     return status;
 }
 
 static int32_t opened(opening *call, const uint8_t *text, size_t length, kbd48 *handle, kbd48_fault *fault) {
-    machine *m = made(LOWEST, HANDLE);
+    machine *m = made(LOWEST_FOR_TEXTS, HANDLE);
     if (!m) return KBD48_NO_MEMORY;
     int32_t status = opened_in(m, call, text, length, fault);
-    if (status == KBD48_DONE) replaced(handle, m);
-    else unmade(m);
+    if (status == KBD48_DONE) status = saved_in(m, KBD48_SAVED);
+    if (status == KBD48_DONE) status = kbd48_load(handle, AT(m, BYTES), KBD48_SAVED);
+    unmade(m);
     return status;
 }
 
@@ -165,7 +193,7 @@ static int32_t layout_key_in(machine *m, u64 text, u64 length, u64 name, u64 nam
 }
 int32_t kbd48_layout_key(const uint8_t *text, size_t length, const uint8_t *name, size_t name_length, uint8_t *place) {
     int32_t status = KBD48_NO_MEMORY;
-    machine *m = made(LOWEST, HANDLE);
+    machine *m = made(LOWEST_FOR_TEXTS, HANDLE);
     if (!m) return status;
     u64 at = put_text(m, text, &length), name_at = at ? put_text(m, name, &name_length) : 0;
     if (name_at) {
@@ -174,17 +202,6 @@ int32_t kbd48_layout_key(const uint8_t *text, size_t length, const uint8_t *name
         get(m, ONE, place, 1);
     }
     unmade(m);
-    return status;
-}
-
-int32_t kbd48_load(kbd48 *handle, const uint8_t *bytes, size_t length) {
-    machine *m = made(LOWEST, HANDLE);
-    if (!m) return KBD48_NO_MEMORY;
-    if (length > KBD48_SAVED) length = KBD48_SAVED + 1; /* refused for its length, however long */
-    put(m, BYTES, bytes, length);
-    int32_t status = (int32_t)wasm_kbd48_load(m, HANDLE, BYTES, length);
-    if (status == KBD48_DONE) replaced(handle, m);
-    else unmade(m);
     return status;
 }
 
@@ -217,15 +234,6 @@ int32_t kbd48_power_on(kbd48 *handle, uint8_t fill) {
     return (int32_t)wasm_kbd48_power_on(handle->at, HANDLE, fill);
 }
 
-static int32_t saved_in(machine *m, size_t length) {
-    jmp_buf overflow;
-    m->overflow = &overflow;
-    if (setjmp(overflow)) {
-        m->sp = HANDLE;
-        return KBD48_NO_MEMORY;
-    }
-    return (int32_t)wasm_kbd48_save(m, HANDLE, BYTES, length);
-}
 int32_t kbd48_save(kbd48 *handle, uint8_t *buffer, size_t length) {
     machine *m = handle->at;
     if (!m) return KBD48_NOT_OPEN;

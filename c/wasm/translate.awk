@@ -5,6 +5,7 @@
 # so without recursion a call's need is the largest sum along its calls. A function that can call itself again looks first
 # whether the stack has room up to the next such function (ROOM). So no call goes below the stack, however deep it gets.
 #
+# MOST_NEEDED is the most of all calls, but for those whose names match the variable `texts`, which have a number of their own.
 # Of the module's calls those in the variable `without` are left out, and what they alone need.
 #
 # A form that isn't known is refused: a message on standard error, and status 1.
@@ -191,10 +192,11 @@ FNR == 1 {
         f = order[i]
         if (f !~ /w2c_kbd48_/ || !(f in kept)) continue
         print "enum { NEED_" substr(f, 5) " = " needed[f] ", DATA_" substr(f, 5) " = " (touches_data[f] + 0) " };"
-        if (needed[f] > most_needed) most_needed = needed[f]
+        kind = f ~ texts
+        if (needed[f] > most_needed[kind]) most_needed[kind] = needed[f]
     }
-    for (f in guarded) if (guarded[f] && needed[f] > most_needed) most_needed = needed[f]
-    print "enum { MOST_NEEDED = " most_needed " };"
+    for (f in guarded) if (guarded[f] && needed[f] > most_needed[1]) most_needed[1] = needed[f]
+    print "enum { MOST_NEEDED = " most_needed[0] ", MOST_NEEDED_FOR_TEXTS = " most_needed[1] + 0 " };"
 }
 
 # The declarations, then the data, the table and the functions; all else is wasm2c's runtime, or calls it.
