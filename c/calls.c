@@ -399,6 +399,7 @@ int main(void) {
 #else
 static long refuse = -1, calls, live;
 void *__real_malloc(size_t);
+void *__real_calloc(size_t, size_t);
 void *__real_realloc(void *, size_t);
 void __real_free(void *);
 
@@ -406,6 +407,12 @@ void *__wrap_malloc(size_t size) {
     if (++calls == refuse) return NULL;
     live++;
     return __real_malloc(size);
+}
+
+void *__wrap_calloc(size_t count, size_t size) {
+    if (++calls == refuse) return NULL;
+    live++;
+    return __real_calloc(count, size);
 }
 
 void *__wrap_realloc(void *old, size_t size) {

@@ -22,6 +22,17 @@
 #include <stddef.h>
 #include <stdint.h>
 
+/* Each struct has the same bytes on every machine. Without this, some begin a number of 64 bits at a multiple of 4. */
+#if defined(__cplusplus) && __cplusplus >= 201103L
+#define KBD48_ALIGNED alignas(8)
+#elif defined(__STDC_VERSION__) && __STDC_VERSION__ >= 201112L
+#define KBD48_ALIGNED _Alignas(8)
+#elif defined(__GNUC__) || defined(__TINYC__)
+#define KBD48_ALIGNED __attribute__((aligned(8)))
+#else
+#define KBD48_ALIGNED
+#endif
+
 #ifdef __cplusplus
 extern "C" {
 #endif
@@ -159,16 +170,16 @@ int32_t kbd48_run(kbd48 *handle, uint64_t cycles, bool watched, uint64_t *passed
    KBD48_NO_KEYS, is written only by these functions, takes no memory and has no pointer. Copy it by assignment; keep
    one for each keyboard. */
 typedef struct {
-    uint64_t stamp; /* when it happened: the cycle minus 4,096 */
+    KBD48_ALIGNED uint64_t stamp; /* when it happened: the cycle minus 4,096 */
     uint8_t place;
     bool down;
 } kbd48_pushed;
 
 typedef struct {
-    uint64_t ready;          /* the stamp from which on the next edge may be handed over */
-    kbd48_pushed edges[160]; /* those that wait, in the order in which they were pushed */
-    bool down[96];           /* whether the key at each place is down after all of them */
-    uint8_t count;           /* how many wait */
+    KBD48_ALIGNED uint64_t ready; /* the stamp from which on the next edge may be handed over */
+    kbd48_pushed edges[160];      /* those that wait, in the order in which they were pushed */
+    bool down[96];                /* whether the key at each place is down after all of them */
+    uint8_t count;                /* how many wait */
 } kbd48_keys;
 #ifdef __cplusplus
 #define KBD48_NO_KEYS {}
@@ -259,9 +270,9 @@ enum {
 };
 
 typedef struct {
-    uint64_t cycle; /* the cycle in which it happened */
-    uint8_t kind;   /* one of KBD48_ITEM_... */
-    uint16_t value; /* the byte or the word, or 0 */
+    KBD48_ALIGNED uint64_t cycle; /* the cycle in which it happened */
+    uint8_t kind;                 /* one of KBD48_ITEM_... */
+    uint16_t value;               /* the byte or the word, or 0 */
 } kbd48_item;
 
 /* Hands out what happened next, in order, and makes no step. In one step the byte that passes comes before what is said.
