@@ -6,6 +6,7 @@ import { tmpdir } from 'node:os';
 import { dirname, join, resolve } from 'node:path';
 import { pathToFileURL } from 'node:url';
 import * as keyboard from './parts/keyboard.mjs';
+import * as lessonParts from './parts/lessons.mjs';
 import * as look from './parts/look.mjs';
 import * as processor from './parts/processor.mjs';
 import * as wires from './parts/wires.mjs';
@@ -66,7 +67,8 @@ try {
   await part('board files', () => keyboard.boardFiles(browser, shot, join(examples, 'boards')));
   await part('broken files', () => workbench.brokenFiles(browser, folder));
   await part('share link', () => workbench.shareLink(browser, url));
-  const lessons = await part('lessons', () => workbench.lessons(browser, shot));
+  const lessons = await part('lessons', () => lessonParts.lessons(browser, shot));
+  await part('differences', () => lessonParts.differences(browser, shot));
   await part('contrast of the lessons', () => look.contrast(browser));
   const controls = await part('focus', () => look.focus(browser));
   const load = await part('load', () => look.loads(browser));
