@@ -8,13 +8,12 @@ export function ask(question, yes, no) {
   byId('ask-yes').textContent = yes;
   byId('ask-no').textContent = no;
   return new Promise(answered => {
-    let isYes = false;
-    byId('ask-yes').onclick = () => {
-      isYes = true;
+    const end = isYes => {
       dialog.close();
+      answered(isYes);
     };
-    byId('ask-no').onclick = () => dialog.close();
-    dialog.onclose = () => answered(isYes);
+    byId('ask-yes').onclick = () => end(true);
+    byId('ask-no').onclick = dialog.oncancel = () => end(false);
     dialog.showModal();
   });
 }

@@ -11,9 +11,11 @@ const MARK = 'kbd48_lab', VERSION = 1;
 
 const isText = value => typeof value === 'string';
 
+function askToStay(event) { if (edited.size) event.preventDefault(); }
+
 class Keeping {
   constructor() {
-    Object.assign(this, { waiting: new Set(), timer: null, fault: null, done: new Set(), isApart: false });
+    Object.assign(this, { waiting: new Set(), timer: null, done: new Set(), isApart: false });
   }
 
   // The browser's storage, or null: some browsers have none for a local file, or refuse it.
@@ -68,7 +70,7 @@ class Keeping {
     try {
       for (const name of this.waiting) this.#storage.setItem(FILE + name, files[name]);
       this.waiting.clear();
-      this.fault = null;
+      removeEventListener('beforeunload', askToStay);
       byId('kept').hidden = true;
     } catch (error) {
       this.#failed(error);
@@ -77,8 +79,7 @@ class Keeping {
 
   #failed(error) {
     // Only a page that keeps nothing asks before it is left.
-    if (!this.fault) addEventListener('beforeunload', event => { if (this.fault && edited.size) event.preventDefault(); });
-    this.fault = error;
+    addEventListener('beforeunload', askToStay);
     byId('kept').textContent = `Your files aren't kept (${error.message}). Save all in the workbench before you leave this page.`;
     byId('kept').hidden = false;
   }

@@ -46,10 +46,8 @@ export class KeyboardPane {
     const name = this.select.value, fault = this.#tryToBegin(name, files[name]);
     this.#changed();
     if (fault === null) return;
-    tell(byId('layout-fault'), fault, false);
-    if (this.opened) return;
-    this.#tryToBegin(name, originals[BUILT_IN]);
-    byId('layout-fault').append(' The keyboard has the layout that this page was made with.');
+    if (!this.opened) this.#tryToBegin(BUILT_IN, originals[BUILT_IN]);
+    tell(byId('layout-fault'), `${fault} The keyboard has ${this.opened.text === originals[BUILT_IN] ? 'the layout that this page was made with' : this.opened.name}.`, false);
   }
 
   // Opens a layout's text. What is wrong with it, or null.

@@ -44,7 +44,7 @@ addEventListener('unhandledrejection', event => trouble(event.reason));
 class Lab {
   constructor(keyboard, program) {
     this.keyboard = keyboard;
-    Object.assign(this, { files, fromKle, program, owed: 0, drawn: -Infinity, newsDrawn: -Infinity, news: 0, since: null, upSince: null, stirred: -Infinity, pressed: -Infinity, pace: Infinity, timer: null, last: performance.now(), isPassing: false, inSight: new Set() });
+    Object.assign(this, { files, fromKle, keeping, program, owed: 0, drawn: -Infinity, newsDrawn: -Infinity, news: 0, since: null, upSince: null, stirred: -Infinity, pressed: -Infinity, pace: Infinity, timer: null, last: performance.now(), isPassing: false, inSight: new Set() });
     this.keys = new KeyboardPane({
       open: (layout, names) => this.open(layout, names), press: (place, down) => this.press(place, down),
       bench: words => {
@@ -99,7 +99,7 @@ class Lab {
   /** Shows what a link carries, if it carries anything. */
   async takeLink(shared) {
     if (!shared) return;
-    await bring(shared.files, 'the link');
+    if ((await bring(shared.files, 'the link')).includes(byId('layout').value)) this.keys.begin();
     if (shared.lesson !== null && shared.lesson in LESSONS) {
       this.show('lessons', true);
       this.lessons.open(shared.lesson);

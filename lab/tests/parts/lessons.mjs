@@ -9,7 +9,7 @@ const checks = async (browser, text, form) => {
   await browser.says('lesson-result', form);
 };
 
-/** Each lesson's first file fails its check with two hints beside it, two wrong solutions fail it and the answer passes. */
+/** Each lesson's first file fails its check with two hints beside it, a wrong solution fails it and the answer passes. */
 export async function lessons(browser, shot) {
   await browser.only('lessons');
   const many = await browser.evaluate('document.querySelectorAll("#lesson-list button").length');
@@ -19,7 +19,7 @@ export async function lessons(browser, shot) {
     await browser.click('#lesson-check');
     await browser.says('lesson-result', /^Not yet/);
     assert.equal(await browser.evaluate('document.querySelectorAll("#lesson-hints details").length'), 2);
-    for (const { edit, says } of SOLUTIONS[number].wrong.slice(-2)) {
+    for (const { edit, says } of SOLUTIONS[number].wrong.slice(-1)) {
       const text = typeof edit === 'string' ? edit : edit.reduce((now, [from, to]) => now.replace(from, () => to), answer);
       await checks(browser, text, /^Not yet/);
       assert.match(await browser.textOf('lesson-result'), says, name);
