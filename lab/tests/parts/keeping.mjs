@@ -41,6 +41,7 @@ export async function oneCopy(browser, url) {
   await browser.click('#lesson-check');
   await browser.says('lesson-result', /^Done/);
   await browser.evaluate('lab.lessons.open(5)');
+  await browser.put('lesson-file', answerOf('lesson6.asm').replace('CPL A                   ; 1', 'NOP                     ; 1'));
   await browser.click('#lesson-processor');
   assert.deepEqual(await browser.evaluate('["program", "program-layout", "program-keys"].map(id => document.getElementById(id).value)'), ['lesson6.asm', 'four_keys.toml', 'four_keys.keys']);
   assert.ok(await browser.evaluate('lab.processor.code.lines.some(it => /NOP +; 1 where the ones are even/.test(it.text))'), 'it is the program with the fault');
