@@ -2,6 +2,8 @@
 import { fromKle, isKeymapText } from './boards/from_kle.js';
 import { byId, make, tell } from './dom.js';
 import { files, put } from './files.js';
+import { bring } from './taking.js';
+import { textOfFile } from './text_files.js';
 
 /** Where the keys of a layout that was made of a board are drawn, by the layout's file and the key's name. */
 export const shapes = new Map();
@@ -16,20 +18,6 @@ const WAYS = [
   [/--any-keyboard takes/, () => [[['--any-keyboard'], 'Take it all the same']]],
   [/--diodes (COL2ROW|ROW2COL) takes/, found => [[['--diodes', found[1]], `Its diodes are ${found[1]}`]]],
 ];
-const LARGEST = 4 << 20;
-
-/** A file's text under a name that any command can say; or why it isn't taken. */
-export async function textOfFile(file) {
-  const name = file.name.replace(/[^\w.-]/g, '_');
-  if (file.size > LARGEST) throw new Error(`${name} is longer than any file that the program reads`);
-  const bytes = await file.arrayBuffer();
-  try {
-    return { name, text: new TextDecoder('utf-8', { fatal: true }).decode(bytes) };
-  } catch {
-    throw new Error(`${name} is no UTF-8 text`);
-  }
-}
-
 /** The name of the layout that is made of a board. */
 export const layoutNameOf = words => `${words.findLast(word => files[word] !== undefined && !isKeymapText(files[word]))?.replace(/\.[^.]*$/, '') ?? 'board'}.toml`;
 
@@ -43,20 +31,23 @@ export class BoardOpener {
   /** `chosen(name)` draws a layout; `bench(words)` shows words in the workbench. */
   constructor({ chosen, bench }) {
     Object.assign(this, { chosen, bench, board: null, keymap: null });
-    byId('open-board').onchange = event => this.#take(event.target);
+    byId('open-board').onchange = ({ target }) => {
+      const list = [...target.files];
+      target.value = '';
+      this.take(list);
+    };
   }
 
-  async #take(input) {
+  /** Takes files of the user's system. */
+  async take(list) {
     const taken = [];
     try {
-      for (const file of input.files) taken.push(await textOfFile(file));
+      for (const file of list) taken.push(await textOfFile(file));
     } catch (error) {
       this.#say(error.message, false, []);
       return;
-    } finally {
-      input.value = '';
     }
-    for (const { name, text } of taken) put(name, text);
+    for (const { name, text } of taken) await bring({ [name]: text }, name);
     const layout = taken.find(({ name }) => name.endsWith('.toml'));
     if (layout) {
       this.#hide();

@@ -1,7 +1,7 @@
 // The keyboard that is drawn: real keys, the mouse and fingers press it.
 import { BoardOpener, shapes } from './board_opener.js';
 import { byId, fill, make, tell } from './dom.js';
-import { files, named, onFile } from './files.js';
+import { files, named, onFile, originals } from './files.js';
 import { HEIGHT, SHAPES, WIDTH, isWhite, keyOfCode, keysOf, legendOf } from './places.js';
 import { explained, kbd48 } from './program.js';
 
@@ -10,21 +10,23 @@ const LEAVE = 500; // ms between the two Escapes that leave the keyboard
 const STICKS = new Set(['lshift', 'rshift', 'ctrl', 'alt']);
 const NOTES = ['Click the keyboard, and type. Your keys go to it while it has the focus. Escape twice, and Tab leaves it.',
   'Tab leaves the keyboard now, Shift and Tab go back. With any other key you go on typing.'];
+const BUILT_IN = 'us84.toml';
 const FEW = 20; // a layout with fewer keys is drawn as its matrix
 
 export class KeyboardPane {
   /** `open(layout, names)` begins a live keyboard; `press(place, down)` hands it an edge; `bench(words)` shows words in the
       workbench. */
   constructor({ open, press, bench }) {
-    Object.assign(this, { open, press, drawn: new Map(), held: new Map(), moved: new Map(), anew: new Set(), stuck: new Set(), hasLeft: false });
+    Object.assign(this, { open, press, drawn: new Map(), held: new Map(), moved: new Map(), anew: new Set(), stuck: new Set(), hasLeft: false, opened: null });
     this.element = byId('keyboard');
     this.board = byId('board');
     this.select = byId('layout');
     fill(this.select, named('.toml'), 'us84.toml');
-    onFile(({ name }) => {
-      fill(this.select, named('.toml'), 'us84.toml');
-      if (name === this.select.value) this.begin();
+    onFile(({ name, isNew }) => {
+      if (isNew) fill(this.select, named('.toml'), 'us84.toml');
+      if (name === this.select.value) this.#changed();
     });
+    byId('take-layout').onclick = () => { this.begin(); this.board.focus(); };
     this.select.onchange = () => this.begin();
     byId('restart').onclick = () => { this.begin(); this.board.focus(); };
     this.boards = new BoardOpener({ chosen: name => this.choose(name), bench });
@@ -39,25 +41,33 @@ export class KeyboardPane {
     this.begin();
   }
 
-  /** Opens the chosen layout, if it is right. */
+  /** Opens the chosen layout, if it is right. If no keyboard runs yet, the page's own layout is opened in place of a wrong one. */
   begin() {
-    const name = this.select.value, text = files[name], said = kbd48(['compile', name]);
-    if (said.exit !== 0) {
-      tell(byId('layout-fault'), `${name} wasn't opened: ${explained(said)?.words ?? said.text}`, false);
-      return;
-    }
-    this.keys = keysOf(text);
-    if (this.keys.length === 0) {
-      tell(byId('layout-fault'), `${name} is right, but no key of it can be drawn: the page reads keys that are tables [[key]]`, false);
-      return;
-    }
+    const name = this.select.value, fault = this.#tryToBegin(name, files[name]);
+    this.#changed();
+    if (fault === null) return;
+    if (!this.opened) this.#tryToBegin(BUILT_IN, originals[BUILT_IN]);
+    tell(byId('layout-fault'), `${fault} The keyboard has ${this.opened.text === originals[BUILT_IN] ? 'the layout that this page was made with' : this.opened.name}.`, false);
+  }
+
+  // Opens a layout's text. What is wrong with it, or null.
+  #tryToBegin(name, text) {
+    const said = kbd48(['compile', name], { [name]: text }), keys = said.exit === 0 ? keysOf(text) : [];
+    if (said.exit !== 0) return `${name} wasn't opened: ${explained(said)?.words ?? said.text}.`;
+    if (keys.length === 0) return `${name} is right, but no key of it can be drawn: the page reads keys that are tables [[key]].`;
     byId('layout-fault').hidden = true;
-    this.held.clear();
-    this.moved.clear();
-    this.anew.clear();
-    this.stuck.clear();
+    this.keys = keys;
+    this.opened = { name, text };
+    for (const kept of [this.held, this.moved, this.anew, this.stuck]) kept.clear();
     this.#draw();
     this.open(text, new Map(this.keys.map(key => [key.place, key.name])));
+    return null;
+  }
+
+  // The layout that is open may be edited; the keyboard goes on with what it was opened with.
+  #changed() {
+    const name = this.select.value, isOther = this.opened?.name === name && this.opened.text !== files[name];
+    byId('layout-changed').hidden = !isOther;
   }
 
   /** Whether a key went down since the last time, and whether one went up. */

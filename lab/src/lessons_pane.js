@@ -1,85 +1,135 @@
-// Lessons with tasks that the page checks: what the program prints of the user's file must be what it prints of the solution.
+// Lessons with tasks that the page checks. A lesson's file is one of the page's files, so the workbench and the processor have the
+// same text.
+import { ask } from './asking.js';
+import { checked } from './checking.js';
+import { firstOf, firstText, nameOf, saidOf } from './course/judged.js';
 import { byId, make, tell } from './dom.js';
-import { files, put } from './files.js';
-import { LESSONS, replaced } from './lessons.js';
-import { explained, kbd48 } from './program.js';
+import { files, offer, onFile, originals, put, replace, undo, undoable } from './files.js';
+import { HandIns } from './hand_ins.js';
+import { keeping } from './keeping.js';
+import { LESSONS } from './lessons.js';
+import { FAULTS, kbd48 } from './program.js';
+import { Waveform } from './waveform.js';
 
-const ORIGINALS = { ...files };
-
-/** The file that a lesson begins with, and its solution. */
-const firstText = lesson => lesson.start ?? replaced(ORIGINALS[lesson.file], lesson.begin);
-const solutionText = lesson => lesson.goal ?? replaced(ORIGINALS[lesson.file], lesson.solution);
-
-// The words behind each time or tick: two logs may say the same at other times.
-const itemsOf = text => text.split('\n').map(line => line.slice(line.indexOf(' ') + 1)).join('\n');
-
-/** What the program makes of a lesson's file: { outputs, fault }. */
-function outcome(lesson, text) {
-  const more = { ...ORIGINALS, ...lesson.extra, OWN: text };
-  if (lesson.file.endsWith('.asm')) {
-    const made = kbd48(['asm', 'OWN'], more);
-    if (made.exit !== 0) return { outputs: [], fault: explained(made)?.words ?? made.text };
-    more['own.hex'] = made.text;
-  }
-  const said = lesson.calls.map(call => kbd48(call.split(' ').flatMap(word => (word === 'BYTES' ? text.trim().split(/\s+/) : [word])), more));
-  const refused = said.find(answer => answer.exit !== 0);
-  return { outputs: said.map(answer => answer.text), fault: refused ? explained(refused)?.words ?? refused.text : null };
-}
-
-/** Whether a file solves a lesson. */
-function solves(lesson, text) {
-  const { outputs, fault } = outcome(lesson, text), right = outcome(lesson, solutionText(lesson)).outputs;
-  if (fault) return { right: false, fault, outputs };
-  const same = lesson.items ? (a, b) => itemsOf(a) === itemsOf(b) : (a, b) => a === b;
-  return { right: outputs.every((output, n) => same(output, right[n])), fault: null, outputs };
-}
+const MARGIN = 400; // cycles of a wave after what is wrong
+const MOST_LINES = 400;
 
 export class LessonsPane {
-  /** `bench(name)` opens a file in the workbench. */
-  constructor(bench) {
-    this.own = LESSONS.map(firstText);
+  /** `bench(name, command)` opens a file in the workbench, `processor(name, layout, keys)` in the processor. */
+  constructor({ bench, processor }) {
+    this.checks = 0;
     byId('lesson-list').replaceChildren(...LESSONS.map((lesson, n) => {
       const button = make('button', { type: 'button', textContent: lesson.title });
       button.onclick = () => this.open(n);
       return make('li', {}, button);
     }));
-    byId('lesson-file').oninput = ({ target }) => { this.own[this.number] = target.value; };
+    byId('lesson-file').oninput = ({ target }) => put(this.name, target.value);
+    onFile(({ name }) => {
+      if (name === this.name && byId('lesson-file').value !== files[name]) byId('lesson-file').value = files[name];
+      this.#canUndo();
+    });
     byId('lesson-check').onclick = () => this.check();
-    byId('lesson-reset').onclick = () => {
-      this.own[this.number] = firstText(LESSONS[this.number]);
-      this.open(this.number);
+    byId('lesson-reset').onclick = () => this.#beginAgain();
+    byId('lesson-undo').onclick = () => undo();
+    byId('lesson-bench').onclick = () => bench(this.name, this.command);
+    byId('lesson-processor').onclick = () => {
+      const [, , layout, keys] = this.command.split(' ');
+      processor(this.name, layout, keys);
     };
-    byId('lesson-bench').onclick = () => {
-      const lesson = LESSONS[this.number], name = `lesson${this.number + 1}.${lesson.file.split('.').at(-1)}`;
-      for (const [other, text] of Object.entries(lesson.extra ?? {})) put(other, text);
-      put(name, this.own[this.number]);
-      bench(name);
-    };
+    this.wave = new Waveform(byId('lesson-wave'), () => ({ edges: [], bytes: [], cycle: 0 }));
+    this.handIns = new HandIns();
     this.open(0);
   }
 
-  /** The solution of a lesson. */
-  solutionOf(number) { return solutionText(LESSONS[number]); }
-
   open(number) {
     this.number = number;
-    const lesson = LESSONS[number];
+    this.checks++;
+    const lesson = this.lesson = LESSONS[number], name = this.name = nameOf(number + 1);
+    for (const [other, text] of Object.entries(lesson.extra ?? {})) offer(other, text);
+    offer(name, firstText(lesson, originals));
     byId('lesson-title').textContent = `${number + 1}. ${lesson.title}`;
     byId('lesson-text').replaceChildren(...lesson.text.map(text => make('p', { textContent: text })),
       make('p', {}, make('strong', { textContent: `Task. ${lesson.task}` })));
-    byId('lesson-name').textContent = `${lesson.file}, in your own copy`;
-    byId('lesson-file').value = this.own[number];
+    byId('lesson-hints').replaceChildren(...lesson.hints.map((hint, n) =>
+      make('details', {}, make('summary', { textContent: `Hint ${n + 1}` }), make('p', { textContent: hint }))));
+    byId('lesson-name').textContent = `${name}: the workbench and the processor have the same file`;
+    byId('lesson-file').value = files[name];
+    byId('lesson-processor').hidden = !this.command.startsWith('board ');
     tell(byId('lesson-result'), '');
-    byId('lesson-log').textContent = '';
+    this.#clear();
+    this.#canUndo();
     for (const [n, button] of [...document.querySelectorAll('#lesson-list button')].entries()) {
       button.setAttribute('aria-pressed', String(n === number));
+      const isDone = keeping.done.has(nameOf(n + 1));
+      button.classList.toggle('done', isDone);
     }
   }
 
-  check() {
-    const lesson = LESSONS[this.number], { right, fault, outputs } = solves(lesson, this.own[this.number]);
-    byId('lesson-log').textContent = outputs.join('\n');
-    if (right) document.querySelectorAll('#lesson-list button')[this.number].classList.add('done');
-    tell(byId('lesson-result'), right ? 'Done: that is what it must print.' : fault ? `Not yet: ${fault}` : 'Not yet: it must print something else.', right);
+  // The lesson's command, with the names of its file and of its image.
+  get command() { return this.lesson.command.replace('IMAGE', this.name.replace(/asm$/, 'hex')).replace('OWN', this.name); }
+
+  async #beginAgain() {
+    const first = firstText(this.lesson, originals);
+    if (files[this.name] === first) return;
+    if (!await ask(`Begin lesson ${this.number + 1} again? Its first file takes the place of yours. Undo brings yours back.`, 'Begin again', 'Keep mine')) return;
+    replace(this.name, first, `lesson ${this.number + 1} was begun again`);
+    tell(byId('lesson-result'), '');
+    this.#clear();
+    byId('lesson-file').focus();
+  }
+
+  #canUndo() {
+    const last = undoable();
+    byId('lesson-undo').hidden = last?.name !== this.name;
+    byId('lesson-undo').title = last ? `Undo: ${last.why}` : '';
+  }
+
+  #clear() {
+    byId('lesson-log').textContent = '';
+    byId('lesson-differs').hidden = true;
+    byId('lesson-wave').hidden = true;
+  }
+
+  /** Checks the lesson's file; whoever opens another lesson meanwhile is told nothing. */
+  async check() {
+    const check = ++this.checks, isLeft = () => check !== this.checks, { lesson, name } = this, text = files[name];
+    this.#clear();
+    tell(byId('lesson-result'), 'It is checked ..');
+    byId('lesson-result').setAttribute('aria-busy', 'true');
+    const found = await checked(lesson, text, ({ made, of }) => { byId('lesson-result').textContent = `It is checked: ${made} of ${of} runs ..`; }, isLeft);
+    if (isLeft()) return;
+    byId('lesson-result').removeAttribute('aria-busy');
+    byId('lesson-log').textContent = this.#printed(text);
+    if (found) this.#show(found);
+    else {
+      keeping.lessonDone(name);
+      document.querySelectorAll('#lesson-list button')[this.number].classList.add('done');
+    }
+    tell(byId('lesson-result'), found ? `Not yet: ${saidOf(found, FAULTS)}` : 'Done: in every run it does what it must.', !found);
+  }
+
+  // What the lesson's command prints of a text.
+  #printed(text) {
+    const more = { [this.name]: text }, words = this.command.split(' ').flatMap(word => (word === 'BYTES' ? text.trim().split(/\s+/).filter(Boolean) : [word]));
+    if (this.name.endsWith('.asm')) {
+      const made = kbd48(['asm', this.name], more);
+      if (made.exit !== 0) return made.text;
+      more[this.name.replace(/asm$/, 'hex')] = made.text;
+    }
+    const lines = kbd48(words, more).text.split('\n');
+    return [`$ kbd48 ${this.command}`, ...lines.slice(0, MOST_LINES), ...(lines.length > MOST_LINES ? ['..'] : [])].join('\n');
+  }
+
+  // The first difference: what was expected beside what came, and the wires, if it is about them.
+  #show(found) {
+    byId('lesson-differs').hidden = Boolean(found.refused);
+    if (found.refused) return;
+    const upTo = list => list.slice(0, found.line).map(text => `  ${text}`), [expected, got] = firstOf(found);
+    byId('lesson-expected').textContent = [...upTo(found.expected), `> ${expected}`].join('\n');
+    byId('lesson-got').textContent = [...upTo(found.got), `> ${got}`].join('\n');
+    byId('lesson-wave').hidden = !found.trace;
+    if (!found.trace) return;
+    const { edges, bytes, cycle } = found.trace, end = Math.min(cycle, (found.at ?? cycle) + MARGIN);
+    this.wave.show({ edges: edges.filter(it => it.cycle <= end), bytes: bytes.filter(it => it.begin <= end), cycle: end });
   }
 }

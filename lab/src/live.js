@@ -8,6 +8,7 @@ import { COPIES_APART, History } from './history.js';
 
 export const CYCLES_OF_A_MS = 400, FIRST_STAMP = 4096;
 const KEPT = 40000, TRIMMED = 30000;
+const LAST_STAMP = 240_000_000, MOST_EVENTS = 65_536; // of a key file
 // An item in the words of the log; what the page itself takes from the buffer of INT 09h isn't said.
 const SAYS = {
   [Item.PORT]: byte => `port ${hex(byte)}`, [Item.READ]: byte => `read ${hex(byte)}`, [Item.WORD]: word => `word ${hex(word, 4)}`,
@@ -215,6 +216,11 @@ export class Live {
     if (this.items.length > KEPT) this.items.splice(0, KEPT - TRIMMED);
   }
 
-  /** What was done so far, as a key file. */
-  keyFile() { return [...this.events.map(({ stamp, words }) => `${stamp} ${words}`), `${Math.max(this.stamp, 1)} end`, ''].join('\n'); }
+  /** What was done so far, as a key file: { keys, isCut }. The longest that a key file may be is the first part of a longer
+      session. */
+  keyFile() {
+    const taken = this.events.slice(0, MOST_EVENTS - 1).filter(({ stamp }) => stamp < LAST_STAMP), isCut = this.stamp > LAST_STAMP || taken.length < this.events.length;
+    const end = taken.length < this.events.length ? Math.min(LAST_STAMP, this.events[taken.length].stamp) : Math.min(LAST_STAMP, this.stamp);
+    return { keys: [...taken.map(({ stamp, words }) => `${stamp} ${words}`), `${Math.max(end, 1)} end`, ''].join('\n'), isCut };
+  }
 }

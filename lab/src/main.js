@@ -2,14 +2,17 @@
 import { Keyboard, Program } from '../kbd48.mjs';
 import { fromKle } from './boards/from_kle.js';
 import { byId, setHidden } from './dom.js';
-import { files, put } from './files.js';
+import { files } from './files.js';
+import { keeping } from './keeping.js';
 import { KeyboardPane } from './keyboard_pane.js';
+import { LESSONS } from './lessons.js';
 import { LessonsPane } from './lessons_pane.js';
 import { CYCLES_OF_A_MS, Live } from './live.js';
 import { Pc } from './pc.js';
 import { ProcessorPane, isStopped } from './processor_pane.js';
 import { useProgram } from './program.js';
-import { bytesOf, filesOf, unpacked } from './share.js';
+import { bytesOf, sharedIn, unpacked } from './share.js';
+import { bring, listenToDrops } from './taking.js';
 import { WiresPane } from './wires_pane.js';
 import { WorkbenchPane } from './workbench_pane.js';
 
@@ -41,7 +44,7 @@ addEventListener('unhandledrejection', event => trouble(event.reason));
 class Lab {
   constructor(keyboard, program) {
     this.keyboard = keyboard;
-    Object.assign(this, { files, fromKle, program, owed: 0, drawn: -Infinity, newsDrawn: -Infinity, news: 0, since: null, upSince: null, stirred: -Infinity, pressed: -Infinity, pace: Infinity, timer: null, last: performance.now(), isPassing: false, inSight: new Set() });
+    Object.assign(this, { files, fromKle, keeping, program, owed: 0, drawn: -Infinity, newsDrawn: -Infinity, news: 0, since: null, upSince: null, stirred: -Infinity, pressed: -Infinity, pace: Infinity, timer: null, last: performance.now(), isPassing: false, inSight: new Set() });
     this.keys = new KeyboardPane({
       open: (layout, names) => this.open(layout, names), press: (place, down) => this.press(place, down),
       bench: words => {
@@ -49,13 +52,28 @@ class Lab {
         this.workbench.show(words);
       },
     });
-    this.wires = new WiresPane(() => this.live, () => byId('layout').value);
+    this.wires = new WiresPane(() => this.live, () => this.keys.opened);
     this.processor = new ProcessorPane(() => this.live);
     this.workbench = new WorkbenchPane();
-    this.lessons = new LessonsPane(name => {
-      this.show('workbench', true);
-      this.workbench.open(name);
+    this.lessons = new LessonsPane({
+      bench: (name, command) => {
+        this.show('workbench', true);
+        this.workbench.open(name);
+        this.workbench.show(command);
+      },
+      processor: (name, layout, keys) => {
+        this.show('processor', true);
+        this.processor.choose(name, layout, keys);
+      },
     });
+    listenToDrops((list, target) => {
+      if (target.closest('#keyboard')) this.keys.boards.take(list);
+      else {
+        this.show('workbench', true);
+        this.workbench.take(list);
+      }
+    });
+    addEventListener('hashchange', () => sharedIn(location.hash).then(shared => this.takeLink(shared)).catch(trouble));
     byId('go-on').onclick = () => {
       byId('speed').value = '1';
       byId('board').focus();
@@ -76,6 +94,19 @@ class Lab {
     }
     this.drawKeys();
     this.draw();
+  }
+
+  /** Shows what a link carries, if it carries anything. */
+  async takeLink(shared) {
+    if (!shared) return;
+    if ((await bring(shared.files, 'the link')).includes(byId('layout').value)) this.keys.begin();
+    if (shared.lesson !== null && shared.lesson in LESSONS) {
+      this.show('lessons', true);
+      this.lessons.open(shared.lesson);
+    } else {
+      this.show('workbench', true);
+      this.workbench.showShared(shared);
+    }
   }
 
   /** Powers a keyboard on. */
@@ -218,19 +249,12 @@ class Lab {
 async function begin() {
   const [keyboard, program] = await Promise.all([moduleOf('keyboard-module').then(Keyboard.load), moduleOf('program-module').then(Program.load)]);
   useProgram(program);
-  let shared = null;
-  try {
-    shared = await filesOf(location.hash);
-  } catch (error) {
-    trouble(error);
-  }
-  for (const [name, text] of Object.entries(shared ?? {})) put(name, text);
+  keeping.begin();
+  const shared = await sharedIn(location.hash).catch(error => { trouble(error); return null; });
   const lab = new Lab(keyboard, program);
   globalThis.lab = lab;
-  if (shared) {
-    lab.show('workbench', true);
-    lab.workbench.open(Object.keys(shared)[0]);
-  } else byId('board').focus({ preventScroll: true });
+  if (!shared) byId('board').focus({ preventScroll: true });
+  lab.takeLink(shared).catch(trouble);
   lab.tick();
 }
 

@@ -36,7 +36,9 @@ export class ProcessorPane {
     this.#fill();
     onFile(({ name, isNew }) => {
       if (isNew) this.#fill();
-      if (!this.#isLive() && this.#files().includes(name)) this.session = null;
+      if (this.#isLive() || !this.#files().includes(name) || !this.session) return;
+      this.session = null;
+      tell(byId('program-fault'), `${name} was changed: Power on takes it as it is now`, false);
     });
     for (const id of ['program', 'program-layout', 'program-keys']) byId(id).onchange = () => this.open();
     byId('power').onclick = () => this.open();
@@ -79,6 +81,13 @@ export class ProcessorPane {
     fill(byId('program'), [LIVE_ONE, ...named('.asm', '.hex', '.toml')], 'four_keys.asm');
     fill(byId('program-layout'), named('.toml'), 'four_keys.toml');
     fill(byId('program-keys'), named('.keys'), 'four_keys.keys');
+  }
+
+  /** Opens this program, layout and key file, all files of the page. */
+  choose(program, layout, keys) {
+    this.#fill();
+    for (const [id, name] of Object.entries({ program, 'program-layout': layout, 'program-keys': keys })) byId(id).value = name;
+    this.open();
   }
 
   /** The pane is shown. */

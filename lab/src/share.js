@@ -1,11 +1,23 @@
-// Files in a link: packed into the part of the address after `#`, which no server sees.
+// Links: files, the lesson, the file that is open and the command, packed into the part of the address after `#`, which no server
+// sees.
+import { isFileName } from './keeping.js';
 
-const KEY = '#files=';
+const KEY = '#lab=', OLD_KEY = '#files=';
+const MOST_PACKED = 1 << 20, MOST_UNPACKED = 4 << 20; // letters of an address, bytes
 
-// Read by hand: a Response that can't be read makes Firefox report an error on the console, though it is caught.
-async function through(bytes, transform) {
+// Read by hand: a Response that can't be read makes Firefox report an error on the console, though it is caught. What is longer
+// than `most` isn't unpacked to its end.
+async function through(bytes, transform, most = Infinity) {
   const reader = new Blob([bytes]).stream().pipeThrough(transform).getReader(), parts = [];
-  for (let part = await reader.read(); !part.done; part = await reader.read()) parts.push(part.value);
+  let many = 0;
+  for (let part = await reader.read(); !part.done; part = await reader.read()) {
+    parts.push(part.value);
+    many += part.value.length;
+    if (many > most) {
+      reader.cancel().catch(() => {});
+      throw new RangeError(`it has more than ${most} bytes`);
+    }
+  }
   return new Uint8Array(await new Blob(parts).arrayBuffer());
 }
 
@@ -13,22 +25,37 @@ export const unpacked = bytes => through(bytes, new DecompressionStream('gzip'))
 
 export const bytesOf = base64 => Uint8Array.from(atob(base64), letter => letter.charCodeAt(0));
 
-/** The address of this page with these files: { name: text }. */
+/** The address of this page with { files, open, command, lesson }. */
 export async function linkOf(shared) {
   const packed = await through(new TextEncoder().encode(JSON.stringify(shared)), new CompressionStream('gzip'));
   const base64 = btoa(Array.from(packed, byte => String.fromCharCode(byte)).join(''));
   return location.href.split('#')[0] + KEY + base64.replaceAll('+', '-').replaceAll('/', '_').replaceAll('=', '');
 }
 
-/** The files of an address, or null if it has none. One that is broken is an error. */
-export async function filesOf(hash) {
-  if (!hash.startsWith(KEY)) return null;
+// One step of reading a link; what fails is said as this.
+async function orSay(words, act) {
   try {
-    const text = new TextDecoder().decode(await unpacked(bytesOf(hash.slice(KEY.length).replaceAll('-', '+').replaceAll('_', '/'))));
-    const shared = JSON.parse(text);
-    if (Object.entries(shared).every(([name, file]) => /^[A-Za-z0-9][\w.-]*$/.test(name) && typeof file === 'string')) return shared;
-  } catch {
-    // Below it is said, whatever was wrong with it.
+    return await act();
+  } catch (error) {
+    throw new Error(`the link is broken: ${error instanceof RangeError ? error.message : words}`);
   }
-  throw new Error('the link is broken: no file could be read from it');
+}
+
+/** What an address carries, or null if that is nothing of the page's. What is wrong with it is an error. */
+export async function sharedIn(hash) {
+  const key = [KEY, OLD_KEY].find(it => hash.startsWith(it));
+  if (!key) return null;
+  if (hash.length > MOST_PACKED) throw new Error(`the link is broken: it has more than ${MOST_PACKED} letters`);
+  const packed = await orSay('its letters are none that this page makes', () => bytesOf(hash.slice(key.length).replaceAll('-', '+').replaceAll('_', '/')));
+  const bytes = await orSay('a part of it is missing or changed', () => through(packed, new DecompressionStream('gzip'), MOST_UNPACKED));
+  const said = await orSay('what it carries is no text of this page', () => JSON.parse(new TextDecoder().decode(bytes)));
+  const shared = key === KEY ? said : { files: said };
+  const entries = Object.entries(shared?.files ?? {}), wrong = entries.find(([name, text]) => !isFileName(name) || typeof text !== 'string');
+  if (wrong) throw new Error(`the link is broken: ${wrong[0].slice(0, 40)} is no file`);
+  if (!entries.length) throw new Error('the link is broken: no file could be read from it');
+  const isText = value => typeof value === 'string';
+  return {
+    files: Object.fromEntries(entries), open: isText(shared.open) && shared.open in shared.files ? shared.open : entries[0][0],
+    command: isText(shared.command) ? shared.command : null, lesson: Number.isInteger(shared.lesson) ? shared.lesson : null,
+  };
 }

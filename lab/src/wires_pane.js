@@ -1,6 +1,6 @@
 // What passes between keyboard and PC while one types, and what the PC says.
 import { byId, fill, hex, make, setText, tell } from './dom.js';
-import { named, onFile, put } from './files.js';
+import { named, onFile, replace } from './files.js';
 import { CLOCK, DATA } from './wires.js';
 import { Lines } from './lines.js';
 import { CYCLES_OF_A_MS, FIRST_STAMP } from './live.js';
@@ -10,6 +10,7 @@ import { Waveform, pullersOf } from './waveform.js';
 
 const LIVE = 'what I type';
 const STEP = 160; // pixels
+const CUT = 'the first part of this session, as long as a key file may be: 600 seconds and 65,536 events';
 const BITS = [...Array.from({ length: 8 }, (_, bit) => `data bit ${bit + 1}`), 'the parity bit'];
 const PULLERS = { keyboard: 'the keyboard', host: 'the PC' };
 // Each command with the bytes that the PC writes: to port 60h, or to 64h.
@@ -21,9 +22,9 @@ const COMMANDS = [
 ];
 
 export class WiresPane {
-  /** `live()` answers the keyboard that runs. */
-  constructor(live, layoutName) {
-    Object.assign(this, { element: byId('wires'), live, layoutName, still: null });
+  /** `live()` answers the keyboard that runs, `opened()` its layout: { name, text }. */
+  constructor(live, opened) {
+    Object.assign(this, { element: byId('wires'), live, opened, still: null });
     this.bytes = new Lines(byId('bytes'), ({ begin, sender, byte }) => `${at(begin)}  ${sender === 'host' ? 'PC → keyboard' : 'keyboard → PC'}  ${hex(byte)}`);
     this.log = new Lines(byId('log'), entry => (typeof entry === 'string' ? entry : `${at(entry.cycle)}  ${entry.words}`));
     this.wave = new Waveform(byId('wave'), live);
@@ -50,8 +51,9 @@ export class WiresPane {
     onFile(({ isNew }) => { if (isNew) list(); });
     byId('shown').onchange = ({ target }) => this.#show(target.value);
     byId('session').onclick = () => {
-      put('session.keys', live().keyFile());
-      tell(byId('judged'), 'session.keys is in the workbench');
+      const { keys, isCut } = live().keyFile();
+      replace('session.keys', keys, 'this session took its place');
+      tell(byId('judged'), `session.keys is in the workbench${isCut ? `; it has ${CUT}` : ''}`);
     };
     byId('judge').onclick = () => this.#judge();
     byId('noisy-bit').append(...BITS.map((words, at) => new Option(words, at + 1)));
@@ -77,7 +79,7 @@ export class WiresPane {
     this.log.clear();
     this.wave.show(null);
     if (keys === LIVE) return;
-    const trace = kbd48(['trace', this.layoutName(), keys]), run = kbd48(['run', this.layoutName(), keys]);
+    const { name, text } = this.opened(), layout = { [name]: text }, [trace, run] = ['trace', 'run'].map(word => kbd48([word, name, keys], layout));
     if (trace.exit !== 0) tell(byId('judged'), `${keys}: ${explained(trace)?.words}`, false);
     else {
       const { edges, bytes, cycle } = readTrace(trace.text);
@@ -88,10 +90,10 @@ export class WiresPane {
 
   // What was done so far as a key file, under the model and under the firmware.
   #judge() {
-    const keys = { 'session.keys': this.live().keyFile() }, layout = this.layoutName();
-    const run = kbd48(['run', layout, 'session.keys'], keys), expect = kbd48(['expect', layout, 'session.keys'], keys);
+    const { name, text } = this.opened(), { keys, isCut } = this.live().keyFile(), given = { 'session.keys': keys, [name]: text };
+    const [run, expect] = ['run', 'expect'].map(word => kbd48([word, name, 'session.keys'], given));
     if (run.exit !== 0) tell(byId('judged'), `the session is no key file: ${explained(run)?.words}`, false);
-    else if (run.text === expect.text) tell(byId('judged'), `run and expect print the same ${run.text.split('\n').length - 1} lines of this session`, true);
+    else if (run.text === expect.text) tell(byId('judged'), `run and expect print the same ${run.text.split('\n').length - 1} lines of ${isCut ? CUT : 'this session'}`, true);
     else tell(byId('judged'), 'run and expect differ', false);
   }
 

@@ -1,15 +1,21 @@
 // Files, and what the program makes of them.
-import { keepLayout, layoutNameOf, textOfFile } from './board_opener.js';
+import { ask } from './asking.js';
+import { keepLayout, layoutNameOf } from './board_opener.js';
 import { fromKle, isKeymapText } from './boards/from_kle.js';
 import { byId, fill, make, save, tell } from './dom.js';
-import { edited, files, onFile, put } from './files.js';
-import { EXIT, explained, kbd48 } from './program.js';
+import { edited, files, onFile, put, undo, undoable } from './files.js';
+import { keeping, workOf } from './keeping.js';
+import { explained, kbd48 } from './program.js';
+import { EXIT } from './refusals.js';
 import { linkOf } from './share.js';
+import { takeFiles } from './taking.js';
 import { readTrace } from './vcd.js';
 import { Waveform } from './waveform.js';
 
 // What is offered for a file by its ending; NAME is the file, STEM its name without the ending.
+// Without a prototype, since an ending may be any word.
 const OFFERS = {
+  __proto__: null,
   asm: [['asm NAME'], ['board STEM.hex STEM.toml STEM.keys'], ['board STEM.hex STEM.toml STEM.keys --trace']],
   hex: [['list NAME'], ['step NAME 25'], ['board NAME STEM.toml STEM.keys'], ['cert NAME STEM.cert']],
   toml: [['compile NAME'], ['run NAME STEM.keys']],
@@ -20,7 +26,7 @@ const OFFERS = {
   json: [['from_kle NAME'], ['from_kle --table NAME'], ['from_kle --wiring NAME']],
 };
 // What a command makes is kept under the file's name with this ending.
-const MADE = { asm: 'hex', compile: 'hex', list: 'asm', type: 'keys', trace: 'vcd', run: 'log', board: 'log', from_kle: 'toml' };
+const MADE = { __proto__: null, asm: 'hex', compile: 'hex', list: 'asm', type: 'keys', trace: 'vcd', run: 'log', board: 'log', from_kle: 'toml' };
 const INPUTS = /\.(asm|hex|toml|keys|cert|script|text|items|log|vcd|json|list|vil)$/;
 
 export class WorkbenchPane {
@@ -31,11 +37,21 @@ export class WorkbenchPane {
     onFile(({ name, isNew }) => {
       if (isNew) this.#fill(this.select.value);
       if (name === this.select.value && this.editor.value !== files[name]) this.editor.value = files[name];
+      const last = undoable();
+      byId('undo').hidden = !last;
+      byId('undo').title = last ? `Undo: ${last.why}` : '';
     });
+    byId('undo').onclick = () => this.open(undo());
+    byId('save-all').onclick = () => this.#saveAll();
+    byId('forget').onclick = () => this.#forget();
     this.select.onchange = () => this.open(this.select.value);
     this.editor.oninput = () => put(this.select.value, this.editor.value);
     byId('new-file').onclick = () => this.#new();
-    byId('open-file').onchange = event => this.#take(event.target);
+    byId('open-file').onchange = ({ target }) => {
+      const list = [...target.files];
+      target.value = '';
+      this.take(list);
+    };
     byId('save-file').onclick = () => save(this.select.value, this.editor.value);
     byId('share').onclick = () => this.#share();
     byId('do').onclick = () => this.run(byId('words').value);
@@ -115,18 +131,18 @@ export class WorkbenchPane {
     this.#made(said.shapes ? { name: layoutNameOf(words), said } : null);
   }
 
-  // Makes the image of each source that was edited here, if the words name the image. Whether one was refused.
+  // Makes the image of each source that was edited here, or has none yet, if the words name the image. Whether one was refused.
   #assemble(words) {
     for (const image of words.filter(word => word.endsWith('.hex'))) {
-      const source = image.replace(/hex$/, 'asm');
-      if (!edited.has(source)) continue;
+      const source = sourceOf(image);
+      if (!(source in files) || (image in files && !edited.has(source))) continue;
       const said = kbd48(['asm', source]);
       if (said.exit !== EXIT.DONE) {
         byId('answer').textContent = said.text;
         this.#tell(['asm', source], said, null, 0);
         return true;
       }
-      put(image, said.text);
+      if (files[image] !== said.text) put(image, said.text);
     }
     return false;
   }
@@ -181,32 +197,53 @@ export class WorkbenchPane {
     this.editor.focus();
   }
 
-  async #take(input) {
-    for (const file of input.files) {
-      try {
-        const { name, text } = await textOfFile(file);
-        put(name, text);
-        this.open(name);
-      } catch (error) {
-        tell(byId('shared'), error.message, false);
-      }
-    }
-    input.value = '';
+  /** Takes files of the user's system. */
+  async take(list) {
+    tell(byId('shared'), '');
+    const names = await takeFiles(list, byId('shared'));
+    if (names.length) this.open(names.at(-1));
   }
 
-  // The file that is open, with what its command names beside it.
+  #saveAll() {
+    const names = [...edited].sort();
+    if (!names.length) tell(byId('shared'), 'No file was changed yet.', false);
+    else {
+      save('kbd48_work.json', workOf(names));
+      tell(byId('shared'), `kbd48_work.json has ${names.length === 1 ? 'your file' : `your ${names.length} files`}.`);
+    }
+  }
+
+  async #forget() {
+    if (!await ask('Forget all that you have changed, in this window and in this browser? No undo brings it back.', 'Forget all', 'Keep it')) return;
+    keeping.forget();
+    location.replace(location.href.split('#')[0]);
+    location.reload();
+  }
+
+  // The file that is open, with what its command names beside it: sources too, of which the images are made.
   async #share() {
-    const names = new Set([this.select.value, ...byId('words').value.split(/\s+/).filter(word => word in files)]);
-    const link = await linkOf(Object.fromEntries([...names].map(name => [name, files[name]])));
+    const command = byId('words').value, words = command.split(/\s+/), sources = words.filter(word => word.endsWith('.hex')).map(sourceOf);
+    const names = [...new Set([this.select.value, ...words, ...sources])].filter(name => name in files);
+    const link = await linkOf({ files: Object.fromEntries(names.map(name => [name, files[name]])), open: this.select.value, command });
     history.replaceState(null, '', link);
-    tell(byId('shared'), `The address of this page now carries ${[...names].join(', ')}. `);
+    tell(byId('shared'), `The address of this page now carries ${names.join(', ')}. `);
     byId('shared').append(make('a', { href: link, textContent: 'The link' }));
+    if (location.protocol === 'file:') byId('shared').append('. This page is a file of this computer, so the link works here alone. For others, put the page on a web server, or send them what Save all saves.');
+  }
+
+  /** Shows the file and the command of a link, and what the command prints. If a file is refused, the link's file stays open. */
+  showShared({ open, command }) {
+    if (command !== null) this.show(command);
+    this.open(open);
   }
 }
 
-const kindOf = name => ({ asm: 'asm', hex: 'hex', toml: 'layout', keys: 'keys', script: 'script', cert: 'cert' })[name.split('.').at(-1)];
+const KINDS = { __proto__: null, asm: 'asm', hex: 'hex', toml: 'layout', keys: 'keys', script: 'script', cert: 'cert' };
+const kindOf = name => KINDS[name.split('.').at(-1)];
 
-const isPossible = words => words.split(' ').filter(word => INPUTS.test(word)).every(name => name in files);
+// An image is there if its source is.
+const sourceOf = image => image.replace(/hex$/, 'asm');
+const isPossible = words => words.split(' ').filter(word => INPUTS.test(word)).every(name => name in files || (name.endsWith('.hex') && sourceOf(name) in files));
 
 // A keymap is offered for each board that is here, and a board with each keymap.
 const isBoardFile = name => /\.(json|vil)$/.test(name);

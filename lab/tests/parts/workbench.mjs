@@ -1,7 +1,17 @@
-// The workbench and the lessons: files, commands, what they print, links, and files that are broken.
+// The workbench: files, commands, what they print, links, and files that are broken.
 import assert from 'node:assert/strict';
 import { readFileSync, writeFileSync } from 'node:fs';
 import { join } from 'node:path';
+import { gzipSync } from 'node:zlib';
+
+const packed = value => gzipSync(typeof value === 'string' ? value : JSON.stringify(value)).toString('base64url');
+// Links that are broken, each with what is said of it. The last has 50 MB in 50 kB.
+const BROKEN_LINKS = [
+  ['files=AAAA', /the link is broken: a part of it is missing or changed/], ['files=H4sIAAAAAAAA', /the link is broken: a part/], ['files=H4sIAAAAAAAAA', /the link is broken: its letters/], ['lab=%', /the link is broken: its letters/],
+  [`lab=${packed('{"files":')}`, /what it carries is no text of this page/], [`lab=${packed({ files: {} })}`, /no file could be read/],
+  [`lab=${packed({ files: { '../x': 'y' } })}`, /\.\.\/x is no file/], [`files=${packed({ 'a.asm': 5 })}`, /a\.asm is no file/],
+  [`lab=${packed(`{"files":{"a.asm":"${' '.repeat(50 << 20)}"}}`)}`, /it has more than 4194304 bytes/],
+];
 
 const run = async (browser, words) => {
   await browser.put('words', words);
@@ -109,39 +119,18 @@ export async function shareLink(browser, url) {
   await browser.evaluate(`lab.files['mine.toml'] = lab.files['four_keys.toml'].replace('"a"', '"z"')`);
   await browser.put('words', 'board own1.hex mine.toml four_keys.keys');
   await browser.click('#share');
-  await browser.says('shared', /carries own1\.asm, own1\.hex, mine\.toml, four_keys\.keys/);
+  await browser.says('shared', /carries own1\.asm, own1\.hex, mine\.toml, four_keys\.keys\. The link\. This page is a file of this computer/);
   const link = await browser.evaluate('location.href');
-  assert.ok(link.startsWith(`${url}#files=`), 'the files are in the fragment');
+  assert.ok(link.startsWith(`${url}#lab=`), 'the files are in the fragment');
   await browser.go(link);
   await browser.ready();
   assert.equal(await browser.valueOf('text'), 'MOV A,#9\nloop: DEC A\nJMP loop\n');
   assert.match(await browser.evaluate('lab.files["mine.toml"]'), /"z"/);
-  for (const broken of ['AAAA', 'H4sIAAAAAAAAA', '%']) {
-    await browser.go(`${url}#files=${broken}`);
+  assert.equal(await browser.valueOf('words'), 'board own1.hex mine.toml four_keys.keys', 'the command comes too');
+  for (const [broken, why] of BROKEN_LINKS) {
+    await browser.go(`${url}#${broken}`);
     await browser.ready();
-    await browser.says('trouble', /the link is broken/);
+    await browser.says('trouble', why);
   }
   await browser.click('#trouble-gone');
-}
-
-/** Each lesson's first file fails its check, and its solution passes. */
-export async function lessons(browser, shot) {
-  await browser.only('lessons');
-  const many = await browser.evaluate('document.querySelectorAll("#lesson-list button").length');
-  for (let number = 0; number < many; number++) {
-    await browser.evaluate(`document.querySelectorAll("#lesson-list button")[${number}].click()`);
-    await browser.click('#lesson-check');
-    await browser.says('lesson-result', /^Not yet/);
-    await browser.put('lesson-file', await browser.evaluate(`lab.lessons.solutionOf(${number})`));
-    await browser.click('#lesson-check');
-    await browser.says('lesson-result', /^Done/);
-  }
-  assert.equal(await browser.evaluate('document.querySelectorAll("#lesson-list .done").length'), many);
-  await shot('lessons');
-  await browser.click('#lesson-reset');
-  await browser.click('#lesson-check');
-  await browser.says('lesson-result', /^Not yet/);
-  await browser.click('#lesson-bench');
-  assert.equal(await browser.valueOf('file'), `lesson${many}.cert`);
-  return many;
 }

@@ -1,0 +1,77 @@
+// What a trace has against the rules of a frame: eleven falls of the clock 32 cycles apart, 16 low and 16 high, and data that is
+// there before each fall. The program hears a byte if its falls are 32 cycles apart; the other rules are those of a real board.
+import { BOTH, CLOCK, DATA } from '../wires.js';
+
+const FALLS_OF_A_FRAME = 11, FALLS_APART = 32, LOW = 16, SET_UP = 2; // cycles
+const START = 0, PARITY = 9, STOP = 10; // falls
+const STAMP_ZERO = 4096;
+
+/** A time of a trace as the log has it. */
+export const stampOf = cycle => cycle - STAMP_ZERO;
+
+// The falls and rises of the clock, with the level of data, and the changes of data.
+function changesOf(edges) {
+  const falls = [], rises = [], data = [];
+  let before = BOTH;
+  for (const { cycle, levels } of edges) {
+    if (before & ~levels & CLOCK) falls.push({ cycle, data: levels & DATA ? 1 : 0 });
+    if (~before & levels & CLOCK) rises.push(cycle);
+    if ((before ^ levels) & DATA) data.push({ cycle, isHigh: (before & CLOCK) !== 0 });
+    before = levels;
+  }
+  return { falls, rises, data };
+}
+
+const fault = (cycle, rule, expected, got) => ({ cycle, rule, expected: String(expected), got: String(got) });
+
+const parityOf = byte => 1 ^ byte.reduce((sum, bit) => sum ^ bit, 0);
+
+// One frame, whose falls are given.
+function frameFault(frame, { rises, data }) {
+  for (let n = 1; n < FALLS_OF_A_FRAME; n++) {
+    if (!frame[n]) return fault(frame[n - 1].cycle, 'falls of the clock in a frame', FALLS_OF_A_FRAME, n);
+    const apart = frame[n].cycle - frame[n - 1].cycle;
+    if (apart !== FALLS_APART) return fault(frame[n - 1].cycle, 'cycles from a fall of the clock to the next', FALLS_APART, apart);
+    const low = (rises.find(cycle => cycle > frame[n - 1].cycle) ?? Infinity) - frame[n - 1].cycle;
+    if (low !== LOW) return fault(frame[n - 1].cycle, 'cycles for which the clock is low in a bit', LOW, low);
+  }
+  const last = frame.at(-1).cycle, bits = frame.map(it => it.data);
+  const late = data.find(({ cycle, isHigh }) => cycle > frame[0].cycle - SET_UP && cycle <= last &&
+    (!isHigh || frame.some(it => cycle > it.cycle - SET_UP && cycle <= it.cycle)));
+  if (late) return fault(late.cycle, 'when data changes in a frame', `the clock is high, and ${SET_UP} cycles or more before it falls`, late.isHigh ? 'as it falls' : 'the clock is low');
+  if (bits[START] !== 0) return fault(frame[0].cycle, 'the start bit', 0, 1);
+  const parity = parityOf(bits.slice(1, PARITY));
+  if (bits[PARITY] !== parity) return fault(frame[PARITY].cycle, 'the parity bit', parity, bits[PARITY]);
+  if (bits[STOP] !== 1) return fault(frame[STOP].cycle, 'the stop bit', 1, 0);
+  return null;
+}
+
+/** The first fault of a trace in which the keyboard alone begins to pull the wires: each fall of the clock is one of a frame. */
+export function calmFault({ edges }) {
+  const changes = changesOf(edges), { falls } = changes;
+  for (let n = 0; n < falls.length; n += FALLS_OF_A_FRAME) {
+    const found = frameFault(falls.slice(n, n + FALLS_OF_A_FRAME), changes);
+    if (found) return found;
+  }
+  return null;
+}
+
+/** The first fault of the frames in which a trace heard a byte of the keyboard's, whatever else passes. */
+export function heardFault({ edges, bytes }) {
+  const changes = changesOf(edges), { falls } = changes;
+  for (const { sender, end } of bytes) {
+    if (sender !== 'keyboard') continue;
+    const last = falls.findLastIndex(it => it.cycle <= end) + 1, found = frameFault(falls.slice(last - FALLS_OF_A_FRAME, last), changes);
+    if (found) return found;
+  }
+  return null;
+}
+
+/** The cycles of the first frame of a trace: those of its first fall and of its last; or null if there is none. */
+export function firstFrame({ edges }) {
+  const { falls } = changesOf(edges);
+  return falls.length >= FALLS_OF_A_FRAME ? [falls[0].cycle, falls[FALLS_OF_A_FRAME - 1].cycle] : null;
+}
+
+/** How often the clock fell. */
+export const fallsOf = ({ edges }) => changesOf(edges).falls.length;

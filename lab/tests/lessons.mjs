@@ -1,0 +1,56 @@
+// usage: node lessons.mjs LAB.html: each lesson's first file, the answer of lab/answers, other right solutions, and wrong ones,
+// judged by the proved program of the page. A wrong one must be refused for what is wrong with it.
+import assert from 'node:assert/strict';
+import { readFileSync } from 'node:fs';
+import { gunzipSync } from 'node:zlib';
+import { Program } from '../kbd48.mjs';
+import { LESSONS } from '../src/lessons.js';
+import { firstText, judged, nameOf, saidOf } from '../src/course/judged.js';
+import { SOLUTIONS } from './solutions.mjs';
+
+const html = readFileSync(process.argv[2], 'utf8'), inPage = id => new RegExp(`id="${id}">(.*?)</script>`, 's').exec(html)[1];
+const program = await Program.load(gunzipSync(Buffer.from(inPage('program-module'), 'base64')));
+const files = JSON.parse(inPage('files')), faults = JSON.parse(inPage('faults'));
+const say = (words, more) => program.run(words, more);
+const LEAST_WRONG = 6, LEAST_RIGHT = 2, HINTS = 2, SLOWEST = 20_000; // ms
+
+/** What a check says of a file, as one text; or null if it is right. */
+function check(lesson, text) {
+  const steps = judged(lesson, say, text, files);
+  let step;
+  do step = steps.next(); while (!step.done);
+  return step.value && saidOf(step.value, faults);
+}
+
+const edited = (answer, edit) => (typeof edit === 'string' ? edit : edit.reduce((text, [from, to]) => {
+  assert.ok(text.includes(from), `an edit finds ${JSON.stringify(from)}`);
+  return text.replace(from, () => to);
+}, answer));
+
+const problems = [], counts = { right: 0, wrong: 0 }, began = Date.now();
+
+/** Keeps what is wrong, so that one run of this test names all of it. */
+function must(holds, words) { if (!holds) problems.push(words); }
+
+for (const [at, lesson] of LESSONS.entries()) {
+  const number = at + 1, answer = readFileSync(new URL(`../answers/${nameOf(number)}`, import.meta.url), 'utf8');
+  const { right, wrong } = SOLUTIONS[number], from = Date.now(), named = `lesson ${number}, `;
+  const accepted = (text, words) => {
+    const said = check(lesson, text);
+    must(said === null, `${named}${words} is refused: ${said}`);
+  };
+  accepted(answer, 'the answer');
+  must(Date.now() - from < SLOWEST, `${named}the answer is judged in ${Date.now() - from} ms`);
+  must(check(lesson, firstText(lesson, files)), `${named}the first file is accepted`);
+  must(right.length >= LEAST_RIGHT && wrong.length >= LEAST_WRONG, `${named}there are few solutions`);
+  must(lesson.hints.length === HINTS, `${named}there are ${lesson.hints.length} hints`);
+  for (const [n, edit] of right.entries()) accepted(edited(answer, edit), `right solution ${n + 1}`);
+  for (const [n, { edit, says }] of wrong.entries()) {
+    const said = check(lesson, edited(answer, edit));
+    must(said && says.test(said), `${named}wrong solution ${n + 1}: ${said ?? 'it is accepted'}`);
+  }
+  counts.right += right.length + 1;
+  counts.wrong += wrong.length + 1;
+}
+assert.deepEqual(problems, []);
+console.log(`${LESSONS.length} lessons: ${counts.right} right solutions accepted and ${counts.wrong} wrong ones refused, in ${((Date.now() - began) / 1000).toFixed(1)} s`);

@@ -1,0 +1,160 @@
+// Solutions of the lessons, as edits of the answers in lab/answers: `right` ones, which are written in another way, and `wrong` ones,
+// each with a form of what the check says first. An edit is a list of replacements, or a whole text.
+
+const NOP = '        NOP\n';
+const LOOK = 'more:   JNT0 freed              ; the controller pulls it: the byte is broken off\n', NO_LOOK = `more:   NOP\n${NOP}`;
+const WAIT = 'send:   JNT0 send               ; the controller holds the clock\n        JNT1 send\n';
+const LOW_NOPS = NOP.repeat(8), PARITY = 'CPL A                   ; 1 where the ones are even in number', STOP = 'ORL A,#2 ';
+
+/** Wrong in each program of four keys, whatever the lesson is about. */
+const ALWAYS_WRONG = [
+  { edit: [[LOW_NOPS, '']], says: /cycles from a fall of the clock to the next.*32.*24/s },
+  { edit: [[LOOK, NO_LOOK]], says: /the PC writes to its keyboard controller/ },
+  { edit: [[WAIT, 'send:   JNT0 send\n']], says: /after the PC has asked|INT 09h is masked/ },
+  { edit: [['        XCH A,R7 ', '        MOV R7,A\n        CLR A ']], says: /what the PC reads/ },
+];
+
+export const SOLUTIONS = {
+  1: {
+    right: [
+      [['DB 29H', 'DB 00101001B']],
+      [['bytes:  DB 29H,32H', 'bytes:  DB 41\n        DB 32H']],
+      [['        MOV R7,#0\n        CLR A\n', '        CLR A\n        MOV R7,A\n']],
+    ],
+    wrong: [
+      ...ALWAYS_WRONG,
+      { edit: [['DB 29H', 'DB 39H']], says: /bytes on the wires: expected 29, got 39/ },
+      { edit: [['DB 29H', 'DB 1CH']], says: /port 39.*port 1E/s },
+      { edit: [['DB 29H,32H,21H,23H', 'DB 29H,29H,29H,29H']], says: /key b/ },
+      { edit: [['DB 29H,32H,21H,23H', 'DB 29H']], says: /key b/ },
+      { edit: [['DB 29H,32H', 'DB 29H,1CH']], says: /key b/ },
+      { edit: [['ANL A,#0FH', 'ANL A,#1']], says: /key b/ },
+      { edit: [[PARITY, 'NOP ']], says: /the parity bit/ },
+      { edit: [['other:  INC R6', 'other:  NOP']], says: /key b/ },
+    ],
+  },
+  2: {
+    right: [
+      [['ANL A,#1FH', 'ANL A,#31']],
+      [['DB 1CH,32H,21H,23H,24H', 'DB 1CH,32H\n        DB 21H,23H\n        DB 36']],
+      [['CPL A                   ; a key', 'ORL A,#0E0H\n        CPL A                   ; a key'], ['ANL A,#1FH', 'NOP']],
+    ],
+    wrong: [
+      ...ALWAYS_WRONG,
+      { edit: [['ANL A,#1FH', 'ANL A,#11H'], ['DB 1CH,32H,21H,23H,24H', 'DB 1CH,32H,24H,24H,24H']], says: /key b/ },
+      { edit: [['ANL A,#1FH', 'ANL A,#0FH']], says: /key e/ },
+      { edit: [['ANL A,#1FH', 'ANL A,#17H']], says: /key d/ },
+      { edit: [['23H,24H', '23H']], says: /key e/ },
+      { edit: [['23H,24H', '24H,23H']], says: /key d/ },
+      { edit: [['23H,24H', '23H,2CH']], says: /key e/ },
+      { edit: [['ANL A,#1FH', 'ANL A,#10H'], ['DB 1CH,32H,21H,23H', 'DB 24H,24H,24H,24H']], says: /key a/ },
+      { edit: [['        MOV R5,A                ; what', '        JB4 five\n        JMP five + 1 ; what']], says: /line/ },
+    ],
+  },
+  3: {
+    right: [
+      [[LOW_NOPS, `        MOV R1,#3\nlate:   DJNZ R1,late\n`]],
+      [[LOW_NOPS, '        JMP on1\non1:    JMP on2\non2:    JMP on3\non3:    JMP on4\n'], ['        ORL P2,#1 ', 'on4:    ORL P2,#1 ']],
+      [[LOW_NOPS, `        CALL rest\n${NOP}${NOP}        JMP rise\nrest:   RET\n`], ['        ORL P2,#1 ', 'rise:   ORL P2,#1 ']],
+    ],
+    wrong: [
+      ...ALWAYS_WRONG,
+      { edit: [[LOW_NOPS, NOP.repeat(4)], ['        JMP cell\n', `${NOP.repeat(4)}        JMP cell\n`]], says: /clock is low in a bit.*16.*12/s },
+      { edit: [[LOW_NOPS, NOP.repeat(7)]], says: /32.*31/s },
+      { edit: [[LOW_NOPS, NOP.repeat(9)]], says: /32.*33/s },
+      { edit: [[LOW_NOPS, NOP.repeat(12)]], says: /32.*36/s },
+      { edit: [[LOW_NOPS, NOP.repeat(9)], ['fall:   NOP\n        NOP\n', 'fall:   NOP\n']], says: /clock is low in a bit.*16.*17/s },
+      { edit: [['high:   ORL P2,#2\n        NOP\n        NOP\n', 'high:   ORL P2,#2\n']], says: /32.*30/s },
+      { edit: [['fall:   NOP\n        NOP\n        ANL P2,#0FEH ', `        ANL P2,#0FEH\n        JMP fell\nfall:   NOP\n        NOP\n        ANL P2,#0FEH\nfell:   NOP `]], says: /\d/ },
+    ],
+  },
+  4: {
+    right: ['12 1c f0 1c f0 12', '  12\n1C F0 1C\nF0 12\n', '59 1C F0 1C F0 59\n'],
+    wrong: [
+      { edit: '1C F0 1C\n', says: /port 2A/ },
+      { edit: '12 1C F0 12 F0 1C\n', says: /port 9E.*port AA/s },
+      { edit: '12 1C 1C F0 1C F0 12\n', says: /port 9E.*port 1E/s },
+      { edit: '12 1C F0 1C\n', says: /port AA/ },
+      { edit: '12 F0 12 1C F0 1C\n', says: /what the PC reads/ },
+      { edit: '12 1C F0 1C F0 59\n', says: /port AA/ },
+      { edit: '58 F0 58 1C F0 1C\n', says: /port 2A/ },
+      { edit: '2A 1E 9E AA\n', says: /what the PC reads/ },
+      { edit: '', says: /no command/ },
+      { edit: '12 1C F0 1C F0 12 nothing', says: /no command/ },
+    ],
+  },
+  5: {
+    right: [
+      [[LOOK, 'more:   JNT0 off\n'], ['freed:  ORL', 'off:    JMP freed\nfreed:  ORL']],
+      [[LOOK, `more:   NOP\n${NOP}        JT0 cell\n        JMP freed\n`], ['        JMP cell\nfreed', 'freed']],
+    ],
+    wrong: [
+      ...ALWAYS_WRONG.filter(it => it.edit[0][0] !== LOOK),
+      { edit: [[LOOK, NO_LOOK]], says: /the PC writes to its keyboard controller/ },
+      { edit: [[LOOK, NO_LOOK], ['        MOV A,R0                ; parity', '        MOV R1,#100\nlate:   DJNZ R1,late\n        MOV A,R0                ; parity']], says: /the PC writes/ },
+      { edit: [[LOOK, NO_LOOK], ['        MOV A,R0                ; parity', '        MOV R1,#200\nlate:   DJNZ R1,late\n        MOV R1,#200\nlater:  DJNZ R1,later\n        MOV A,R0                ; parity']], says: /the PC writes/ },
+      { edit: [[LOOK, `${LOOK}${NOP}`]], says: /32.*33/s },
+      { edit: [[LOOK, `${LOOK}${NOP.repeat(5)}`]], says: /32.*37/s },
+      { edit: [[LOOK, 'more:   JT0 freed\n']], says: /\d/ },
+      { edit: [[LOOK, 'more:   JNT1 freed\n']], says: /\d/ },
+      { edit: [[LOOK, 'more:   JNT0 other\n']], says: /the PC writes/ },
+      { edit: [[LOOK, NO_LOOK], ['        MOV R4,#11\n', '        MOV R4,#11\n        JNT0 freed\n']], says: /the PC writes/ },
+      { edit: [['        JNZ send ', '        NOP\n        NOP ']], says: /the PC writes/ },
+    ],
+  },
+  6: {
+    right: [
+      [[PARITY, 'XRL A,#1 ']],
+      [[PARITY, 'INC A ']],
+    ],
+    wrong: [
+      ...ALWAYS_WRONG,
+      { edit: [[PARITY, 'NOP ']], says: /the parity bit/ },
+      { edit: [[PARITY, 'CLR A ']], says: /parity bit/ },
+      { edit: [[PARITY, 'MOV A,#1 ']], says: /parity bit/ },
+      { edit: [[PARITY, 'NOP '], ['DB 1CH', 'DB 1DH']], says: /\d/ },
+      { edit: [[PARITY, 'CPL A\n        CPL A ']], says: /parity bit/ },
+      { edit: [[STOP, 'ORL A,#0 ']], says: /stop bit/ },
+      { edit: [['        CLR C                   ; the start', '        CLR C\n        CPL C                   ; the start']], says: /start bit/ },
+      { edit: [['        RR A\n        XRL A,R3\n        CPL A', '        XRL A,R3\n        CPL A']], says: /parity bit/ },
+    ],
+  },
+  7: {
+    right: [
+      [['        MOV @R0,#0\n', '        CLR A\n        MOV @R0,A\n']],
+      [['        MOV R0,#20H\n        MOV @R0,#0\n', '        MOV R1,#20H\n        MOV @R1,#0\n        MOV R0,#20H\n']],
+      [['        MOV R0,#20H\n        MOV @R0,#0\n', '        MOV R0,#7FH\nclear:  MOV @R0,#0\n        DJNZ R0,clear\n        MOV R0,#20H\n']],
+    ],
+    wrong: [
+      { edit: [['        MOV @R0,#0\n', '']], says: /before anything has written it/ },
+      { edit: [['        MOV @R0,#0\n', '        MOV A,#0\n']], says: /before anything|never reads/ },
+      { edit: [['        MOV @R0,#0\n        MOV A,@R0\n', '        MOV A,#0\n']], says: /it never reads the cell/ },
+      { edit: [['        MOV @R0,#0\n        MOV A,@R0\n', '        MOV @R0,#0\n        CLR A\n']], says: /it never reads the cell/ },
+      { edit: [['        MOV @R0,#0\n        MOV A,@R0\n', '        MOV A,@R0\n        MOV @R0,#0\n']], says: /before anything|lights/ },
+      { edit: [['MOV @R0,#0', 'MOV @R0,#1']], says: /lights 2.*lights 1/s },
+      { edit: [['        MOV @R0,#0\n', '        MOV R0,#0\n']], says: /never reads|lights/ },
+      { edit: [['        MOV @R0,#0\n', '        MOV @R0,#0\n        MOV R0,#21H\n']], says: /never reads|lights/ },
+      { edit: [['        MOV @R0,#0\n', '        MOV @R0,#0\n'], ['num:    ANL P2,#0DFH', 'num:    ANL P2,#0BFH']], says: /lights 2.*lights 4/s },
+      { edit: [['        JZ num\n', '        MOV @R0,#0\n        JZ num\n'], ['        MOV @R0,#0\n        MOV A,@R0', '        MOV A,@R0']], says: /before anything|lights/ },
+    ],
+  },
+  8: {
+    right: [
+      [['01D 398', '01D 399']],
+      [['01D 398', '01D 400']],
+      [['01D 398\n01E 397\n', '01D 400\n01E 398\n']],
+    ],
+    wrong: [
+      { edit: [['01D 398', '01D 397']], says: /line 2/ },
+      { edit: [['01D 398\n', '']], says: /the bound of place 01D.*no line/s },
+      { edit: [['01D 398', '01D 401']], says: /at most 400.*401/s },
+      { edit: [['01D 398', '01D 9000']], says: /at most 400.*9000/s },
+      { edit: 'target 057\n051 2\n', says: /line|no line for this place/ },
+      { edit: 'target 01E\n01D 1\n', says: /the target.*057.*01E/s },
+      { edit: [['01E 397\n', '']], says: /line 2/ },
+      { edit: [['target 057', 'target 058']], says: /line/ },
+      { edit: '', says: /line|certificate/ },
+      { edit: [['04F 0 32 4', '04F 0 31 4']], says: /line/ },
+    ],
+  },
+};
