@@ -1,5 +1,6 @@
 // Board files of other tools, opened beside the keyboard: they become a layout, or what is wrong is said, with the ways on.
 import { fromKle, isKeymapText } from './boards/from_kle.js';
+import { Refused } from './boards/refused.js';
 import { byId, make, tell } from './dom.js';
 import { files, put } from './files.js';
 
@@ -28,6 +29,14 @@ export async function textOfFile(file) {
   } catch {
     throw new Error(`${name} is no UTF-8 text`);
   }
+}
+
+/** What from_kle answers of words over these files. */
+export function answerOfBoards(words, all = files) {
+  return fromKle(words, name => {
+    if (name in all) return all[name];
+    throw new Refused('there is no such file');
+  });
 }
 
 /** The name of the layout that is made of a board. */
@@ -75,7 +84,7 @@ export class BoardOpener {
   }
 
   #try(options) {
-    const words = [...options, ...[this.board, this.keymap].filter(Boolean)], said = fromKle(words, files);
+    const words = [...options, ...[this.board, this.keymap].filter(Boolean)], said = answerOfBoards(words);
     const ways = WAYS.flatMap(([form, ways]) => said.told.map(line => form.exec(line)).filter(Boolean).slice(0, 1).flatMap(ways))
       .filter(([more]) => !options.includes(more.at(-1)))
       .map(([more, text]) => [text, () => this.#try([...options, ...more])]);

@@ -1,6 +1,6 @@
 // Files, and what the program makes of them.
-import { keepLayout, layoutNameOf, textOfFile } from './board_opener.js';
-import { fromKle, isKeymapText } from './boards/from_kle.js';
+import { answerOfBoards, keepLayout, layoutNameOf, textOfFile } from './board_opener.js';
+import { isKeymapText } from './boards/from_kle.js';
 import { byId, fill, make, save, tell } from './dom.js';
 import { edited, files, onFile, put } from './files.js';
 import { EXIT, explained, kbd48 } from './program.js';
@@ -106,7 +106,7 @@ export class WorkbenchPane {
 
   // A layout of a board file, with what is told of it beside it.
   #fromKle(words) {
-    const said = fromKle(words.slice(1), files);
+    const said = answerOfBoards(words.slice(1));
     byId('answer').textContent = said.text || said.told.join('\n');
     byId('other').hidden = said.status !== 0 || !said.told.length;
     byId('other').textContent = said.told.join('\n');

@@ -1,5 +1,5 @@
-// The command from_kle, which makes a layout of a board that another tool describes, over files of the page: the rules and
-// words of examples/from_kle, with its tables.
+// The command from_kle, which makes a layout of a board that another tool describes: for the page, and in Node for the script
+// examples/from_kle, whose head comment is the help.
 import { judgeDoubles } from './doubles.js';
 import { boardOfEditor, boardOfVia } from './editor_rows.js';
 import { readJson } from './json_text.js';
@@ -15,6 +15,8 @@ import { wiringOf } from './wiring.js';
 
 const STATUS = { done: 0, words: 2, refused: 3 };
 const WITHOUT_WORDS = ['unknown', 'doubles'];
+const FORM = '[--layout NAME] [--option N,M] [--diodes COL2ROW | ROW2COL] [--layer NAME=N] [--without KEY] [--any-keyboard] '
+  + '[--count] [--table | --wiring] FILE [KEYMAP]; --help says more';
 const IN_C = /^\s*#\s*include|\bPROGMEM\b|\bLAYOUT\w*\(/m;
 
 // The words haven't the form.
@@ -30,7 +32,7 @@ function choicesOf(words) {
     else if (word === '--any-keyboard') choices.anyKeyboard = true;
     else if (['--table', '--wiring'].includes(word) && choices.prints === 'layout') choices.prints = word.slice(2);
     else if (['--layout', '--option', '--diodes', '--layer', '--without'].includes(word)) choose(choices, word, left.shift() ?? '');
-    else if (word.startsWith('-')) throw new WrongWords();
+    else if (word.startsWith('-') && word !== '-') throw new WrongWords();
     else names.push(word);
   }
   if (names.length < 1 || names.length > 2) throw new WrongWords();
@@ -48,10 +50,9 @@ function choose(choices, option, value) {
 }
 
 /** What a file's JSON says, and what is told of it, with the file's name. */
-function loaded(files, name) {
+function loaded(textOf, name) {
   try {
-    if (!(name in files)) throw new Refused('No such file or directory');
-    const text = files[name].replace(/^\uFEFF/, '').replace(/\r\n?/g, '\n');
+    const text = textOf(name).replace(/^\uFEFF/, '').replace(/\r\n?/g, '\n');
     if (/\.[ch]$/.test(name) || (IN_C.test(text) && !/^\s*[{[]/.test(text))) {
       throw new Refused(`it is a keymap in C; \`qmk c2json -kb KEYBOARD -km KEYMAP ${name}\` makes JSON of it, which can be read`);
     }
@@ -123,8 +124,8 @@ function ofLeftOut(without, roles) {
 const baseOf = name => name.slice(name.lastIndexOf('/') + 1);
 
 /** What is printed of the files with these names, what is told beside it, and where the key of each place is drawn. */
-function madeOf(choices, names, files) {
-  const first = loaded(files, names[0]), second = names.length > 1 ? loaded(files, names[1]) : null;
+function madeOf(choices, names, textOf) {
+  const first = loaded(textOf, names[0]), second = names.length > 1 ? loaded(textOf, names[1]) : null;
   const keymap = second && keymapOf(second.data), ofFile = [...first.told, ...second?.told ?? []];
   const board = boardOf(first.data, choices, keymap?.layout ?? null);
   judgeLeftOut(board.keys, choices.without);
@@ -143,16 +144,17 @@ function madeOf(choices, names, files) {
   return { text: layoutText(entries, heading), told: [...all, ...ofNames, ...wired.asks, ...wired.anew ? lines : []], shapes };
 }
 
-/** The exit status, what is printed, what is told beside it; and of a layout, where each of its keys is drawn. */
-export function fromKle(words, files) {
+/** The exit status, what is printed, what is told beside it; and of a layout, where each of its keys is drawn. `textOf` gives the
+    text of a file by its name, or throws why it can't. */
+export function fromKle(words, textOf) {
   if (words.length === 1 && ['--help', '-h'].includes(words[0])) return { status: STATUS.done, text: TABLES.help, told: [] };
   let names = [];
   try {
     const found = choicesOf(words);
     ({ names } = found);
-    return { status: STATUS.done, ...madeOf(found.choices, names, files) };
+    return { status: STATUS.done, ...madeOf(found.choices, names, textOf) };
   } catch (fault) {
-    if (fault instanceof WrongWords) return { status: STATUS.words, text: '', told: [`the words are ${TABLES.form}`] };
+    if (fault instanceof WrongWords) return { status: STATUS.words, text: '', told: [`the words are ${FORM}`] };
     const why = fault instanceof Refused ? fault.message : "it hasn't the form of a board's description";
     return { status: STATUS.refused, text: '', told: [`${fault.file || names.join(' ')}: ${why}`] };
   }

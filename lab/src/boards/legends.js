@@ -2,21 +2,30 @@
 import { COUNTRIES, countryOf } from './countries.js';
 import { longestWord } from './legend_words.js';
 import { Refused, charactersOf, isAlnum, isLeftOut, piecesOf } from './refused.js';
-import { TABLES } from './tables.js';
+import { TABLES, wordsIn } from './tables.js';
 
-const { keypad: KEYPAD, front: FRONT, at_once: AT_ONCE, num_off: NUM_OFF, star: STAR } = TABLES.legends;
-const { arrows: ARROWS, with_arrows: WITH_ARROWS } = TABLES.words;
+// The keypad's keys by the character on them; "" if the 84 don't have it.
+const KEYPAD = TABLES.words.keypad;
+const FRONT = [4, 5, 11]; // the editor's numbers of the legends on a key's front
+const AT_ONCE = 6; // keys that a refusal names
+const NUM_OFF = 'means this while Num Lock is off', STAR_LEGEND = 'types * without Shift, and prints the screen with it';
+// Signs that mean nothing beside the words of some keys: the arrow of Backspace, Tab, Enter, Shift or a lock.
+const ARROWS = charactersOf(TABLES.words.arrows), WITH_ARROWS = wordsIn(TABLES.words.with_arrows);
+
+const LAST_CHARACTER = 0x10FFFF;
 
 // Why the legends of a key can't be read.
 class Unclear extends Error {}
 
-const plainText = document.createElement('textarea');
+const ENTITIES = new Map(Object.entries(TABLES.entities.names).flatMap(([character, names]) => wordsIn(names).map(name => [name, character])));
 
-/** A text whose character references are characters. */
+/** A text whose character references are characters; an unknown one stays. */
 function unescaped(text) {
-  if (!text.includes('&')) return text;
-  plainText.innerHTML = text.replaceAll('<', '&lt;');
-  return plainText.value;
+  return text.replace(/&(?:#(\d{1,7})|#x([\da-f]{1,6})|([a-z]\w*));?/gi, (reference, decimal, hexadecimal, name) => {
+    if (name) return ENTITIES.get(name) ?? reference;
+    const code = decimal ? Number(decimal) : Number.parseInt(hexadecimal, 16);
+    return code > 0 && code <= LAST_CHARACTER ? String.fromCodePoint(code) : '\uFFFD';
+  });
 }
 
 /** A legend as it is seen: without HTML; of an icon its name. */
@@ -156,7 +165,7 @@ class Legends {
     if (key.width >= 1.5 && name === 'kpdot' && !this.hasBackspace) return wideBackspace;
     if (signOf(said) && key.width >= 1.5 && words[0].isMove) return this.#ofWideArrow(key, name, signOf(said));
     if (words[0].isMove) return { name, note: NUM_OFF };
-    if (name === 'prtsc') return { name, note: STAR };
+    if (name === 'prtsc') return { name, note: STAR_LEGEND };
     return { name, note: name === 'caps' && words[0].text.toLowerCase().includes('shift') ? 'is taken as Caps Lock' : '' };
   }
 

@@ -8,6 +8,15 @@ export class Refused extends Error {
   }
 }
 
+/** The text of a file's bytes, without a byte order mark. */
+export function textOfBytes(bytes) {
+  try {
+    return new TextDecoder('utf-8', { fatal: true }).decode(bytes);
+  } catch {
+    throw new Refused('it is no UTF-8 text');
+  }
+}
+
 /** A value that hasn't the form of what is read here. */
 export class Shapeless extends Error {}
 

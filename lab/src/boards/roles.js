@@ -1,9 +1,10 @@
 // From two layers of codes to what each key sends, with Fn and without it.
 import { meaningOf } from './key_codes.js';
 import { Refused, isLeftOut, leastOf } from './refused.js';
-import { TABLES } from './tables.js';
 
-const { needed, letters } = TABLES.layers;
+// What a board can't be without, in the order in which it is told. A board with fewer letters is a pad, of which nothing is
+// expected.
+const needed = [...'abcdefghijklmnopqrstuvwxyz', 'space', 'enter', 'esc', 'shift', 'ctrl', 'alt'], letters = 13;
 
 /** What a key does: the key whose code it sends, the one whose code it sends under Fn if that is another, or it is Fn itself;
     what the file has for it, without Fn and under it; and what is told of it. */

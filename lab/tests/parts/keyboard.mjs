@@ -145,7 +145,7 @@ export async function everyBoard(browser, answers) {
   const cases = JSON.parse(readFileSync(answers, 'utf8'));
   await browser.evaluate(`globalThis.cases = ${JSON.stringify(cases)}; 0`);
   const others = await browser.evaluate(`cases.filter(({ words, files, status, text, told }) => {
-    const said = lab.fromKle(words, files);
+    const said = lab.answerOfBoards(words, files);
     return said.status !== status || said.text !== text || JSON.stringify(said.told) !== JSON.stringify(told);
   }).map(({ words }) => words.join(' '))`);
   assert.deepEqual(others, [], 'from_kle answers otherwise');
