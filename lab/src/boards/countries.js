@@ -7,19 +7,23 @@ const KEY_PLACES = wordsIn(TABLES.countries.places), LETTER_ROW = 'qwertyuiop', 
 // many keys with signs, and they are all of that country.
 const FEW_KEYS = 3, MANY_KEYS = 6;
 
+export const COUNTRIES = [];
+
 class Country {
-  constructor({ name, rows, letters = '', others = '><' }) {
+  constructor({ name, rows, letters = '', others = '><', also = null }) {
     const keys = wordsIn(rows).map((pair, at) => [KEY_PLACES[at], pair]).filter(([, pair]) => pair !== NO_PAIR);
     const own = wordsIn(letters).map(word => [charactersOf(word)[0], charactersOf(word).slice(1).join('')]);
     Object.assign(this, {
-      name, keys, letters: new Map([...charactersOf(ALPHABET).map(letter => [letter, letter]), ...own]),
+      name, keys, also: COUNTRIES.find(country => country.name === also) ?? null, letters: new Map([...charactersOf(ALPHABET).map(letter => [letter, letter]), ...own]),
       pairs: [...keys, ...wordsIn(others).map(pair => ['', pair])],
     });
   }
 
   /** The key with these one or two legends, "" if the 84 haven't it, or null if no key of the country has them. One character
       alone is what its key types without Shift. */
-  keyOf(characters) {
+  keyOf(characters) { return this.#own(characters) ?? this.also?.keyOf(characters) ?? null; }
+
+  #own(characters) {
     const [first, second] = characters, [letter, other] = characters.map(it => this.letter(it)), alone = characters.length === 1;
     if (letter !== null && (alone || other === null || other === letter)) return letter;
     if (alone) {
@@ -39,11 +43,14 @@ class Country {
   /** The key of a letter, in either case, or null. */
   letter(character) { return this.letters.get(character) ?? this.letters.get(character.toLowerCase()) ?? null; }
 
-  /** Whether a key types this character with Shift. */
-  shifts(character) { return this.keys.some(([, pair]) => charactersOf(pair).length === 2 && charactersOf(pair)[0] === character); }
+  /** The key that types this character alone, "" if the 84 don't have it; or null. */
+  types(character) { return this.letter(character) ?? this.#found(pair => charactersOf(pair).at(-1) === character); }
+
+  /** The key that types this character with Shift, or undefined. */
+  shifts(character) { return this.keys.find(([, pair]) => charactersOf(pair).length === 2 && charactersOf(pair)[0] === character)?.[0]; }
 }
 
-export const COUNTRIES = TABLES.countries.countries.map(country => new Country(country));
+for (const country of TABLES.countries.countries) COUNTRIES.push(new Country(country));
 
 /** Whether the upper row of letters comes in the order in which this country has it. */
 function isInOrder(country, said) {

@@ -1,5 +1,6 @@
 // What QMK's key codes, which are VIA's too, mean on a keyboard whose keys each send one code, with one Fn key. A meaning
 // has a `kind`: sends, momentary (it selects a layer while it is held), nothing, below (what the layer below sends), unsaid.
+import { COUNTRIES } from './countries.js';
 import { charactersOf } from './refused.js';
 import { TABLES, namesByWord, wordsIn } from './tables.js';
 
@@ -47,7 +48,26 @@ function plainMeaning(code) {
   const word = code.startsWith('KC_') ? code.slice(3) : '';
   if (shifted.includes(word)) return unsaid(CHORD);
   if (iso.includes(word)) return unsaid('since the key between Shift and Z is none of the 84');
-  return codes.has(word) ? sends(...codes.get(word)) : unsaid(STRANGE);
+  return codes.has(word) ? sends(...codes.get(word)) : ofCountry(code) ?? unsaid(STRANGE);
+}
+
+/** The country of a code of QMK's files of countries, or undefined. */
+export function countryOfCode(code) {
+  const [, prefix] = /\b([A-Z]{2})_\w+/.exec(code) ?? [], name = TABLES.country_codes.prefixes[prefix];
+  return COUNTRIES.find(country => country.name === name);
+}
+
+/** What a code of a country means, or null if it is none. */
+function ofCountry(code) {
+  const country = countryOfCode(code), name = code.slice(3), { characters } = TABLES.country_codes;
+  if (!country) return null;
+  const named = name.length === 1 ? name : Object.hasOwn(characters, name) ? characters[name] : '';
+  for (const character of named) {
+    const key = country.types(character);
+    if (key !== null) return key ? sends(key) : unsaid(STRANGE);
+    if (country.shifts(character)) return unsaid(CHORD);
+  }
+  return null;
 }
 
 /** What a code does when it is tapped, if that is all that a key can keep of it. */
@@ -61,7 +81,8 @@ function tapped(code, lost) {
 function heldLayer(name, words) {
   if (!['MO', 'LT', 'TT', 'OSL'].includes(name) || !/^\d+$/.test(words[0]) || words.length !== (name === 'LT' ? 2 : 1)) return null;
   const layer = Number(words[0]);
-  if (layer === 0) return unsaid('since it selects layer 0');
+  // A key that selects layer 0 while it is held only has its tap.
+  if (layer === 0) return name === 'LT' ? tapped(words[1], 'what it does when it is held is lost') : unsaid('since it selects layer 0');
   if (name !== 'LT') return momentary(layer, name === 'MO' ? '' : 'what it does when it is tapped is lost');
   const tap = meaningOf(words[1]);
   return momentary(layer, 'its tap is lost', tap.kind === 'sends' ? tap : null);

@@ -1,4 +1,5 @@
 // The words and signs on keys, by the key that each is of.
+import { nearest } from './nearest.js';
 import { charactersOf, isAlnum } from './refused.js';
 import { TABLES, namesByWord, wordsIn } from './tables.js';
 
@@ -30,7 +31,16 @@ export function longestWord(pieces) {
     const text = pieces.slice(0, count).map(plainForm).join('');
     // A piece of one letter or digit is a character, and no abbreviation.
     if (!VOCABULARY.has(text) || (count === 1 && /^\w$/.test(pieces[0]))) continue;
-    return { word: { text: pieces.slice(0, count).join(' '), ...VOCABULARY.get(text) }, count };
+    return { word: { text: pieces.slice(0, count).join(' '), plain: text, ...VOCABULARY.get(text) }, count };
   }
   return null;
+}
+
+const SHORTEST = 4; // letters of a word whose likely meaning can be said
+
+/** The key that an unknown word is likely to mean, by a word that is like it; or null. */
+export function likelyKey(word) {
+  const plain = plainForm(word), words = [...VOCABULARY.keys()].filter(it => it.length >= SHORTEST && VOCABULARY.get(it).key);
+  const key = plain.length >= SHORTEST ? VOCABULARY.get(nearest(plain, words))?.key : null;
+  return key === 'shift' ? 'lshift' : key ?? null;
 }
