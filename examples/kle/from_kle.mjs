@@ -2,7 +2,8 @@
 import { readFileSync } from 'node:fs';
 import './tables.mjs';
 import { fromKle } from '../../lab/src/boards/from_kle.js';
-import { Refused, textOfBytes } from '../../lab/src/boards/refused.js';
+import { textOfBytes } from '../../lab/src/boards/file_kinds.js';
+import { Refused } from '../../lab/src/boards/refused.js';
 
 const NO_ANSWER = 1, STANDARD_INPUT = 0;
 const UNREADABLE = { ENOENT: 'there is no such file', EISDIR: 'it is a folder', EACCES: "it can't be read: permission is denied" };
@@ -15,7 +16,7 @@ function textOf(name) {
   } catch (error) {
     throw new Refused(UNREADABLE[error.code] ?? `it can't be read: ${error.code}`);
   }
-  return textOfBytes(bytes);
+  return textOfBytes(bytes, name);
 }
 
 // Who reads may go before the end; then so does the script, without a word.

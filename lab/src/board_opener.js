@@ -1,4 +1,5 @@
 // Board files of other tools, opened beside the keyboard: they become a layout, or what is wrong is said, with the ways on.
+import { textOfBytes } from './boards/file_kinds.js';
 import { fromKle, isKeymapText } from './boards/from_kle.js';
 import { Refused } from './boards/refused.js';
 import { TABLES } from './boards/tables.js';
@@ -38,11 +39,11 @@ const LARGEST = 4 << 20;
 export async function textOfFile(file) {
   const name = file.name.replace(/[^\w.-]/g, '_');
   if (file.size > LARGEST) throw new Error(`${name} is longer than any file that the program reads`);
-  const bytes = await file.arrayBuffer();
+  const bytes = new Uint8Array(await file.arrayBuffer());
   try {
-    return { name, text: new TextDecoder('utf-8', { fatal: true }).decode(bytes) };
-  } catch {
-    throw new Error(`${name} is no UTF-8 text`);
+    return { name, text: textOfBytes(bytes, name) };
+  } catch (fault) {
+    throw new Error(`${name}: ${fault.message}`);
   }
 }
 

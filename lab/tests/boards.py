@@ -26,12 +26,15 @@ def script(path: Path):
 
 
 def stored() -> list[tuple[list[str], dict[str, str]]]:
-    """The words and the files of each stored case."""
+    """The words and the files of each stored case. The page takes no file that is no text."""
     found = []
     for line in (BOARDS / "cases").read_text(encoding="ascii").splitlines():
         if line and not line.startswith("#"):
             words = line.split()[2:]
-            found.append((words, {word: (BOARDS / word).read_bytes().decode("utf-8") for word in words if (BOARDS / word).is_file()}))
+            try:
+                found.append((words, {word: (BOARDS / word).read_bytes().decode("utf-8") for word in words if (BOARDS / word).is_file()}))
+            except UnicodeDecodeError:
+                continue
     return found
 
 

@@ -1,4 +1,5 @@
 // The words of from_kle: what the options choose, and the files' names. Of wrong words it is said which is wrong.
+import { likelyKey } from './legend_words.js';
 import { nearest } from './nearest.js';
 import { DIODES } from './qmk_board.js';
 import { pairOf } from './refused.js';
@@ -15,7 +16,7 @@ function takeKey(choices, value) {
   const [, number, name] = KEY_IS.exec(value) ?? [];
   if (!number) return false;
   if (!TABLES.keys.includes(name)) {
-    const meant = nearest(name, TABLES.keys);
+    const meant = likelyKey(name) ?? nearest(name, TABLES.keys);
     throw new WrongWords(`--key ${value}: there is no key ${name}; ${meant ? `did you mean --key ${number}=${meant}?` : `the keys are ${TABLES.keys.join(' ')}`}`);
   }
   choices.keys.set(number, name);

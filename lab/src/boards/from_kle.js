@@ -3,6 +3,7 @@
 import { attention } from './attention.js';
 import { WrongWords, choicesOf, judgeNamedKeys } from './choices.js';
 import { judgeDoubles } from './doubles.js';
+import { kindOfText } from './file_kinds.js';
 import { boardOfEditor, boardOfVia } from './editor_rows.js';
 import { readJson } from './json_text.js';
 import { codesOf, isKeymap, isOfVial, judgeBoard, keymapOf } from './keymap_files.js';
@@ -26,6 +27,9 @@ function loaded(textOf, name) {
     if (/\.[ch]$/.test(name) || (IN_C.test(text) && !/^\s*[{[]/.test(text))) {
       throw new Refused(`it is a keymap in C; \`qmk c2json -kb KEYBOARD -km KEYMAP ${name}\` makes JSON of it, which can be read`);
     }
+    if (!text.trim()) throw new Refused('it is empty');
+    const kind = kindOfText(text, name);
+    if (kind && !/^\s*[{["]/.test(text)) throw new Refused(kind);
     const { data, told } = readJson(text);
     return { data, told: told.map(line => `${name}: ${line}`) };
   } catch (fault) {
@@ -96,6 +100,7 @@ const baseOf = name => name.slice(name.lastIndexOf('/') + 1);
 /** What is printed of the files with these names, what is told beside it, and where the key of each place is drawn. */
 function madeOf(choices, names, textOf) {
   const first = loaded(textOf, names[0]), second = names.length > 1 ? loaded(textOf, names[1]) : null;
+  if (second && isKeymap(first.data) && !isKeymap(second.data)) throw new Refused(`the board comes before its keymap: from_kle ${names[1]} ${names[0]}`);
   const keymap = second && keymapOf(second.data), ofFile = [...first.told, ...second?.told ?? []];
   const board = boardOf(first.data, choices, keymap?.layout ?? null);
   judgeNamedKeys(board.keys, choices, why => { throw new Refused(why); });
@@ -124,7 +129,7 @@ export function fromKle(words, textOf) {
     ({ names } = found);
     return { status: STATUS.done, ...madeOf(found.choices, names, textOf) };
   } catch (fault) {
-    if (fault instanceof WrongWords) return { status: STATUS.words, text: '', told: [`${fault.message}; the words are [OPTION ..] FILE [KEYMAP], and --help says more`] };
+    if (fault instanceof WrongWords) return { status: STATUS.words, text: '', told: [fault.message, 'the words are [OPTION ..] FILE [KEYMAP], and --help says more'] };
     const why = fault instanceof Refused ? fault.message : "it hasn't the form of a board's description";
     return { status: STATUS.refused, text: '', told: [`${fault.file || names.join(' ')}: ${why}`] };
   }

@@ -41,6 +41,6 @@ const SHORTEST = 4; // letters of a word whose likely meaning can be said
 /** The key that an unknown word is likely to mean, by a word that is like it; or null. */
 export function likelyKey(word) {
   const plain = plainForm(word), words = [...VOCABULARY.keys()].filter(it => it.length >= SHORTEST && VOCABULARY.get(it).key);
-  const key = plain.length >= SHORTEST ? VOCABULARY.get(nearest(plain, words))?.key : null;
+  const key = VOCABULARY.get(plain)?.key || (plain.length >= SHORTEST ? VOCABULARY.get(nearest(plain, words))?.key : null);
   return key === 'shift' ? 'lshift' : key ?? null;
 }

@@ -36,12 +36,12 @@ const isDigit = text => /^[0-9]$/.test(text);
 /** What pieces say: the longest words that they make together, and else characters; and what isn't known. */
 function saidBy(pieces) {
   const said = { words: [], characters: [], unknown: [], icons: pieces.filter(piece => piece.plain === null).map(piece => piece.text) };
-  let left = pieces.map(piece => piece.plain).filter(plain => plain !== null);
+  let left = pieces.filter(piece => piece.plain !== null);
   while (left.length) {
-    const found = longestWord(left), first = charactersOf(left[0]);
-    if (found) said.words.push(found.word);
+    const found = longestWord(left.map(piece => piece.plain)), [{ plain, isIcon }] = left, first = charactersOf(plain);
+    if (found) said.words.push({ ...found.word, isPicture: isIcon || charactersOf(found.word.text).length === 1 });
     else if (first.length === 1 || (first.length <= 3 && first.filter(isAlnum).length < 2)) said.characters.push(...first);
-    else said.unknown.push(left[0]);
+    else said.unknown.push(plain);
     left = left.slice(found?.count ?? 1);
   }
   return said;
@@ -51,7 +51,7 @@ function saidBy(pieces) {
     machine that the board was made for does with it; and beside some keys a word says what they do with Ctrl or Alt. */
 function namesOf(all) {
   const hasArrows = all.some(word => WITH_ARROWS.includes(word.key)), words = hasArrows ? all.filter(word => !ARROWS.includes(word.text)) : all;
-  const named = words.filter(word => word.key || charactersOf(word.text).length > 1);
+  const named = words.filter(word => word.key || !word.isPicture);
   const kept = named.length ? named : words, more = new Set(kept.flatMap(word => WITH_MORE[word.key] ?? []));
   const left = kept.filter(word => !(word.key === '' && more.has(word.plain)) && !(word.key && more.has(word.key)));
   const names = [...new Set(left.map(word => word.key))];

@@ -8,23 +8,6 @@ export class Refused extends Error {
   }
 }
 
-const MAGIC = [
-  [[0x1F, 0x8B], 'it is compressed by gzip; gunzip makes the file of it that can be read'],
-  [[0x50, 0x4B, 3, 4], 'it is a ZIP file; unzip takes out the file that can be read'],
-  [[0xFF, 0xFE], 'it is UTF-16 text; save it as UTF-8'], [[0xFE, 0xFF], 'it is UTF-16 text; save it as UTF-8'],
-];
-
-/** The text of a file's bytes, without a byte order mark. */
-export function textOfBytes(bytes) {
-  const found = MAGIC.find(([begin]) => begin.every((byte, at) => bytes[at] === byte));
-  if (found) throw new Refused(found[1]);
-  try {
-    return new TextDecoder('utf-8', { fatal: true }).decode(bytes);
-  } catch {
-    throw new Refused('it is no UTF-8 text');
-  }
-}
-
 /** A value that hasn't the form of what is read here. */
 export class Shapeless extends Error {}
 

@@ -158,6 +158,17 @@ export async function boardFiles(browser, shot, boards) {
   await browser.only('keyboard');
   await browser.choose('#open-board', [join(boards, 'editor/unknown_words.json')]);
   await browser.says('board-told', /isn't known.*--without unknown/);
+  // Each option that the refusal names has a button, and a key without a name a list of names.
+  await browser.evaluate('{ const list = document.querySelector("#board-told select"); list.value = "kp9"; list.dispatchEvent(new Event("change")); }; 0');
+  await browser.says('board-told', /its legend Blorp isn't known; --key 2,6=NAME/);
+  await browser.pressed('board-told', 'Leave 2,6 out');
+  await browser.says('board-told', /unknown_words\.toml is made of unknown_words\.json/);
+  await browser.choose('#open-board', [join(boards, '../sixty.json')]);
+  await browser.says('board-told', /ATTENTION: no key of this board sends esc; --key 5,2=esc/);
+  await browser.pressed('board-told', '5,2 is esc');
+  await browser.says('board-told', /by --key: esc \(row 5, key 2\)/);
+  await browser.choose('#open-board', [join(boards, 'editor/unknown_words.json')]);
+  await browser.says('board-told', /isn't known.*--without unknown/);
   await browser.pressed('board-told', 'Leave every such key out');
   await browser.says('board-told', /unknown_words\.toml is made of unknown_words\.json/);
   await browser.choose('#open-board', [join(boards, 'editor/full_size.json')]);
