@@ -128,8 +128,9 @@ def wrong_operand(form, words, at, operand, every):
         return Wrong(at, f"the name of {WHAT[operand]} is empty: a variable of the shell may have no value")
     if word.startswith("-") and word != "-":
         return misplaced_option(form, words, at, operand, every)
-    if operand == "IMAGE" and form.command == "step" and word.isdigit() and words[at + 1 : at + 2] and not os.path.exists(word):
-        return Wrong(at, "the image comes before the number of steps", [form.command, words[at + 1], word])
+    if operand == "IMAGE" and form.command == "step" and word.isdigit() and not os.path.exists(word):
+        image = words[at + 1] if words[at + 1 : at + 2] else SAMPLES["IMAGE"]
+        return Wrong(at, "the image comes before the number of steps", [form.command, image, word])
     return None
 
 
