@@ -1,5 +1,7 @@
 // Board files of other tools, opened beside the keyboard: they become a layout, or what is wrong is said, with the ways on.
 import { fromKle, isKeymapText } from './boards/from_kle.js';
+import { Refused } from './boards/refused.js';
+import { TABLES } from './boards/tables.js';
 import { byId, make, tell } from './dom.js';
 import { files, put } from './files.js';
 import { bring } from './taking.js';
@@ -8,16 +10,38 @@ import { textOfFile } from './text_files.js';
 /** Where the keys of a layout that was made of a board are drawn, by the layout's file and the key's name. */
 export const shapes = new Map();
 
-// What a refusal or a remark offers: its form, the words that take it, and what the button says.
-const WAYS = [
-  [/it has the layouts (.+); --layout/, found => found[1].split(', ').map(name => [['--layout', name], name])],
-  [/--without (\d+(?:,\d+)?) leaves/, found => [[['--without', found[1]], `Leave ${found[1]} out`]]],
-  [/--without doubles leaves these/, () => [[['--without', 'doubles'], 'Leave keys out that are there twice']]],
-  [/--without unknown every/, () => [[['--without', 'unknown'], 'Leave every such key out']]],
-  [/with --count/, () => [[['--count'], 'Count its keys']]],
-  [/--any-keyboard takes/, () => [[['--any-keyboard'], 'Take it all the same']]],
-  [/--diodes (COL2ROW|ROW2COL) takes/, found => [[['--diodes', found[1]], `Its diodes are ${found[1]}`]]],
-];
+// The options that a refusal or a remark names, with what their buttons say. One whose value is left to the reader has none; of a
+// key it has a list of names.
+const NAMED_OPTION = /--(key|fn|without|diodes|layout|layer|option) ([\w,.=-]*\w)|--(count|any-keyboard|no-fn|doubles)(?![\w-])/g;
+const LEFT_TO_READER = /(^|=)(NAME|KEY|N)$|,M$/, NOT_OFFERED = /; or choose among .*/;
+const BUTTON_LABELS = {
+  key: value => value.replace('=', ' is '), fn: value => `Fn is ${value}`, diodes: value => `Its diodes are ${value}`, layout: value => value,
+  without: value => ({ unknown: 'Leave every such key out', doubles: 'Leave keys out that are there twice' }[value] ?? `Leave ${value} out`),
+  layer: value => `Layer ${value.replace('=', ' is ')}`, option: value => `Option ${value.replace(',', ': choice ')}`,
+  count: () => 'Count its keys', 'any-keyboard': () => 'Take it all the same', 'no-fn': () => 'No key is Fn', doubles: () => 'Two switches at one place',
+};
+
+/** What lines offer: the words of each option that they name, and its label; of a key without a name its number. */
+export function waysIn(lines) {
+  const found = new Map();
+  for (const line of lines) {
+    for (const [text, option, value, alone] of line.replace(NOT_OFFERED, '').matchAll(NAMED_OPTION)) {
+      if (alone) found.set(text, { words: [`--${alone}`], label: BUTTON_LABELS[alone]() });
+      else if (option === 'key' && value.endsWith('=NAME')) found.set(text, { number: value.slice(0, -'=NAME'.length) });
+      else if (!LEFT_TO_READER.test(value)) found.set(text, { words: [`--${option}`, value], label: BUTTON_LABELS[option](value) });
+    }
+  }
+  return [...found.values()];
+}
+
+/** What from_kle answers of words over these files. */
+export function answerOfBoards(words, all = files) {
+  return fromKle(words, name => {
+    if (name in all) return all[name];
+    throw new Refused('there is no such file');
+  });
+}
+
 /** The name of the layout that is made of a board. */
 export const layoutNameOf = words => `${words.findLast(word => files[word] !== undefined && !isKeymapText(files[word]))?.replace(/\.[^.]*$/, '') ?? 'board'}.toml`;
 
@@ -66,11 +90,11 @@ export class BoardOpener {
   }
 
   #try(options) {
-    const words = [...options, ...[this.board, this.keymap].filter(Boolean)], said = fromKle(words, files);
-    const ways = WAYS.flatMap(([form, ways]) => said.told.map(line => form.exec(line)).filter(Boolean).slice(0, 1).flatMap(ways))
-      .filter(([more]) => !options.includes(more.at(-1)))
-      .map(([more, text]) => [text, () => this.#try([...options, ...more])]);
-    ways.push(['The words in the workbench', () => this.bench(['from_kle', ...words].join(' '))]);
+    const words = [...options, ...[this.board, this.keymap].filter(Boolean)], said = answerOfBoards(words);
+    const ways = waysIn(said.told).filter(({ words: more }) => !more || !options.join(' ').includes(more.join(' ')))
+      .map(({ words: more, label, number }) => (more ? this.#button(label, () => this.#try([...options, ...more]))
+        : this.#naming(number, name => this.#try([...options, '--key', `${number}=${name}`]))));
+    ways.push(this.#button('The words in the workbench', () => this.bench(['from_kle', ...words].join(' '))));
     if (said.status !== 0) {
       this.#say(said.told.join('\n'), false, ways);
       return;
@@ -81,6 +105,16 @@ export class BoardOpener {
     this.chosen(name);
   }
 
+  #button(label, act) { return Object.assign(make('button', { type: 'button', textContent: label }), { onclick: act }); }
+
+  // A list of the keys that one may be.
+  #naming(number, act) {
+    const list = make('select', {}, new Option(`${number} is ..`, ''), ...TABLES.keys.map(name => new Option(name)));
+    list.setAttribute('aria-label', `What the key ${number} sends`);
+    list.onchange = () => act(list.value);
+    return list;
+  }
+
   #hide() { byId('board-told').hidden = true; }
 
   #say(text, right, ways, lines = []) {
@@ -88,8 +122,7 @@ export class BoardOpener {
     tell(words, text, right);
     const more = lines.length
       ? [make('details', {}, make('summary', { textContent: `${lines.length} remarks on it` }), make('ul', {}, ...lines.map(line => make('li', { textContent: line }))))] : [];
-    const buttons = ways.map(([label, act]) => Object.assign(make('button', { type: 'button', textContent: label }), { onclick: act }));
-    byId('board-told').replaceChildren(words, ...more, make('div', { className: 'bar' }, ...buttons));
+    byId('board-told').replaceChildren(words, ...more, make('div', { className: 'bar' }, ...ways));
     byId('board-told').hidden = false;
   }
 }

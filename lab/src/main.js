@@ -1,6 +1,6 @@
 // The page: it starts the two modules, and shows the panes that are chosen.
 import { Keyboard, Program } from '../kbd48.mjs';
-import { fromKle } from './boards/from_kle.js';
+import { answerOfBoards } from './board_opener.js';
 import { byId, setHidden } from './dom.js';
 import { files } from './files.js';
 import { keeping } from './keeping.js';
@@ -44,7 +44,7 @@ addEventListener('unhandledrejection', event => trouble(event.reason));
 class Lab {
   constructor(keyboard, program) {
     this.keyboard = keyboard;
-    Object.assign(this, { files, fromKle, keeping, program, owed: 0, drawn: -Infinity, newsDrawn: -Infinity, news: 0, since: null, upSince: null, stirred: -Infinity, pressed: -Infinity, pace: Infinity, timer: null, last: performance.now(), isPassing: false, inSight: new Set() });
+    Object.assign(this, { files, answerOfBoards, keeping, program, owed: 0, drawn: -Infinity, newsDrawn: -Infinity, news: 0, since: null, upSince: null, stirred: -Infinity, pressed: -Infinity, pace: Infinity, timer: null, last: performance.now(), isPassing: false, inSight: new Set() });
     this.keys = new KeyboardPane({
       open: (layout, names) => this.open(layout, names), press: (place, down) => this.press(place, down),
       bench: words => {

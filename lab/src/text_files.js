@@ -1,4 +1,5 @@
 // Files of the user's system as texts.
+import { textOfBytes } from './boards/file_kinds.js';
 
 const LARGEST = 4 << 20; // bytes
 
@@ -6,10 +7,10 @@ const LARGEST = 4 << 20; // bytes
 export async function textOfFile(file) {
   const name = file.name.replace(/[^\w.-]/g, '_');
   if (file.size > LARGEST) throw new Error(`${name} is longer than any file that the program reads`);
-  const bytes = await file.arrayBuffer();
+  const bytes = new Uint8Array(await file.arrayBuffer());
   try {
-    return { name, text: new TextDecoder('utf-8', { fatal: true }).decode(bytes) };
-  } catch {
-    throw new Error(`${name} is no UTF-8 text`);
+    return { name, text: textOfBytes(bytes, name) };
+  } catch (fault) {
+    throw new Error(`${name}: ${fault.message}`);
   }
 }

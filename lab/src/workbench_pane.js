@@ -1,7 +1,7 @@
 // Files, and what the program makes of them.
 import { ask } from './asking.js';
-import { keepLayout, layoutNameOf } from './board_opener.js';
-import { fromKle, isKeymapText } from './boards/from_kle.js';
+import { answerOfBoards, keepLayout, layoutNameOf } from './board_opener.js';
+import { isKeymapText } from './boards/from_kle.js';
 import { byId, fill, make, save, tell } from './dom.js';
 import { edited, files, onFile, put, undo, undoable } from './files.js';
 import { keeping, workOf } from './keeping.js';
@@ -122,7 +122,7 @@ export class WorkbenchPane {
 
   // A layout of a board file, with what is told of it beside it.
   #fromKle(words) {
-    const said = fromKle(words.slice(1), files);
+    const said = answerOfBoards(words.slice(1));
     byId('answer').textContent = said.text || said.told.join('\n');
     byId('other').hidden = said.status !== 0 || !said.told.length;
     byId('other').textContent = said.told.join('\n');

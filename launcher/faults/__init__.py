@@ -10,7 +10,7 @@ from dataclasses import dataclass, field
 from functools import cached_property
 from pathlib import Path
 
-from . import asm, cert, hexfile, keys, layout, script, typed
+from . import asm, cert, hexfile, keys, kinds, layout, script, typed
 
 KINDS = {"asm": asm, "cert": cert, "hex": hexfile, "keys": keys, "layout": layout, "script": script, "text": typed}
 # The most bytes that a file of each kind may have.
@@ -94,7 +94,7 @@ def explained(said, words):
     fault = Fault(kind, int(found["number"] or found["late"]), int(found["at"] or found["line"]), stamps, files)
     place, text = KINDS[kind].place(fault) if hasattr(KINDS[kind], "place") else (f"line {fault.at}", fault.text)
     head = f"{named[kind]}, {place}: {shown(text)}" if text else f"{named[kind]}, {place}"
-    return [head, table()[kind, fault.number][1], *(mark(fault) or guessed(fault))]
+    return [head, table()[kind, fault.number][1], *(mark(fault) or of_another_kind(fault, named, words) or guessed(fault))]
 
 
 def guessed(fault):
@@ -103,6 +103,24 @@ def guessed(fault):
         return KINDS[fault.kind].hints(fault)
     except (ValueError, LookupError, TypeError, RecursionError):
         return []
+
+
+# Faults that files of other kinds have: those of a line's form. An empty file has no kind.
+STRANGE = {"hex": {1}, "asm": {1, 2, 3}, "layout": {1, 2, 3}, "keys": {1, 2}, "script": {1}, "cert": {1}, "text": {1}}
+
+
+def of_another_kind(fault, named, words):
+    """What a file is that isn't of the kind that comes in its place, and what takes it; nothing if it is of that kind. Two files
+    that are exchanged are said to be."""
+    found = kinds.of_bytes(fault.data) if fault.number in STRANGE[fault.kind] else None
+    if not found or found["kind"] == fault.kind or (found["kind"] == "asm" and fault.kind == "text"):
+        return []
+    lines = [kinds.said(found, named[fault.kind])]
+    other = named.get(found["kind"])
+    if other and (kinds.of_file(other) or {}).get("kind") == fault.kind:
+        exchanged = {named[fault.kind]: other, other: named[fault.kind]}
+        lines.append(f"the two files are exchanged: kbd48 {' '.join(exchanged.get(it, it) for it in words)}")
+    return lines
 
 
 def mark(fault):

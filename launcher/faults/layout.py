@@ -147,7 +147,7 @@ def field(fault, here):
 def missing(fault, here):
     wanted = ["key", "column", "row"] if fault.at else ["format", "key"]
     left = [it for it in wanted if it not in here]
-    return [f"it has no {' and no '.join(left)}"] if here and left else []
+    return [f"it has no {' and no '.join(left)}"] if left else []
 
 
 def wrong_kind(fault, _here):

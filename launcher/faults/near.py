@@ -1,6 +1,8 @@
 """The nearest of some names to a word."""
 import difflib
 
+SHORT = 3  # letters
+
 
 def nearest(word, names):
     """The name that is likely to be meant, or None. Letters are equal in both cases."""
@@ -8,7 +10,10 @@ def nearest(word, names):
     for name in names:
         lower.setdefault(name.lower(), name)
     found = difflib.get_close_matches(word.lower(), lower, n=1, cutoff=0.6)
-    return lower[found[0]] if found else None
+    # Short words are alike by chance: one letter may be another, and not the first.
+    if not found or (len(word) <= SHORT and (found[0][:1] != word[:1].lower() or abs(len(found[0]) - len(word)) > 1)):
+        return None
+    return lower[found[0]]
 
 
 def meant(word, names, else_says=None):

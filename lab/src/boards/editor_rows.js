@@ -74,7 +74,8 @@ class Options {
     return [...this.seen].sort(([a], [b]) => a - b).map(([number, choices]) => {
       const taken = this.chosen.get(number) ?? 0, [name, choice] = this.#names(number, taken);
       if (taken > 1 && !choices.has(taken) && !choice) throw new Refused(`its option ${number} has no choice ${taken}`);
-      return `option ${number}${name}: choice ${taken}${choice} is taken; --option ${number},M takes another`;
+      const other = [...choices, 1].find(it => it !== taken) ?? 0;
+      return `option ${number}${name}: choice ${taken}${choice} is taken; --option ${number},${other} takes another`;
     });
   }
 

@@ -41,14 +41,17 @@ export function keymapOf(data) {
   };
 }
 
+const SHORTEST_PART = 3; // characters
+
 const lettersOf = name => charactersOf(name.toLowerCase()).filter(isAlnum).join('');
 
 /** Whether a board goes by a name of QMK's, its own or that of its file's folder. */
 function hasName(board, keyboard, path) {
   if (path.replaceAll('\\', '/').includes(keyboard)) return true;
   const own = lettersOf(board.name);
-  const parts = keyboard.split('/').map(lettersOf).filter(part => charactersOf(part).length > 2 && !part.startsWith('rev'));
-  return parts.some(part => own.includes(part) || (own && part.includes(own)));
+  const parts = keyboard.split('/').map(lettersOf), isLong = name => charactersOf(name).length >= SHORTEST_PART;
+  // A short name is in many others by chance.
+  return parts.some(part => part === own || (isLong(part) && !part.startsWith('rev') && (own.includes(part) || (isLong(own) && part.includes(own)))));
 }
 
 /** Refuses a keymap of another board; what is told if it may be of one. Layouts with names that many boards share fit all. */

@@ -37,13 +37,13 @@ export function numberedLayers(keys, codes, chosen) {
     const taken = new Set(numbers.values()), free = [...layers.keys()].filter(number => number > 0 && !taken.has(number));
     if (!free.length) {
       const where = at.length && at[0] < keys.length ? ` (${keys[at[0]].where})` : '';
-      throw new Refused(`which layer ${name}${where} is isn't known, and the keymap has no layer left for it; --layer ${name}=N says it`);
+      throw new Refused(`which layer ${name}${where} is isn't known, and the keymap has no layer left for it; --layer ${name}=1 says that it is layer 1`);
     }
     numbers.set(name, likelyLayer(layers, at, free));
     guessed.push(`${name} is taken as layer ${numbers.get(name)}`);
   }
   return {
     layers: layers.map(layer => layer.map(code => code.replace(SELECTS, (_, call, name) => `${call}(${numbers.get(name)}`))),
-    told: guessed.length ? [`the keymap has names for its layers: ${guessed.join(', ')}; --layer NAME=N says another`] : [],
+    told: guessed.length ? [`the keymap has names for its layers: ${guessed.join(', ')}; --layer ${[...numbers.keys()][0]}=${numbers.values().next().value === 1 ? 2 : 1} and the like say others`] : [],
   };
 }

@@ -38,7 +38,7 @@ export function entriesOf(all, roles, places) {
   const names = new Names(all, roles), told = [], entries = [];
   for (const [at, role] of roles.entries()) {
     const place = places[at];
-    if (!place || !(role.isFn || role.sends)) continue;
+    if (!place || role.beside || !(role.isFn || role.sends)) continue;
     const name = names.of(role);
     entries.push({ name, place, role });
     if (role.isFn) told.push(`Fn (${role.key.where}): key files call it ${name}`);
@@ -66,7 +66,7 @@ export function layoutText(entries, heading) {
 export function tableText(entries, roles) {
   const rows = [['key', 'column,row', 'switch', 'in the file', 'sends', 'under Fn', 'note']];
   for (const role of roles) {
-    const entry = entries.find(it => it.role === role);
+    const entry = entries.find(it => it.role === (role.beside ?? role));
     rows.push([entry?.name ?? '-', entry ? `${entry.place.column},${entry.place.row}` : '-', role.key.where,
       [role.source, role.sourceFn].filter(Boolean).join(' / '), role.isFn ? 'Fn' : role.sends || 'nothing',
       role.isFn || !entry ? '' : role.underFn ?? '', role.notes.join('; ')]);
@@ -77,10 +77,11 @@ export function tableText(entries, roles) {
 }
 
 /** A line for each column: which key goes to which of its rows. */
-export function wiringLines(entries) {
+export function wiringLines(entries, roles) {
+  const besides = entry => roles.filter(role => role.beside === entry.role).map(role => ` and ${role.key.where}`).join('');
   const columns = [...new Set(entries.map(entry => entry.place.column))].sort((a, b) => a - b);
   return columns.map(column => {
     const here = entries.filter(entry => entry.place.column === column).sort((a, b) => a.place.row - b.place.row);
-    return `column ${column}: ${here.map(({ place, name, role }) => `row ${place.row} ${name} (${role.key.where})`).join('; ')}`;
+    return `column ${column}: ${here.map(entry => `row ${entry.place.row} ${entry.name} (${entry.role.key.where}${besides(entry)})`).join('; ')}`;
   });
 }

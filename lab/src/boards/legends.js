@@ -1,126 +1,153 @@
 // From the legends of a board's keys to the keys of the 84 that they name.
 import { COUNTRIES, countryOf } from './countries.js';
-import { longestWord } from './legend_words.js';
-import { Refused, charactersOf, isAlnum, isLeftOut, piecesOf } from './refused.js';
-import { TABLES } from './tables.js';
+import { KeyPlaces } from './legend_places.js';
+import { legendPieces, shownLegends } from './legend_text.js';
+import { likelyKey, longestWord } from './legend_words.js';
+import { Refused, charactersOf, isAlnum, isLeftOut } from './refused.js';
+import { TABLES, wordsIn } from './tables.js';
 
-const { keypad: KEYPAD, front: FRONT, at_once: AT_ONCE, num_off: NUM_OFF, star: STAR } = TABLES.legends;
-const { arrows: ARROWS, with_arrows: WITH_ARROWS } = TABLES.words;
+// The keypad's keys by the character on them; "" if the 84 don't have it.
+const KEYPAD = TABLES.words.keypad;
+const FRONT = [4, 5, 11]; // the editor's numbers of the legends on a key's front
+const AT_ONCE = 6; // keys that a refusal names
+const NUM_OFF = 'means this while Num Lock is off', STAR_LEGEND = 'types * without Shift, and prints the screen with it';
+// Signs that mean nothing beside the words of some keys: the arrow of Backspace, Tab, Enter, Shift or a lock.
+const ARROWS = charactersOf(TABLES.words.arrows), WITH_ARROWS = wordsIn(TABLES.words.with_arrows);
+// Words that mean nothing beside a key's name, since they say what it does with Ctrl or Alt.
+const WITH_MORE = Object.fromEntries(Object.entries(TABLES.words.beside).map(([key, words]) => [key, wordsIn(words)]));
+const WIDE_KEY = 1.5, SHIFT_KEYS = ['lshift', 'rshift'];
 
-// Why the legends of a key can't be read.
-class Unclear extends Error {}
-
-const plainText = document.createElement('textarea');
-
-/** A text whose character references are characters. */
-function unescaped(text) {
-  if (!text.includes('&')) return text;
-  plainText.innerHTML = text.replaceAll('<', '&lt;');
-  return plainText.value;
+// Why the legends of a key can't be read, and which key they may mean.
+class Unclear extends Error {
+  constructor(words, guess = null) {
+    super(words);
+    this.guess = guess;
+  }
 }
 
-/** A legend as it is seen: without HTML; of an icon its name. */
-function cleaned(legend) {
-  const named = legend.replace(/<i class=['"](?:fa|kb) (?:fa|kb)-([\p{L}\p{N}_-]+)['"]>/gu, ' $1 ');
-  return piecesOf(unescaped(named.replace(/<\/?[A-Za-z][^<>]*>/g, ' '))).join(' ');
-}
-
-/** The two legends that say what a key is: the first and the second, or the only one that it has elsewhere. */
+/** The pieces of the two legends that say what a key is: the first and the second, or the only one that it has elsewhere. */
 function mainLegends(key) {
-  const seen = key.legends.map(cleaned), first = seen.slice(0, 2).filter(Boolean), rest = seen.filter(Boolean);
-  return first.length ? first : rest.length === 1 ? rest : [];
+  const seen = key.legends.map(legendPieces), first = seen.slice(0, 2).flat(), rest = seen.filter(pieces => pieces.length);
+  return first.length ? first : rest.length === 1 ? rest[0] : [];
 }
-
-/** The legends of a key, in a line. */
-export const shownLegends = key => key.legends.map(cleaned).filter(Boolean).join(' ');
 
 const isDigit = text => /^[0-9]$/.test(text);
 
-/** What lines say: the longest words that their pieces make together, and else characters. */
-function saidBy(lines) {
-  const said = { words: [], characters: [], unknown: [] };
-  let pieces = lines.flatMap(piecesOf);
-  while (pieces.length) {
-    const found = longestWord(pieces), first = charactersOf(pieces[0]);
-    if (found) said.words.push(found.word);
+/** What pieces say: the longest words that they make together, and else characters; and what isn't known. */
+function saidBy(pieces) {
+  const said = { words: [], characters: [], unknown: [], icons: pieces.filter(piece => piece.plain === null).map(piece => piece.text) };
+  let left = pieces.filter(piece => piece.plain !== null);
+  while (left.length) {
+    const found = longestWord(left.map(piece => piece.plain)), [{ plain, isIcon }] = left, first = charactersOf(plain);
+    if (found) said.words.push({ ...found.word, isPicture: isIcon || charactersOf(found.word.text).length === 1 });
     else if (first.length === 1 || (first.length <= 3 && first.filter(isAlnum).length < 2)) said.characters.push(...first);
-    else said.unknown.push(pieces[0]);
-    pieces = pieces.slice(found?.count ?? 1);
+    else said.unknown.push(plain);
+    left = left.slice(found?.count ?? 1);
   }
   return said;
+}
+
+/** The keys that words name. An arrow beside Tab and the like says the same once more; a picture beside a key's name is what the
+    machine that the board was made for does with it; and beside some keys a word says what they do with Ctrl or Alt. */
+function namesOf(all) {
+  const hasArrows = all.some(word => WITH_ARROWS.includes(word.key)), words = hasArrows ? all.filter(word => !ARROWS.includes(word.text)) : all;
+  const named = words.filter(word => word.key || !word.isPicture);
+  const kept = named.length ? named : words, more = new Set(kept.flatMap(word => WITH_MORE[word.key] ?? []));
+  const left = kept.filter(word => !(word.key === '' && more.has(word.plain)) && !(word.key && more.has(word.key)));
+  const names = [...new Set(left.map(word => word.key))];
+  const isShift = names.length > 1 && names.every(name => ['shift', 'lshift', 'rshift'].includes(name));
+  return { words: left, names: isShift ? names.filter(name => name !== 'shift') : names };
 }
 
 /** What a key says: its main legends, or if they make no sense alone all that aren't at its front. */
 function sayingOf(key) {
   const said = saidBy(mainLegends(key));
-  if (!said.unknown.length) return said;
-  const every = saidBy(key.legends.filter((_, at) => !FRONT.includes(at)).map(cleaned));
-  return every.unknown.length ? said : every;
+  if (!said.unknown.length && namesOf(said.words).names.length < 2) return said;
+  const every = saidBy(key.legends.filter((_, at) => !FRONT.includes(at)).flatMap(legendPieces));
+  return every.unknown.length || namesOf(every.words).names.length > 1 ? said : every;
 }
 
 /** The only arrow or like sign that a key has, or nothing. */
 function signOf({ words, characters }) {
-  return words.length === 1 && !characters.length && charactersOf(words[0].text).length === 1 ? words[0].text : '';
+  return words.length === 1 && !characters.length && /^[^\p{L}\p{N}]{1,2}$/u.test(words[0].text) ? words[0].text : '';
 }
 
 const hasDigit = ({ words, characters }) => characters.length === 1 && isDigit(characters[0]) && words.every(word => word.isMove);
 
-/** Which keys are the keypad: all if the board has no letter, and else those below and beside Num Lock. */
-function keypadOf(keys, said) {
+/** Which keys are the keypad: all if the board has no letter; a block of nine digits; or else those below and beside Num Lock. */
+function keypadOf(keys, said, places) {
   const digits = [...said.keys()].filter(at => hasDigit(said[at]));
   if (!said.some(say => say.characters.some(character => /^\p{L}$/u.test(character)))) {
     return new Set(digits.length ? keys.keys() : []);
   }
+  const nine = places.keypad() ?? new Set();
   for (const [at, { words }] of said.entries()) {
-    if (words.length !== 1 || words[0].key !== 'num') continue;
+    if (namesOf(words).names.join() !== 'num') continue;
     const { x: left, y: top } = keys[at], isBeside = key => key.x - left >= -0.6 && key.x - left <= 3.6 && key.y >= top - 0.1;
     const block = new Set([...keys.keys()].filter(other => isBeside(keys[other])));
-    if (digits.filter(digit => block.has(digit)).length >= 6) return block;
+    if (digits.filter(digit => block.has(digit)).length >= 6) return new Set([...nine, ...block]);
   }
-  return new Set();
+  return nine;
 }
 
 // The keys of a board, read one by one. A reading is the key of the 84 that the legends name, "" if none, and what is told.
 class Legends {
-  constructor(keys) {
-    Object.assign(this, { keys, said: keys.map(sayingOf), taken: new Set() });
-    this.keypad = keypadOf(keys, this.said);
+  constructor(keys, { without, keys: said }) {
+    Object.assign(this, { keys, without, byWords: said, said: keys.map(sayingOf), taken: new Set(said.values()), passedOver: [] });
+    this.places = new KeyPlaces(keys, this.said);
+    this.keypad = keypadOf(keys, this.said, this.places);
     this.country = countryOf(this.said, this.keypad);
-    this.hasBackspace = this.said.some(say => say.words.some(word => word.key === 'backspace'));
+    const named = new Set([...said.values(), ...this.said.flatMap(say => namesOf(say.words).names)]);
+    this.hasBackspace = named.has('backspace');
+    this.hasTab = named.has('tab');
+    this.hasPad = this.said.some(say => hasDigit(say) && say.words.length);
     this.bottom = Math.max(...keys.map(key => key.y));
   }
 
   /** What each key is. Keys that can't be read are refused together, but for those that may be left out. */
-  all(without) {
-    const readings = this.keys.map(() => ({ name: '', note: '' })), unclear = [], isAlone = at => this.said[at].characters.length === 1;
+  all() {
+    const readings = this.keys.map(key => ({ name: this.byWords.get(key.number) ?? '', note: '' })), unclear = [];
+    const isAlone = at => this.said[at].characters.length === 1;
     // Keys with two characters first, so that a lone one can be seen to be the keypad's.
     for (const at of [...this.keys.keys()].sort((a, b) => isAlone(a) - isAlone(b))) {
-      if (isLeftOut(this.keys[at], without)) continue;
+      if (isLeftOut(this.keys[at], this.without) || readings[at].name) continue;
       try {
         readings[at] = { note: '', ...this.#reading(at) };
         this.taken.add(readings[at].name);
       } catch (why) {
         if (!(why instanceof Unclear)) throw why;
-        unclear.push([at, why.message]);
+        unclear.push([at, why]);
       }
     }
-    if (unclear.length && !without.has('unknown')) throw new Refused(this.#ofUnclear(unclear.sort(([a], [b]) => a - b)));
+    if (unclear.length && !this.without.has('unknown')) throw new Refused(this.#ofUnclear(unclear.sort(([a], [b]) => a - b)));
     return readings;
   }
 
-  // Why a board is refused some of whose keys can't be read.
+  // Why a board is refused some of whose keys can't be read, with the options that mend it.
   #ofUnclear(unclear) {
-    const keys = unclear.slice(0, AT_ONCE).map(([at, why]) => `${this.keys[at].where}: ${why}`);
+    const keys = unclear.slice(0, AT_ONCE).map(([at, why]) => `${this.keys[at].where}: ${why.message}`);
     if (unclear.length > AT_ONCE) keys.push(`and so on, ${unclear.length} keys`);
     if (2 * unclear.length > this.keys.length) return `${keys.join('; ')}; a keymap says what keys send that have no such legends`;
-    return `${keys.join('; ')}; --without ${this.keys[unclear[0][0]].number} leaves ${unclear.length === 1 ? 'it' : 'the first'} out, `
+    const [[first]] = unclear, { number } = this.keys[first];
+    return `${keys.join('; ')}; ${this.#namings(unclear)}, --without ${number} leaves ${unclear.length === 1 ? 'it' : 'the first'} out, `
       + '--without unknown every such key; a keymap can say what they are';
   }
 
+  // The options that say what keys send: by what their legends may mean, or by their places, as far as no other key has the name.
+  #namings(unclear) {
+    const guesses = unclear.map(([at, { guess }]) => [this.keys[at].number, [guess, this.places.nameByRow(at, this.taken)].find(name => name && !this.taken.has(name))]);
+    const guessed = guesses.filter(([, name]) => name).slice(0, AT_ONCE), isFirst = guessed[0]?.[0] === guesses[0][0];
+    const [number, name] = isFirst ? guessed[0] : [guesses[0][0], 'NAME'];
+    const others = guessed.slice(isFirst ? 1 : 0).map(([other, its]) => `--key ${other}=${its}`);
+    return `--key ${number}=${name} says what ${unclear.length === 1 ? 'it' : 'the first'} is${others.length ? ` (likewise ${others.join(' ')})` : ''}`;
+  }
+
   #reading(at) {
-    const key = this.keys[at], said = this.said[at];
-    if (said.unknown.length) throw new Unclear(`its legend ${shownLegends(key)} isn't known`);
-    if (said.words.length) return said.characters.length ? this.#ofBoth(key, said) : this.#ofWords(key, said);
+    const key = this.keys[at], said = this.said[at], isSaid = said.words.length + said.characters.length > 0;
+    if (said.unknown.length) throw new Unclear(`its legend ${shownLegends(key)} isn't known`, likelyKey(said.unknown[0]));
+    if (said.icons.length && !isSaid) throw new Unclear(`its icon ${said.icons.join(' ')} isn't known`);
+    if (said.icons.length) this.passedOver.push(`${said.icons.join(' ')} (${key.where})`);
+    if (said.words.length) return said.characters.length ? this.#ofBoth(at) : this.#ofWords(at);
     if (said.characters.length) return { name: this.#ofCharacters(at, said.characters.slice(0, 2)) };
     return this.#ofBlank(key);
   }
@@ -132,45 +159,48 @@ class Legends {
     return { name: '' };
   }
 
-  // A key with a character and a word, which is the keypad's: a digit or point with its move. A picture beside a word means
-  // nothing.
-  #ofBoth(key, said) {
-    if (said.characters.every(character => /^\p{So}$/u.test(character))) return this.#ofWords(key, said);
-    const [mark] = said.characters, moves = new Set(['kp5', ...said.words.map(word => word.key)]);
-    if (said.characters.length === 1 && moves.has(KEYPAD[mark]) && said.words.every(word => word.isMove)) return { name: KEYPAD[mark] };
-    throw new Unclear(`its legends ${shownLegends(key)} are of two keys`);
+  // A key with a character and a word, which is the keypad's: a digit or point with its move, or * with Print Screen. A picture
+  // beside a word means nothing.
+  #ofBoth(at) {
+    const key = this.keys[at], said = this.said[at];
+    if (said.characters.every(character => /^\p{So}$/u.test(character))) return this.#ofWords(at);
+    const [mark] = said.characters, pads = KEYPAD[mark], { names } = namesOf(said.words);
+    if (said.characters.length === 1 && pads && pads !== 'kp5' && names.every(name => name === pads)) {
+      return pads === 'prtsc' ? { name: pads, note: STAR_LEGEND } : { name: pads };
+    }
+    if (said.characters.length === 1 && pads === 'kp5' && said.words.every(word => word.isMove)) return { name: pads };
+    throw new Unclear(`its legends ${shownLegends(key)} are of two keys`, this.country.keyOf(said.characters.slice(0, 2)) || names[0]);
   }
 
-  // A key with words alone. An arrow beside Tab and the like says the same once more.
-  #ofWords(key, said) {
-    let { words } = said;
-    if (words.some(word => WITH_ARROWS.includes(word.key))) words = words.filter(word => !ARROWS.includes(word.text));
-    // A picture beside a key's name is what the machine that the board was made for does with it.
-    const named = words.filter(word => word.key || charactersOf(word.text).length > 1);
-    if (named.length) words = named;
-    let names = [...new Set(words.map(word => word.key))];
-    if (names.length === 2 && names.includes('prtsc') && names.includes('sysreq')) names = ['prtsc'];
-    if (names.length > 1 && names.every(name => ['shift', 'lshift', 'rshift'].includes(name))) names = names.filter(name => name !== 'shift');
-    if (names.length > 1) throw new Unclear(`its legends ${shownLegends(key)} are of two keys`);
-    const name = names[0] !== 'shift' ? names[0] : this.taken.has('lshift') ? 'rshift' : 'lshift';
-    if (key.width >= 1.5 && name === 'kpdot' && !this.hasBackspace) return wideBackspace;
-    if (signOf(said) && key.width >= 1.5 && words[0].isMove) return this.#ofWideArrow(key, name, signOf(said));
+  #ofWords(at) {
+    const key = this.keys[at], said = this.said[at], { words, names } = namesOf(said.words), isWide = key.width >= WIDE_KEY;
+    if (names.length > 1 && names.every(name => ['kp4', 'kp6'].includes(name)) && !this.hasTab && this.places.nameByRow(at) === 'tab') {
+      return this.#takenAs(at, 'Tab');
+    }
+    if (names.length > 1) throw new Unclear(`its legends ${shownLegends(key)} are of two keys`, names.find(name => name && name !== 'shift'));
+    if (isWide && words.length === 1 && words[0].plain === '⇑' && SHIFT_KEYS.includes(this.places.nameByRow(at))) return this.#takenAs(at, 'Shift');
+    const name = names[0] !== 'shift' ? names[0] : this.taken.has('lshift') ? 'rshift' : 'lshift', sign = signOf(said);
+    if (isWide && name === 'kpdot' && !this.hasBackspace) return wideBackspace;
+    if (sign && name === 'kp4' && !this.hasBackspace && !this.keypad.has(at) && this.places.endsDigits(at)) {
+      return isWide ? wideBackspace : { name: 'backspace', note: 'is taken as Backspace, since the key ends the row of digits' };
+    }
+    if (sign && isWide && words[0].isMove) return this.#ofWideArrow(at, name, sign);
     if (words[0].isMove) return { name, note: NUM_OFF };
-    if (name === 'prtsc') return { name, note: STAR };
+    if (name === 'prtsc') return { name, note: STAR_LEGEND };
     return { name, note: name === 'caps' && words[0].text.toLowerCase().includes('shift') ? 'is taken as Caps Lock' : '' };
   }
 
-  // Whether the key A is the next to the right.
-  #isLeftOfA(key) {
-    return this.keys.some((other, at) => Math.abs(other.x - key.x - key.width) < 0.1 && Math.abs(other.y - key.y) < 0.1
-      && ['a', 'q'].includes(this.said[at].characters.join(' ').toLowerCase()));
-  }
+  // A key that is what it is by the keys beside it.
+  #takenAs(at, name) { return { name: this.places.nameByRow(at), note: `is taken as ${name}, since the key is wide and ends its row` }; }
 
-  // A wide key with an arrow alone: Backspace mostly; Caps Lock if it is hollow, shows down and is beside A, as in Germany. It
-  // may be Shift or Tab if the arrow shows up or right.
-  #ofWideArrow(key, name, sign) {
+  // A wide key with an arrow alone: Backspace mostly; Shift if it shows up and is beside the lowest letters; Tab if it shows right
+  // and is beside Q; Caps Lock if it is hollow, shows down and is beside A, as in Germany.
+  #ofWideArrow(at, name, sign) {
+    const key = this.keys[at], place = this.places.nameByRow(at);
     if (name === 'kp4' && !this.hasBackspace) return wideBackspace;
-    if (sign.includes('\u21E9') && this.#isLeftOfA(key)) return { name: 'caps', note: 'is taken as Caps Lock, since the key is wide and beside A' };
+    if (sign.includes('\u21E9') && place === 'caps') return { name: 'caps', note: 'is taken as Caps Lock, since the key is wide and beside A' };
+    if (name === 'kp8' && SHIFT_KEYS.includes(place)) return this.#takenAs(at, 'Shift');
+    if (name === 'kp6' && place === 'tab') return this.#takenAs(at, 'Tab');
     throw new Unclear(`its legend ${shownLegends(key)} is on a wide key, which may be Shift, Tab or another`);
   }
 
@@ -179,30 +209,33 @@ class Legends {
     const [first] = characters, alone = characters.length === 1, isPads = alone && Object.hasOwn(KEYPAD, first);
     if (isPads && this.keypad.has(at)) return KEYPAD[first];
     const name = this.country.keyOf(characters);
-    if (isPads && !this.keypad.size && this.taken.has(name)) return KEYPAD[first];
+    if (isPads && !this.keypad.size && (this.taken.has(name) || (name === null && this.hasPad))) return KEYPAD[first];
     if (name === null && alone && this.country.shifts(first)) {
-      throw new Unclear(`its only legend ${first} is typed with Shift in ${this.country.name}`);
+      throw new Unclear(`its only legend ${first} is typed with Shift in ${this.country.name}`, this.country.shifts(first));
     }
     if (name === null) throw new Unclear(`its legends ${shownLegends(this.keys[at])} are on no key of ${this.country.name}`);
     return name;
   }
 
-  /** A line of the legends that may be a second layer's: those at the front. */
+  /** Lines of what isn't read: icons beside other legends, and legends at the front, which may be a second layer's. */
   unread() {
-    const found = this.keys.flatMap(key => {
-      const front = key.legends.filter((_, at) => FRONT.includes(at)).map(cleaned).filter(Boolean);
-      return front.length ? [`${front.join(' ')} (${key.where})`] : [];
+    const front = this.keys.flatMap(key => {
+      const found = key.legends.filter((_, at) => FRONT.includes(at)).flatMap(legendPieces).map(piece => piece.text);
+      return found.length ? [`${found.join(' ')} (${key.where})`] : [];
     });
-    return found.length ? [`legends at the front aren't read, and there is no second layer; a keymap can say it: ${found.join(', ')}`] : [];
+    return [
+      ...this.passedOver.length ? [`icons that aren't known are passed over: ${this.passedOver.join(', ')}`] : [],
+      ...front.length ? [`legends at the front aren't read, and there is no second layer; a keymap can say it: ${front.join(', ')}`] : [],
+    ];
   }
 }
 
 const wideBackspace = { name: 'backspace', note: 'is taken as Backspace, since the key is wide and no other is' };
 
 /** What each key is, and what is told of the board's legends as a whole. */
-export function readLegends(keys, without) {
+export function readLegends(keys, choices) {
   if (!keys.some(key => mainLegends(key).length)) throw new Refused('none of its keys has a legend; a keymap says what they send');
-  const legends = new Legends(keys), readings = legends.all(without);
+  const legends = new Legends(keys, choices), readings = legends.all();
   const told = legends.country === COUNTRIES[0] ? [] : [`the legends are read as those of ${legends.country.name}`];
   return { readings, told: [...told, ...legends.unread()] };
 }

@@ -13,7 +13,7 @@ function layoutNamed(data, wanted) {
   if (unknown !== undefined) throw new Refused(`it has no layout ${unknown}, but ${[...all, ...Object.keys(aliases)].join(', ')}`);
   if (names.length > 1) {
     throw new Refused(wanted.length ? 'the keymap is for another layout than --layout says'
-      : `it has the layouts ${all.join(', ')}; --layout NAME says which`);
+      : `it has the layouts ${all.join(', ')}; ${all.map(name => `--layout ${name}`).join(' or ')} says which`);
   }
   const [name] = names, layout = partOf(partOf(layouts, name, A_TABLE, 'layouts.'), 'layout', A_LIST, `layouts.${name}.`);
   const at = layout.findIndex(key => !isTable(key));

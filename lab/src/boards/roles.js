@@ -1,13 +1,12 @@
 // From two layers of codes to what each key sends, with Fn and without it.
-import { meaningOf } from './key_codes.js';
-import { Refused, isLeftOut, leastOf } from './refused.js';
-import { TABLES } from './tables.js';
-
-const { needed, letters } = TABLES.layers;
+import { fnCandidates, fnKey } from './fn_key.js';
+import { countryOfCode, meaningOf } from './key_codes.js';
+import { Refused, isLeftOut } from './refused.js';
 
 /** What a key does: the key whose code it sends, the one whose code it sends under Fn if that is another, or it is Fn itself;
-    what the file has for it, without Fn and under it; and what is told of it. */
-export const roleOf = (key, more = {}) => ({ key, sends: null, underFn: null, isFn: false, source: '', sourceFn: '', notes: [], ...more });
+    the key at whose place its switch is too, if it has none of its own; what the file has for it, without Fn and under it; and what
+    is told of it. */
+export const roleOf = (key, more = {}) => ({ key, sends: null, underFn: null, isFn: false, beside: null, source: '', sourceFn: '', notes: [], ...more });
 
 // What is told of codes, those of one layer and reason together.
 class Notes {
@@ -23,23 +22,12 @@ class Notes {
   lines() { return [...this.codes].map(([reason, codes]) => `${reason}: ${codes.join(', ')}`); }
 }
 
-/** Which key of the lowest layer is Fn: the first that does nothing but select a layer; else one without a tap; else one
-    whose tap another key sends too; else the first. */
-function fnKey(meanings, count) {
-  const held = [...meanings.keys()].filter(at => meanings[at].kind === 'momentary' && meanings[at].layer > 0 && meanings[at].layer < count);
-  const sent = new Set(meanings.filter(means => means.kind === 'sends').map(means => means.key));
-  return leastOf(held, at => {
-    const { tap, lost } = meanings[at];
-    if (!tap) return lost ? 1 : 0;
-    return sent.has(tap.key) ? 2 : 3 + needed.includes(tap.key);
-  });
-}
-
 /** The key whose code a key of the lowest layer sends that isn't Fn, or null if it sends none. */
-function inBase(notes, role, first) {
+function inBase(notes, role, first, noFn) {
   let means = first;
   if (means.kind === 'momentary') {
-    notes.note(0, role, role.source, `${means.tap ? 'its layer is lost' : 'left out'}, since one key alone can be Fn, and selects one layer`);
+    const why = noFn ? 'since no key is Fn' : 'since one key alone can be Fn, and selects one layer';
+    notes.note(0, role, role.source, `${means.tap ? 'its layer is lost' : 'left out'}, ${why}`);
     means = means.tap ?? { kind: 'nothing' };
   }
   if (means.kind === 'sends') {
@@ -72,15 +60,26 @@ function underFn(notes, layer, role, code) {
   return lost(`sends what it sends in layer 0, ${why}`);
 }
 
-/** What each key does, and what is told of it. */
-export function rolesOf(keys, layers, without) {
-  const notes = new Notes(), base = keys.map((key, at) => (isLeftOut(key, without) ? { kind: 'nothing' } : meaningOf(layers[0][at])));
+/** What each key means in layer 0; the words may say another key of it, or leave it out. */
+function meaningsOf(keys, codes, choices) {
+  return keys.map((key, at) => {
+    if (isLeftOut(key, choices.without)) return { kind: 'nothing' };
+    const said = choices.keys.get(key.number);
+    return said ? { kind: 'sends', key: said, lost: '' } : meaningOf(codes[at]);
+  });
+}
+
+/** What each key does, what is told of it, and of the key that is Fn what it would send when it is tapped and which others could
+    be it. */
+export function rolesOf(keys, layers, choices) {
+  const notes = new Notes(), base = meaningsOf(keys, layers[0], choices);
   for (const [at, means] of base.entries()) {
     if (means.kind === 'momentary' && means.layer >= layers.length) {
-      throw new Refused(`layer 0, ${keys[at].where}, ${layers[0][at]}: the keymap has no layer ${means.layer}`);
+      throw new Refused(`layer 0, ${keys[at].where}, ${layers[0][at]}: the keymap has no layer ${means.layer}; --without ${keys[at].number} leaves the key out`);
     }
   }
-  const fnAt = fnKey(base, layers.length), roles = keys.map((key, at) => roleOf(key, { source: layers[0][at] }));
+  const candidates = fnCandidates(base, layers), fnAt = fnKey(keys, layers, base, candidates, choices);
+  const roles = keys.map((key, at) => roleOf(key, { source: layers[0][at] }));
   let chosen = 0;
   for (const [at, role] of roles.entries()) {
     const means = base[at];
@@ -88,29 +87,28 @@ export function rolesOf(keys, layers, without) {
       role.isFn = true;
       chosen = means.layer;
       if (means.lost) notes.note(0, role, role.source, `Fn; ${means.lost}`);
-    } else role.sends = inBase(notes, role, means);
+    } else role.sends = inBase(notes, role, means, choices.noFn);
   }
   if (chosen) {
     for (const [at, role] of roles.entries()) {
       role.sourceFn = layers[chosen][at];
-      if (!isLeftOut(role.key, without)) role.underFn = underFn(notes, chosen, role, layers[chosen][at]);
+      if (!isLeftOut(role.key, choices.without)) role.underFn = underFn(notes, chosen, role, layers[chosen][at]);
     }
   }
-  return { roles, told: [...notes.lines(), ...layersLost(layers, chosen)] };
+  const others = candidates.filter(at => at !== fnAt), fn = { role: roles[fnAt] ?? null, tap: base[fnAt]?.tap?.key ?? null, others: others.map(at => keys[at]) };
+  const selects = new Map(others.map(at => [base[at].layer, keys[at].number]).reverse());
+  return { roles, fn, told: [...ofCountries(layers), ...notes.lines(), ...layersLost(layers, chosen, selects)] };
 }
 
-function layersLost(layers, chosen) {
-  const why = chosen ? `Fn selects layer ${chosen}` : 'no key of layer 0 that could be Fn selects it';
+function layersLost(layers, chosen, selects) {
+  const why = chosen ? `Fn selects layer ${chosen}` : selects.size ? 'no key is Fn' : 'no key of layer 0 that could be Fn selects it';
   return [...layers.entries()].filter(([number, layer]) => number !== 0 && number !== chosen
     && !layer.every(code => ['below', 'nothing'].includes(meaningOf(code).kind)))
-    .map(([number]) => `layer ${number}: left out: ${why}`);
+    .map(([number]) => `layer ${number}: left out: ${why}${selects.has(number) ? `; --fn ${selects.get(number)} takes it` : ''}`);
 }
 
-/** A line of the keys that a board needs and that none of its keys sends, with Fn or without. */
-export function missingOf(roles) {
-  const sent = new Set(roles.flatMap(role => [role.sends, role.underFn]).filter(Boolean));
-  if (sent.has('lshift') || sent.has('rshift')) sent.add('shift');
-  if ([...sent].filter(name => /^[a-z]$/.test(name)).length < letters) return [];
-  const lacking = needed.filter(name => !sent.has(name));
-  return lacking.length ? [`ATTENTION: no key of this board sends ${lacking.join(', ')}`] : [];
+/** A line of the countries whose codes a keymap has: each key is named by its place. */
+function ofCountries(layers) {
+  const names = [...new Set(layers.flat().map(countryOfCode).filter(Boolean).map(country => country.name))];
+  return names.length ? [`the keymap has codes of ${names.join(' and ')}; each key is named by its place`] : [];
 }

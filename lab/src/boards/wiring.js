@@ -9,14 +9,18 @@ const unsaidDiodes = (line, direction) => `it doesn't say how its diodes stand: 
 function countedPlaces(roles) {
   const most = COLUMNS * ROWS_OF_A_COLUMN;
   let number = 0;
-  return roles.map(role => {
-    if (roles.length > most && !role.sends && !role.isFn) return null;
+  const own = roles.filter(role => !role.beside), places = new Map(own.map(role => {
+    if (own.length > most && !role.sends && !role.isFn) return [role, null];
     if (number === most) {
       throw new Refused(`${role.key.where} is one key too many: there are ${most} places; --without ${role.key.number} leaves it out`);
     }
-    return new Place(number % ROWS_OF_A_COLUMN, Math.floor(number++ / ROWS_OF_A_COLUMN));
-  });
+    return [role, new Place(number % ROWS_OF_A_COLUMN, Math.floor(number++ / ROWS_OF_A_COLUMN))];
+  }));
+  return roles.map(role => places.get(role.beside ?? role));
 }
+
+/** Whether the places of a board's keys are counted, since its file has none or the words ask for it. */
+export const isCounted = (board, choices) => choices.counted || (board.tool === 'editor' && !board.keys.some(key => key.place));
 
 // The matrix of a board: its places, how many rows and columns they take.
 class Matrix {
@@ -99,7 +103,7 @@ function placedAnew(board, own, roles) {
 function judgePlaces(board, places) {
   const seen = new Set(), { rows, columns } = board;
   for (const place of places) {
-    if (seen.has(`${place}`)) throw new Refused(`two keys have the place ${place} in the matrix`);
+    if (seen.has(`${place}`)) throw new Refused(`two keys have the place ${place} in the matrix; with --count the keys are counted, for a board that is wired so`);
     if (place.row >= (rows || place.row + 1) || place.column >= (columns || place.column + 1)) {
       throw new Refused(`a key has the place ${place}, and its matrix ${rows ?? 'None'} rows of ${columns ?? 'None'} columns`);
     }
@@ -148,7 +152,7 @@ function sharedWires(board, places) {
 export function wiringOf(board, choices, roles) {
   const places = board.keys.map(key => key.place).filter(Boolean);
   let wiring;
-  if (choices.counted || (board.tool === 'editor' && !places.length)) {
+  if (isCounted(board, choices)) {
     if (choices.diodes && !choices.counted) throw new Refused('its keys have no places in a matrix, so --diodes says nothing of them');
     wiring = {
       places: countedPlaces(roles), how: 'counted, column by column', anew: false,

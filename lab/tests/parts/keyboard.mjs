@@ -145,7 +145,7 @@ export async function everyBoard(browser, answers) {
   const cases = JSON.parse(readFileSync(answers, 'utf8'));
   await browser.evaluate(`globalThis.cases = ${JSON.stringify(cases)}; 0`);
   const others = await browser.evaluate(`cases.filter(({ words, files, status, text, told }) => {
-    const said = lab.fromKle(words, files);
+    const said = lab.answerOfBoards(words, files);
     return said.status !== status || said.text !== text || JSON.stringify(said.told) !== JSON.stringify(told);
   }).map(({ words }) => words.join(' '))`);
   assert.deepEqual(others, [], 'from_kle answers otherwise');
@@ -156,6 +156,17 @@ export async function everyBoard(browser, answers) {
 /** A board file is opened beside the keyboard, its keymap after it, and somebody types on it. */
 export async function boardFiles(browser, shot, boards) {
   await browser.only('keyboard');
+  await browser.choose('#open-board', [join(boards, 'editor/unknown_words.json')]);
+  await browser.says('board-told', /isn't known.*--without unknown/);
+  // Each option that the refusal names has a button, and a key without a name a list of names.
+  await browser.evaluate('{ const list = document.querySelector("#board-told select"); list.value = "kp9"; list.dispatchEvent(new Event("change")); }; 0');
+  await browser.says('board-told', /its legend Blorp isn't known; --key 2,6=NAME/);
+  await browser.pressed('board-told', 'Leave 2,6 out');
+  await browser.says('board-told', /unknown_words\.toml is made of unknown_words\.json/);
+  await browser.choose('#open-board', [join(boards, '../sixty.json')]);
+  await browser.says('board-told', /ATTENTION: no key of this board sends esc; --key 5,2=esc/);
+  await browser.pressed('board-told', '5,2 is esc');
+  await browser.says('board-told', /by --key: esc \(row 5, key 2\)/);
   await browser.choose('#open-board', [join(boards, 'editor/unknown_words.json')]);
   await browser.says('board-told', /isn't known.*--without unknown/);
   await browser.pressed('board-told', 'Leave every such key out');

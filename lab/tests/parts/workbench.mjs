@@ -85,7 +85,7 @@ export async function brokenFiles(browser, folder) {
     return join(folder, name);
   };
   await browser.choose('#open-file', [file('latin.asm', Buffer.from([0x3B, 0xE9, 0x0A]))]);
-  await browser.says('shared', /latin\.asm is no UTF-8 text/);
+  await browser.says('shared', /latin\.asm: it is no UTF-8 text/);
   await browser.choose('#open-file', [file('long.asm', Buffer.alloc(5 << 20, 0x20))]);
   await browser.says('shared', /long\.asm is longer than any file that the program reads/);
   await browser.choose('#open-file', [file('short.hex', ':0100000001FF\n:00000001FF\n')]);

@@ -1,0 +1,31 @@
+// What a file is, whatever its name and whatever reads it.
+import { Refused } from './refused.js';
+import { TABLES } from './tables.js';
+
+const { bytes: BY_BYTES, texts: BY_TEXTS } = TABLES.kinds;
+const KIND_FORMS = BY_TEXTS.map(entry => ({ ...entry, form: new RegExp(entry.form, 'mi') }));
+const said = ({ is, takes, do: what }, name) => `it is ${is}; ${takes ? `\`${takes.replace('FILE', name)}\` takes it` : what}`;
+
+/** What a file's first bytes say of it, in words; or null. */
+function kindOfBytes(bytes, name) {
+  const begin = Array.from(bytes.slice(0, 4), byte => byte.toString(16).padStart(2, '0').toUpperCase()).join('');
+  const found = BY_BYTES.find(entry => begin.startsWith(entry.begins));
+  return found ? said(found, name) : null;
+}
+
+/** What a text's lines say of it, in words; or null. JSON is what is read here. */
+export function kindOfText(text, name) {
+  const found = KIND_FORMS.find(({ form }) => form.test(text));
+  return found && found.kind !== 'json' ? said(found, name) : null;
+}
+
+/** The text of a file's bytes, without a byte order mark. */
+export function textOfBytes(bytes, name) {
+  const found = kindOfBytes(bytes, name);
+  if (found) throw new Refused(found);
+  try {
+    return new TextDecoder('utf-8', { fatal: true }).decode(bytes);
+  } catch {
+    throw new Refused('it is no UTF-8 text');
+  }
+}

@@ -1,0 +1,265 @@
+"""Words that the program refuses: which of them is wrong, and what would be right. The forms are those of the man page."""
+from __future__ import annotations
+
+import os
+import re
+import shlex
+import subprocess
+from dataclasses import dataclass
+from pathlib import Path
+
+from . import kinds
+from .near import nearest
+
+FORMS = Path(__file__).resolve().parent.parent / "forms"
+# Words that people say for a command.
+OTHERS = {
+    "assemble": "asm", "assembler": "asm", "as": "asm", "disasm": "list", "disassemble": "list", "dump": "list", "listing": "list",
+    "build": "compile", "make": "compile", "firmware": "compile", "image": "compile", "simulate": "run", "sim": "run", "emulate": "run",
+    "execute": "run", "exec": "run", "start": "run", "model": "expect", "wave": "trace", "waves": "trace", "vcd": "trace", "wires": "trace",
+    "debugger": "debug", "gdb": "debug", "certify": "cert", "check": "cert", "keys": "type", "typing": "type", "bench": "sample",
+    "benchmark": "sample", "scan": "words", "feed": "words", "byte": "words", "bytes": "words", "single": "step", "trial": "sample",
+}
+COUNTS = {"step": (0, 1_000_000, "a number of steps"), "sample": (1, 10_000, "a number of key strokes")}
+MOST_BYTES = 4096
+FILES = {"IMAGE": "hex", "SOURCE": "asm", "LAYOUT": "layout", "KEYS": "keys", "SCRIPT": "script", "CERT": "cert", "TEXT": "text"}
+WHAT = {
+    "IMAGE": "a HEX image", "SOURCE": "an assembler source", "LAYOUT": "a layout", "KEYS": "a key file", "SCRIPT": "a script",
+    "CERT": "a certificate", "TEXT": "a text", "COUNT": "a number", "BYTE": "a byte",
+}
+# A file of the repository for each operand, for what is to be copied.
+SAMPLES = {
+    "IMAGE": "examples/us84.hex", "SOURCE": "examples/four_keys.asm", "LAYOUT": "examples/us84.toml", "KEYS": "examples/typing_hi.keys",
+    "SCRIPT": "examples/make_code.script", "CERT": "examples/delay.cert", "TEXT": "examples/hello.text", "COUNT": "25", "BYTE": "1C",
+}
+
+
+@dataclass(frozen=True)
+class Form:
+    """A command's form: its line, its operands, and its options; each option with whether a BYTE follows it."""
+
+    line: str
+    command: str
+    operands: list[str]
+    options: dict[str, bool]
+
+
+@dataclass(frozen=True)
+class Wrong:
+    """The word that is wrong, by its place among the words (their number, if one is missing), and what is to say of it; a line of
+    words that would be right."""
+
+    at: int
+    why: str
+    right: list[str] | None = None
+
+
+def forms():
+    """The form of each command."""
+    printed = subprocess.run([FORMS], stdout=subprocess.PIPE, check=True, text=True).stdout
+    found = {}
+    for line in map(str.strip, printed.splitlines()):
+        words = re.sub(r"\[[^]]*\]", "", line).split()[1:]
+        options = {it: value for it, value in ((it[0], bool(it[1])) for it in re.findall(r"(--\w+)( BYTE)?", line))}
+        found[words[0]] = Form(line, words[0], [it for it in words[1:] if it != "..."], options)
+    return found
+
+
+def shown(words):
+    """Words as a shell reads them, with nothing in them that would move the cursor."""
+    return " ".join(shlex.quote("".join(it if it.isprintable() else "?" for it in word)) for word in words)
+
+
+def explained(words):
+    """The lines that say which word is wrong."""
+    every = forms()
+    if not words:
+        return ["no command is given; the forms are", *(f"  {it.line}" for it in every.values())]
+    if words[0] not in every:
+        return [*of_no_command(words, every), "the forms are", *(f"  {it.line}" for it in every.values())]
+    form = every[words[0]]
+    wrong = first_wrong(form, words, every)
+    if not wrong:
+        return [f"the form is {form.line}"]
+    given, before = shown(["kbd48", *words]), shown(["kbd48", *words[: wrong.at]])
+    width = len(shown(words[wrong.at : wrong.at + 1])) or 1
+    lines = [given, " " * (len(before) + 1) + "^" * width, wrong.why]
+    if wrong.right is not None:
+        lines.append(f"did you mean {shown(['kbd48', *wrong.right])}")
+    return [*lines, f"the form is {form.line}; kbd48 {form.command} --help says more"]
+
+
+def of_no_command(words, every):
+    """What is said of a first word that is no command."""
+    word = words[0]
+    plain = word.lstrip("-").lower()
+    if os.path.isfile(word):
+        kind = kinds.of_file(word)
+        return [f"{word} is a file, and a command comes first" + (f": {kinds.said(kind, word)}" if kind else "")]
+    if plain == "help" and words[1:2] and words[1] in every:
+        return [f"kbd48 {words[1]} --help says more of it"]
+    if plain in ("prove", "test", "help", "version", "completion"):
+        return [f"{word}: did you mean kbd48 --{plain}? It is given alone"]
+    meant = plain if plain in every else OTHERS.get(plain) or nearest(plain, [*every, *OTHERS])
+    meant = OTHERS.get(meant, meant)
+    return [f"there is no command {shown([word])}" + (f"; did you mean {shown(['kbd48', meant, *words[1:]])}" if meant else "")]
+
+
+def first_wrong(form, words, every):
+    """The first word that is wrong, or None."""
+    if form.command == "words":
+        return wrong_byte(words)
+    names = words[1 : 1 + len(form.operands)]
+    for at, operand in enumerate(form.operands, 1):
+        wrong = wrong_operand(form, words, at, operand, every)
+        if wrong:
+            return wrong
+    return wrong_rest(form, words, len(names) + 1, every)
+
+
+def wrong_operand(form, words, at, operand, every):
+    """What is wrong with the word in an operand's place."""
+    if at >= len(words):
+        return missing(form, words, at, operand)
+    word = words[at]
+    if operand == "COUNT":
+        return wrong_count(form, words, at)
+    if word == "":
+        return Wrong(at, f"the name of {WHAT[operand]} is empty: a variable of the shell may have no value")
+    if word.startswith("-") and word != "-":
+        return misplaced_option(form, words, at, operand, every)
+    if operand == "IMAGE" and form.command == "step" and word.isdigit() and not os.path.exists(word):
+        image = words[at + 1] if words[at + 1 : at + 2] else SAMPLES["IMAGE"]
+        return Wrong(at, "the image comes before the number of steps", [form.command, image, word])
+    return None
+
+
+def missing(form, words, at, operand):
+    """A word that isn't there. A file that is there may be another one's."""
+    given = words[1:at]
+    wanted = form.operands[:at]
+    for place, (name, kind) in enumerate(zip(given, wanted), 1):
+        found = kinds.of_file(name) if os.path.isfile(name) else None
+        if found and kind in FILES and found["kind"] != FILES[kind] and found["kind"] in [FILES.get(it) for it in form.operands]:
+            rest = [SAMPLES[it] if FILES.get(it) != found["kind"] else name for it in form.operands]
+            return Wrong(place, f"{name} is {found['is']}, and {WHAT[kind]} comes in its place", [form.command, *rest])
+    why = {"COUNT": f"{COUNTS.get(form.command, (0, 0, 'a number'))[2]} is missing"}.get(operand, f"{operand} is missing: {WHAT[operand]}")
+    return Wrong(at, why, [form.command, *given, *(SAMPLES[it] for it in form.operands[at - 1 :])])
+
+
+def misplaced_option(form, words, at, operand, every):
+    """A word with a dash in a file's place."""
+    word = words[at].split("=")[0]
+    if word in form.options:
+        taken = 2 if form.options[word] else 1
+        rest = words[1:at] + words[at + taken :]
+        enough = len(rest) >= len(form.operands)
+        return Wrong(at, "options come after the files", [form.command, *rest, *words[at : at + taken]] if enough else None)
+    wrong = wrong_option(form, words, at, every)
+    return wrong or Wrong(at, f"{WHAT[operand]} is to be named here, and a file's name doesn't begin with -: write ./{words[at]} for such a file")
+
+
+def wrong_count(form, words, at):
+    """What is wrong with a COUNT."""
+    least, most, what = COUNTS[form.command]
+    word = words[at]
+    if re.fullmatch(r"[0-9]{1,7}", word) and least <= int(word) <= most:
+        return None
+    right = None
+    plain = re.sub(r"[,_'. ](?=\d{3}\b)", "", word)
+    if re.fullmatch(r"[0-9]+", plain) and least <= int(plain) <= most:
+        right = str(int(plain))
+    elif found := re.fullmatch(r"(?:0x|\$)([0-9a-f]+)|([0-9][0-9a-f]*)h", word, re.IGNORECASE):
+        right = str(int(found[1] or found[2], 16))
+    elif found := re.fullmatch(r"([0-9]+)(k|e3)", word, re.IGNORECASE):
+        right = f"{found[1]}000"
+    elif found := re.fullmatch(r"\+([0-9]+)", word):
+        right = found[1]
+    fits = right is not None and least <= int(right) <= most
+    return Wrong(at, f"{shown([word])} is no COUNT: {what}, from {least} to {most:,}, in decimal digits alone",
+                 [*words[:at], right, *words[at + 1 :]] if fits else None)
+
+
+def wrong_byte(words):
+    """What is wrong with the bytes of `words`."""
+    if len(words) == 1:
+        return Wrong(1, "a BYTE is missing: two hexadecimal digits, as the keyboard sends them", ["words", "1C", "F0", "1C"])
+    for at, word in enumerate(words[1:], 1):
+        if re.fullmatch("[0-9A-Fa-f]{2}", word):
+            continue
+        right = [it for other in words[1:] for it in bytes_in(other)]
+        fits = all(re.fullmatch("[0-9A-Fa-f]{2}", it) for it in right)
+        if os.path.isfile(word):
+            return Wrong(at, f"{word} is a file, and words takes bytes of two hexadecimal digits: xargs kbd48 words < {shlex.quote(word)} gives it those of a file")
+        return Wrong(at, f"{shown([word])} is no BYTE: two hexadecimal digits, without 0x, h or a comma", ["words", *right] if fits else None)
+    return Wrong(MOST_BYTES + 1, f"there are {len(words) - 1:,} bytes, and at most {MOST_BYTES:,} are taken") if len(words) - 1 > MOST_BYTES else None
+
+
+def bytes_in(word):
+    """The bytes that a word of another form writes."""
+    parts = [it for it in re.split(r"[\s,;:]+", word) if it]
+    found = []
+    for part in parts:
+        digits = re.sub(r"^(0x|\\x|\$|x)|h$", "", part, flags=re.IGNORECASE)
+        if re.fullmatch("[0-9A-Fa-f]+", digits) and (len(digits) % 2 == 0 or len(digits) == 1):
+            digits = digits.rjust(2, "0")
+            found += [digits[it : it + 2].upper() for it in range(0, len(digits), 2)]
+        else:
+            found.append(part)
+    return found
+
+
+def wrong_rest(form, words, at, every):
+    """What is wrong with the words after the operands: options, or nothing."""
+    seen = []
+    while at < len(words):
+        word = words[at]
+        if word not in form.options:
+            return wrong_option(form, words, at, every) or extra(form, words, at)
+        if word in seen:
+            return Wrong(at, f"{word} is there twice", words[:at] + words[at + 1 + form.options[word] :])
+        if {word, *seen} >= {"--steps", "--trace"}:
+            return Wrong(at, "--steps and --trace exclude each other", words[:at] + words[at + 1 :])
+        seen.append(word)
+        if form.options[word]:
+            at += 1
+            value = words[at] if at < len(words) else ""
+            if not re.fullmatch("[0-9A-Fa-f]{2}", value):
+                right = bytes_in(value)
+                fits = len(right) == 1 and re.fullmatch("[0-9A-F]{2}", right[0])
+                why = f"a BYTE is missing after {word}: two hexadecimal digits" if at >= len(words) else f"{shown([value])} is no BYTE: two hexadecimal digits"
+                return Wrong(at, why, [*words[:at], right[0] if fits else "55", *words[at + 1 :]] if fits or at >= len(words) else None)
+        at += 1
+    return None
+
+
+def wrong_option(form, words, at, every):
+    """What is wrong with a word that has the form of an option, or None if it has another one."""
+    word = words[at]
+    if not word.startswith("-") or word == "-":
+        return None
+    name, equals, value = word.partition("=")
+    if equals and name in form.options:
+        given = [name, *([value] if form.options[name] else [])]
+        return Wrong(at, "a blank is between an option and its value" if form.options[name] else f"{name} has no value", [*words[:at], *given, *words[at + 1 :]])
+    others = [it.command for it in every.values() if name in it.options]
+    if others:
+        mine = f"; the options of {form.command} are {' '.join(form.options)}" if form.options else f"; {form.command} has no options"
+        return Wrong(at, f"{name} is an option of {' and '.join(others)}{mine}", words[:at] + words[at + 1 :])
+    meant = nearest(name.lstrip("-"), [it.lstrip("-") for it in form.options])
+    if meant:
+        return Wrong(at, f"there is no option {name}", [*words[:at], f"--{meant}", *words[at + 1 :]])
+    what = f"its options are {' '.join(form.options)}" if form.options else f"{form.command} has no options"
+    return Wrong(at, f"there is no option {shown([name])}: {what}", words[:at] + words[at + 1 :])
+
+
+def extra(form, words, at):
+    """A word too many: often the file into which the text is to go, or a sign of the shell's."""
+    word, right = words[at], words[:at]
+    if word.isidentifier() and f"--{word}" in form.options:
+        return Wrong(at, f"{word} is an option, which begins with --", [*right, f"--{word}", *words[at + 1 :]])
+    if at == len(words) - 1 and re.search(r"\.\w+$", word) and not os.path.exists(word):
+        return Wrong(at, f"{form.command} names no file for its text, which goes to the standard output: kbd48 {shown(right)} > {shlex.quote(word)}")
+    if os.path.isfile(word) and len(form.operands) == 1 and form.operands[0] in FILES:
+        return Wrong(at, f"{form.command} takes one file at a time", right)
+    return Wrong(at, f"{shown([word])} is a word too many", right)
