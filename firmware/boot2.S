@@ -28,3 +28,4 @@
     bx r2
     .ltorg
     .org 252                @ refused if the code is longer
+    .word 0                 @ the CRC

@@ -66,3 +66,17 @@ def flash_of(elf: Path) -> bytes:
     binary = elf.with_suffix(".bin")
     run(["arm-none-eabi-objcopy", "-O", "binary", elf, binary])
     return binary.read_bytes()
+
+
+def with_memory(elf: Path, memory: bytes, to: Path) -> Path:
+    """The ELF file with what is put into the flash memory after it is compiled: the boot block with its CRC, and the image."""
+    listed = subprocess.run(["arm-none-eabi-objdump", "-h", str(elf)], stdout=subprocess.PIPE, check=True).stdout.decode()
+    sections = {words[1]: (int(words[4], 16), int(words[2], 16)) for words in map(str.split, listed.splitlines())
+                if len(words) == 7 and words[1] in (".boot2", ".vectors", ".image")}
+    begin, changed = min(at for at, _ in sections.values()), []
+    for name, (at, size) in sections.items():
+        part = elf.with_suffix(name)
+        part.write_bytes(memory[at - begin:at - begin + size])
+        changed += ["--update-section", "%s=%s" % (name, part)]
+    run(["arm-none-eabi-objcopy", *changed, elf, to])
+    return to

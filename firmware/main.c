@@ -17,44 +17,51 @@ static kbd48_chip chip = KBD48_NO_CHIP;
 int32_t most_late;
 uint32_t slips;
 
-/* Puts what changed of the latches on to the pins. */
-static void show(uint32_t turned, uint32_t is) {
+/* Puts what changed of the latches on to the pins. When the next look may come: when it is due, but not before a wire that is let
+   go could rise. The watchdog begins anew with each column, which the image of a layout selects in each tick. */
+__attribute__((noinline)) static uint32_t show(uint32_t turned, uint32_t is, uint32_t due) {
     if (turned & WIRE_BITS) hal_wires(KBD48_P2(is) & 1, KBD48_P2(is) >> 1 & 1);
-    if (turned & COLUMN_BITS) hal_column(KBD48_P1(is) & 15);
     if (turned & LIGHT_BITS) hal_lights(~KBD48_P2(is) >> 4 & 7);
+    if (turned & COLUMN_BITS) {
+        hal_column(KBD48_P1(is) & 15);
+        hal_feed();
+        hal_late(slips);
+    }
+    if (!(turned & is & WIRE_BITS)) return due;
+    uint32_t risen = hal_now() + RISE;
+    return (int32_t)(risen - due) > 0 ? risen : due;
 }
 
-/* A step ended late, the light says so. When it was due, or now, if it is too late to make up for it. */
-__attribute__((noinline)) static uint32_t was_late(uint32_t due, int32_t late) {
+/* A step ended late, and the light says so. When it was due, or now, if it is too late to make up for it. */
+__attribute__((noinline)) static uint32_t was_late(uint32_t due, uint32_t now) {
+    int32_t late = (int32_t)(now - due);
     hal_late(true);
     if (late > most_late) most_late = late;
     if (late <= MOST_LATE) return due;
     slips++;
-    return due + (uint32_t)late;
+    return now;
 }
+
+/* The watchdog resets. A law says that the processor is never stuck with the image of a layout. */
+__attribute__((noreturn)) static void stuck(void) { for (;;) {} }
 
 int main(void) {
     hal_start();
     kbd48_chip_open(&chip, &image.program, 0);
-    const bool is_kernel = image.is_kernel;
+    const bool is_own = !image.is_kernel;
     uint32_t was = KBD48_PINS_HIGH, due = hal_now();
     for (;;) {
         hal_pins pins = hal_read();
         uint32_t is = (uint32_t)kbd48_chip_step(&chip, KBD48_BOARD_PINS(hal_rows(pins), hal_clock(pins), hal_data(pins)));
-        uint32_t turned = was ^ is;
+        uint32_t turned = (was ^ is) & (COLUMN_BITS | WIRE_BITS | LIGHT_BITS);
         was = is;
-        if (turned & (COLUMN_BITS | WIRE_BITS | LIGHT_BITS)) show(turned, is);
+        if (KBD48_CYCLES(is) == 2) due += 2 * HAL_CYCLE;
+        else if (KBD48_CYCLES(is) == 1) due += HAL_CYCLE;
+        else stuck();
+        uint32_t next = turned ? show(turned, is, due) : due;
+        if (is_own) hal_feed();
         uint32_t now = hal_now();
-        while (!KBD48_CYCLES(is)) {} /* The processor is stuck, so the watchdog resets. A law says that a layout's image never is. */
-        due += KBD48_CYCLES(is) == 1 ? HAL_CYCLE : 2 * HAL_CYCLE;
-        int32_t late = (int32_t)(now - due);
-        if (late > 0) due = was_late(due, late);
-        uint32_t next = due;
-        if (turned & is & WIRE_BITS && (int32_t)(now + RISE - due) > 0) next = now + RISE;
-        if (turned & COLUMN_BITS || !is_kernel) {
-            hal_feed();
-            hal_late(slips);
-        }
-        while ((int32_t)(hal_now() - next) < 0) {}
+        if ((int32_t)(now - due) > 0) due = was_late(due, now);
+        while ((int32_t)(now - next) < 0) now = hal_now();
     }
 }

@@ -99,12 +99,15 @@ WORLD static void account(void) {
     last = cycle;
 }
 #else
-/* SysTick counts down; what it counts while the PC is simulated is left out, and so is what it counts for a question alone. */
+/* SysTick counts down. What it counts while the PC is simulated is left out, and so is what it counts for a question alone; of a
+   question in a loop that waits, half, so that time goes on. */
 static uint32_t left_at, gone, question, now, passed;
 WORLD static uint32_t ticks(void) { return 0xFFFFFF - *(volatile uint32_t *)0xE000E018; }
 WORLD static uint32_t paced_now(void) {
     gone = (ticks() - left_at) & 0xFFFFFF;
-    if (gone > question) now += (gone - question) << 8;
+    uint32_t free = looked ? question : question / 2;
+    if (gone > free) now += (gone - free) << 8;
+    looked = false;
     for (; now - passed >= script.cycle; passed += script.cycle) pass();
     left_at = ticks();
     return now;
@@ -120,7 +123,7 @@ WORLD static void start_ticks(void) {
         (void)hal_now();
         if (k > 1 && gone < least) least = gone;
     }
-    question = least - least / 4; /* the rest is what a question takes on a chip */
+    question = least;
     passed = now;
 }
 /* After a look the next question passes no time, so that a step of one cycle, which asks twice, takes one. */
@@ -139,7 +142,10 @@ WORLD uint32_t sim_now(void) {
 
 /* The program looks at its pins. */
 WORLD void sim_look(void) {
-    if (script.flags & PACED) (void)sim_now();
+    looked = true;
+#ifndef COST
+    if (script.flags & PACED) (void)paced_now();
+#endif
     bool clock = !PULLED(CLOCK) && !pc_pulls_clock(), data = !PULLED(DATA) && !pc_pulls_data();
     levels(rows_now(), clock, data);
     if (script.flags & WIRES) pc_trace(cycle, clock, data);
