@@ -9,6 +9,8 @@
 //   ANL, ORL   the port changes with the end of cycle x + 1          (state 5 of the second)
 //   JT0 .. JNT1  the pin is sampled in the middle of cycle x         (state 3 of the first)
 //   INS, IN    the pins are sampled in the middle of cycle x + 1     (the second; the state isn't sure)
+// A chip of today that simulates the processor (`port=1`) samples all pins as a step begins, and writes after it has computed the
+// step. A step begins as soon as those before it have taken their cycles, and later if it was held up: then it catches up.
 // The event counter, external interrupts and memory outside the chip aren't built.
 #include <stdbool.h>
 #include <stdint.h>
@@ -26,10 +28,11 @@ typedef struct {
     long seed, length, polling, pull, hold, requests, inhibits, keys, rise, latency, period, resend;
     long look, outl, anl, ins, entry_from, entry_to, noise, noisy, noise_width;
     long upset, in_service, place, flip_bank, flip_service, stop_timer, stop_interrupt, scramble;
+    long port, compute, stall, stall_in;
     long trace, watch, press, press_at, release_at, low_wire, low_from, low_to, ram, pins_only, lag, all_keys, flip_bit, reset;
 } Asked;
 static Asked asked = {.seed = 1, .length = 2000, .pull = 100 * US, .hold = 100 * US, .period = 10 * US, .place = -1,
-                      .noise_width = 2 * US, .press = -1, .low_wire = -1};
+                      .noise_width = 2 * US, .press = -1, .low_wire = -1, .compute = 5, .stall_in = 16};
 
 typedef struct { const char *name; long *field; long unit; } Word;
 static const Word words[] = {
@@ -71,6 +74,10 @@ static const Word words[] = {
     {"all_keys", &asked.all_keys, 1},     // 1: the upset is that all keys go down at once, and up at once
     {"flip_bit", &asked.flip_bit, 1},     // a bit of this cell of data memory flips; -1: of any
     {"reset", &asked.reset, 1},           // 1: after the upset the host sends FF
+    {"port", &asked.port, 1},             // 1: the processor is simulated by a chip of today (firmware/main.c)
+    {"compute", &asked.compute, 1},       // how long that one computes a step, in tenths of a cycle
+    {"stall", &asked.stall, 1},           // by how many cycles it is held up at most, and in one step
+    {"stall_in", &asked.stall_in, 1},     // of how many
     {"no_host", &asked.pins_only, 1},     // 1: nothing is plugged in
 };
 
@@ -403,16 +410,25 @@ static void adjust(void) {
     if ((sum & 0xFF) >> 4 > 9 || chip.c || sum > 255) { sum += 0x60; chip.c = true; }
     chip.a = (uint8_t)sum;
 }
+static Time computed, due; // of a chip of today: when this step is computed, and when the next one is due
+enum { RISE = 14, MOST_LATE = 80 }; // as in firmware/main.c: 3.5 microseconds, and eight cycles
+static bool lets_go;       // this step lets a wire go
+
 static void put_port(unsigned which, uint8_t value, Time at) {
     run_to(x); // earlier writes are done, but for one of the instruction before
+    lets_go |= which == 2 && ~chip.latch[2] & value & 3;
+    if (asked.port) at = computed;
     chip.latch[which] = value;
     int place = pending++;
     for (; place && writes[place - 1].at > at; place--) writes[place] = writes[place - 1];
     writes[place] = (Write){at, (uint8_t)which, value};
 }
-static bool pin(int which) { run_to(x + CYCLE / 2 + asked.look); return wire[which].high; }
+static bool pin(int which) {
+    if (!asked.port) run_to(x + CYCLE / 2 + asked.look);
+    return wire[which].high;
+}
 static uint8_t read_port(unsigned which) {
-    run_to(x + CYCLE + CYCLE / 2 + asked.ins);
+    if (!asked.port) run_to(x + CYCLE + CYCLE / 2 + asked.ins);
     return which ? chip.latch[which] : rows();
 }
 
@@ -547,13 +563,32 @@ static void count(unsigned cycles, bool ran) {
     chip.flag = true;
     if (!chip.enabled || chip.request) return;
     chip.request = true;
-    chip.request_at = x + (Time)cycles * CYCLE;
+    chip.request_at = asked.port ? x : x + (Time)cycles * CYCLE;
     chip.entry_late = CYCLE * (asked.entry_from + drawn((uint32_t)(asked.entry_to - asked.entry_from + 1)));
+}
+
+// By how much this step is held up, now that it is so late: never by more than to `stall` cycles.
+static Time held_up(Time late) {
+    Time most = CYCLE * asked.stall - (late > 0 ? late : 0);
+    return most > 0 && !drawn((uint32_t)asked.stall_in) ? 1 + drawn((uint32_t)most) : 0;
+}
+
+// When a chip of today begins the next step.
+static Time next_step(unsigned cycles) {
+    due += (Time)cycles * CYCLE;
+    Time end = computed + held_up(computed - due);
+    if (end > due + MOST_LATE) due = end;
+    Time next = end > due ? end : due;
+    if (lets_go && computed + RISE > next) next = computed + RISE;
+    return next;
 }
 
 static bool step(void) { // whether there was an instruction
     bool ran = chip.runs;
     unsigned cycles = 2;
+    run_to(x);
+    lets_go = false;
+    computed = x + asked.compute + (asked.port ? held_up(x - due) : 0);
     if (chip.request && chip.enabled && !chip.in_service && x >= chip.request_at + chip.entry_late) {
         chip.request = false;
         if (last_entry && x - last_entry > longest_tick) longest_tick = x - last_entry;
@@ -566,7 +601,7 @@ static bool step(void) { // whether there was an instruction
         if (!execute(b)) return false;
     }
     count(cycles, ran);
-    x += (Time)cycles * CYCLE;
+    x = asked.port ? next_step(cycles) : x + (Time)cycles * CYCLE;
     return true;
 }
 

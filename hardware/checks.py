@@ -201,7 +201,7 @@ def _pin_tables(page: str) -> Dict[str, Dict[str, Tuple[str, str]]]:
 
 def _meant(board: Board, name: str, goes: str) -> Tuple[bool, Optional[str]]:
     """Whether the words are known, and the net that they mean."""
-    if goes.startswith("10 k to +5 V"):
+    if re.match(r"\d+ k to \+5 V", goes):
         return True, name
     for pattern, net in GOES:
         found = re.match(pattern, goes)

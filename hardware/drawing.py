@@ -37,6 +37,7 @@ _PLATES: List[Line] = [((-LEAD, 0), (-0.6, 0)), ((0.6, 0), (LEAD, 0)), ((-0.6, -
 # The shapes of two-pin parts, the first pin of which is at the left; but a diode's anode is at the left.
 SHAPES: Dict[str, List[Line]] = {
     "resistor": [((-LEAD, 0), (-GRID, 0)), box(-GRID, -0.9, GRID, 0.9), ((GRID, 0), (LEAD, 0))],
+    "fuse": [((-LEAD, 0), (LEAD, 0)), box(-GRID, -0.9, GRID, 0.9)],
     "capacitor": _PLATES,
     "electrolytic": _PLATES + [((-2.2, -1.2), (-1.2, -1.2)), ((-1.7, -1.7), (-1.7, -0.7))],
     "diode": _DIODE + [_BAR],
