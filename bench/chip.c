@@ -586,9 +586,11 @@ static Time next_step(unsigned cycles) {
 static bool step(void) { // whether there was an instruction
     bool ran = chip.runs;
     unsigned cycles = 2;
-    run_to(x);
     lets_go = false;
-    computed = x + asked.compute + (asked.port ? held_up(x - due) : 0);
+    if (asked.port) {
+        run_to(x);
+        computed = x + asked.compute + held_up(x - due);
+    }
     if (chip.request && chip.enabled && !chip.in_service && x >= chip.request_at + chip.entry_late) {
         chip.request = false;
         if (last_entry && x - last_entry > longest_tick) longest_tick = x - last_entry;

@@ -8,6 +8,7 @@
 #ifdef BOTH
 #include "kbd48.h"
 #endif
+#include <errno.h>
 #include <signal.h>
 #include <stdbool.h>
 #include <stdio.h>
@@ -31,9 +32,11 @@ typedef struct {
     size_t word_count, file_count, longest;
 } request;
 
+static void no_memory(void) { exit(EXIT_MEMORY); }
+
 static void *memory_for(void *old, size_t size) {
     void *at = realloc(old, size);
-    if (!at) exit(EXIT_MEMORY);
+    if (!at) no_memory();
     return at;
 }
 
@@ -44,6 +47,15 @@ static uint8_t *room_for(request *it, size_t size) {
 
 /* The name of the file of a word: so many of the first bytes, which are all alike. */
 static kbd48_piece name_of(const request *it, size_t number) { return (kbd48_piece){0, it->longest + number}; }
+
+/* Whether the C library had no memory for a file. */
+static bool lacks_memory(void) {
+#ifdef ENOMEM
+    return errno == ENOMEM;
+#else
+    return false;
+#endif
+}
 
 /* What a file has, as far as the longest limit and a byte; false if there is no such file or it can't be read. */
 static bool has_read(request *it, FILE *file, kbd48_piece *piece) {
@@ -62,9 +74,11 @@ static bool has_read(request *it, FILE *file, kbd48_piece *piece) {
 /* Adds the file that a word names. */
 static bool has_added(request *it, size_t number, const char *word) {
     kbd48_named added = {name_of(it, number), {0, 0}};
+    errno = 0;
     FILE *file = fopen(word, "rb");
     if (!file && !strcmp(word, "/dev/stdin")) file = stdin;
     bool whole = has_read(it, file, &added.file);
+    if (!whole && lacks_memory()) no_memory();
     if (file && file != stdin) fclose(file);
     if (!whole) return false;
     it->words[number] = added.name;

@@ -9,7 +9,7 @@ from boards import HERE, Refused, Table, pins_h
 TOP = HERE.parent
 HEADER = TOP / "c" / "kbd48_chip.h"
 COMPILER = "arm-none-eabi-gcc"
-FLAGS = ("-std=gnu11", "-mthumb", "-O2", "-g", "-Wall", "-Wextra", "-Werror", "-Wno-attribute-alias", "-ffreestanding", "-fno-tree-loop-distribute-patterns",
+FLAGS = ("-std=gnu11", "-mthumb", "-O2", "-g", "-Wall", "-Wextra", "-Werror", "-ffreestanding", "-fno-tree-loop-distribute-patterns",
          "-ffunction-sections", "-fdata-sections")
 
 

@@ -1,13 +1,10 @@
 """Which key is wired to which pins of a board, and what a finished file has."""
 import hashlib
-import sys
 from pathlib import Path
 
-from boards import HERE, Table
-from images import Image, judge_columns
-
-sys.path.insert(0, str(HERE.parent / "hardware"))
-from tables import Refused as LayoutRefused, read_layout  # noqa: E402
+from boards import Table
+from images import Image
+from layouts import judge_columns, keys_of
 
 
 def _key_at(keys, column: int, row: int) -> str:
@@ -16,8 +13,8 @@ def _key_at(keys, column: int, row: int) -> str:
 
 def wiring(layout: Path, table: Table) -> str:
     """A line for each row of the matrix, with the pins beside rows and columns; then the other pins."""
-    judge_columns(layout, layout.read_text(encoding="utf-8"), table)
-    keys = read_layout(layout)
+    judge_columns(layout, table)
+    keys = keys_of(layout)
     used = [column for column in table.columns if any(key.column == column for key in keys)]
     cells = [["row", "pin"] + ["column %d" % column for column in used],
              ["", ""] + [table.columns[column].name for column in used]]

@@ -23,7 +23,9 @@
 #ifdef HAL_SIM /* a board, a PC and time that are simulated: sim/ */
 #include "sim.h"
 #else
+#ifndef REG /* sim/registers.c has registers of its own */
 #define REG(at) (*(volatile uint32_t *)(at))
+#endif
 /* SysTick counts down 24 bits of the processor's clock. Here they are the upper 24 of 32, and count up. */
 #define HAL_CYCLE (BOARD_CLOCK_MHZ * 640u)
 static inline void systick_start(void) {

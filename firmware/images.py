@@ -1,15 +1,15 @@
 """The image of a layout, and its place in a finished file (image.h)."""
 import os
-import re
 import struct
 import subprocess
 import sys
 from dataclasses import dataclass
 from pathlib import Path
-from typing import List, Tuple
+from typing import Tuple
 
 import ihex
 from boards import HERE, Refused, Table
+from layouts import judge_columns, text_of
 
 MARK, FORM = b"kbd48img", 1
 HEAD = struct.Struct("<8sII16s96s")
@@ -31,35 +31,15 @@ def _program(text: str) -> bytes:
     return bytes(begin) + data + bytes(SIZE - begin - len(data))
 
 
-def _columns(text: str) -> List[int]:
-    """The line of each entry `column = N`, and N."""
-    found = []
-    for number, line in enumerate(text.splitlines(), 1):
-        bare = re.sub(r'"[^"]*"|#.*', "", line)
-        found += [(number, int(match[1])) for match in re.finditer(r"\bcolumn\s*=\s*(\d+)", bare)]
-    return found
-
-
-def judge_columns(path: Path, text: str, table: Table) -> None:
-    """Each column of a layout must have a pin."""
-    for number, column in _columns(text):
-        if column not in table.columns:
-            raise Refused("%s: line %d: column %d has no pin: %s has columns 0 to %d"
-                          % (path, number, column, table.name, len(table.columns) - 1))
-
-
 def of_layout(path: Path, table: Table) -> Image:
     """The image that `kbd48 compile` makes of a layout; a HEX file is an image already."""
-    try:
-        text = path.read_text(encoding="utf-8")
-    except (OSError, UnicodeDecodeError) as fault:
-        raise Refused("%s can't be read: %s" % (path, fault)) from fault
+    text = text_of(path)
     if text.lstrip()[:1] == ":":
         try:
             return Image(_program(text), False, path.name)
         except Refused as fault:
             raise Refused("%s: %s" % (path, fault)) from fault
-    judge_columns(path, text, table)
+    judge_columns(path, table)
     program = os.environ.get("KBD48") or str(HERE.parent / "kbd48")
     done = subprocess.run([program, "compile", str(path)], stdout=subprocess.PIPE, stderr=subprocess.PIPE, check=False)
     said = done.stderr.decode(errors="replace")

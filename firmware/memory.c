@@ -1,4 +1,4 @@
-/* What compilers call by themselves: the names of C, and those of the ARM's run-time ABI. So no C library is needed. */
+/* What compilers call by themselves. So no C library is needed. */
 #include <stddef.h>
 #include <stdint.h>
 
@@ -17,12 +17,3 @@ void *memset(void *to, int byte, size_t count) {
     for (size_t k = 0; k < count; k++) ((uint8_t *)to)[k] = (uint8_t)byte;
     return to;
 }
-
-/* The ABI's give nothing back, and its memset has count and byte the other way round. */
-#define AGAIN(name, of) void name(void) __attribute__((alias(#of)));
-AGAIN(__aeabi_memcpy, memcpy) AGAIN(__aeabi_memcpy4, memcpy) AGAIN(__aeabi_memcpy8, memcpy)
-AGAIN(__aeabi_memmove, memmove) AGAIN(__aeabi_memmove4, memmove) AGAIN(__aeabi_memmove8, memmove)
-void __aeabi_memset(void *to, size_t count, int byte) { memset(to, byte, count); }
-void __aeabi_memclr(void *to, size_t count) { memset(to, 0, count); }
-AGAIN(__aeabi_memset4, __aeabi_memset) AGAIN(__aeabi_memset8, __aeabi_memset)
-AGAIN(__aeabi_memclr4, __aeabi_memclr) AGAIN(__aeabi_memclr8, __aeabi_memclr)

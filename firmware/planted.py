@@ -8,7 +8,8 @@ from typing import Callable, List, Tuple
 import ihex
 import images
 import uf2
-from boards import FOLDER, HERE, Refused, Table, read_board, read_table
+from boards import FOLDER, HERE, Refused, Table, pins_h, read_board, read_table
+from build import run
 
 EXAMPLES = HERE.parent / "examples"
 US84 = EXAMPLES / "us84.toml"
@@ -111,6 +112,48 @@ def hex_files(folder: Path) -> str:
     return "8 planted faults refused"
 
 
+# A line of a HAL's start with a slip, and what the model of the registers says then.
+SLIPS = (
+    ("pico", "    out_of_reset(IO_BANK | PADS_BANK);\n", "", "the pads are touched in reset"),
+    ("pico", "6 << 16 | 2 << 12", "6 << 16 | 1 << 12", "MHz"), ("pico", "CLOCKS + 0x30) = 2;", "CLOCKS + 0x30) = 0;", "it waits for ever"),
+    ("pico", "ROWS & pin ? 1u << 3", "ROWS & pin ? 1u << 2", "a pad without input, or pulled down"),
+    ("pico", "PINS_DRIVE(LIGHTS | LATE)", "PINS_DRIVE(LIGHTS | CLOCK)", "the pins that are driven"),
+    ("pico", "1 << 9 | 12", "1 << 9 | 125", "watchdog"), ("pico", "0x1FFFC", "0x1FFFF", "what the watchdog resets"),
+    ("bluepill", "    PORT_PUT(port, rows | open_drain, lights);", "    PORT_PUT(port, rows, lights);", "a wire or a column is pulled at first"),
+    ("bluepill", "|= 0x1D", "|= 0x15", "a port is touched before it has a clock"), ("bluepill", "= 0x12;", "= 0x10;", "wait states"),
+    ("bluepill", "open_drain & pin ? 6", "open_drain & pin ? 2", "the mode of a pin"),
+    ("blackpill", "(BOARD_CLOCK_MHZ * 4) << 6", "BOARD_CLOCK_MHZ << 6", "MHz"), ("blackpill", "+ 4) |= open_drain", "+ 4) |= rows", "the drain"),
+    ("blackpill", "n, rows & pin ? 1 : 0)", "n, rows & pin ? 2 : 0)", "the pull or the drain of a pin"),
+)
+
+
+def registers(folder: Path) -> str:
+    """The start of each HAL, on a model of its chip's registers."""
+    told = []
+    for name in ("pico", "bluepill", "blackpill"):
+        table = read_board(name)
+        (folder / "pins.h").write_text(pins_h(table), encoding="ascii")
+        source = (HERE / table.facts["hal"]).with_suffix(".c").read_text(encoding="ascii")
+        for board, before, after, want in ((name, "", "", ""), *SLIPS):
+            if board == name:
+                if before and source.count(before) != 1:
+                    raise Refused("%s's start has '%s' %d times" % (name, before, source.count(before)))
+                said = _started(folder, table, source.replace(before, after) if before else source)
+                if want not in said or (want == "") != said.endswith("MHz\n"):
+                    raise Refused("%s, '%s' for '%s': %s" % (name, after, before, said))
+                told += ["%s %s" % (name, said.strip())] if not want else []
+    return "%s; %d slips found" % ("; ".join(told), len(SLIPS))
+
+
+def _started(folder: Path, table: Table, source: str) -> str:
+    """What the model says of a start."""
+    (folder / "start.c").write_text(source, encoding="ascii")
+    run(["cc", "-std=gnu11", "-O1", "-Wall", "-Wextra", "-Werror", "-Wno-unused", "-I", folder, "-I", HERE, '-DHAL="%s"' % table.facts["hal"],
+         '-DSTART="start.c"', HERE / "sim/registers.c", "-o", folder / "start"])
+    done = subprocess.run([str(folder / "start")], stdout=subprocess.PIPE, stderr=subprocess.STDOUT, check=False)
+    return done.stdout.decode()
+
+
 def layouts(folder: Path) -> str:
     """Layouts that don't fit, and calls of `make` as a user makes them."""
     narrow = folder / "narrow.txt"
@@ -140,4 +183,4 @@ def layouts(folder: Path) -> str:
 def tests(folder: Path) -> List[Tuple[str, Callable[[], str]]]:
     """The tests, with their names."""
     return [(name, lambda test=test: test(folder)) for name, test in (
-        ("tables", tables), ("UF2 files", uf2_files), ("HEX files", hex_files), ("make", layouts))]
+        ("tables", tables), ("UF2 files", uf2_files), ("HEX files", hex_files), ("make", layouts), ("the start of each board", registers))]

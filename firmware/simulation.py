@@ -9,6 +9,7 @@ from typing import Dict, List, Sequence, Tuple
 import build
 import images
 from boards import HERE, Refused, Table, read_board
+from layouts import keys_of
 
 TOP = HERE.parent
 SOURCES = [HERE / "main.c", HERE / "image.c", HERE / "start.c", HERE / "memory.c", HERE / "sim/sim.c", HERE / "sim/pc.c", HERE / "sim/semihost.c"]
@@ -73,12 +74,7 @@ def program(machine: Machine, folder: Path, layout: Path, defines: Sequence[str]
 
 def places(layout: Path) -> Dict[str, int]:
     """The place of each key of a layout, by its name."""
-    text = layout.read_text(encoding="utf-8")
-    found = {}
-    for entry in re.split(r"^\[\[key\]\]", text, flags=re.MULTILINE)[1:]:
-        fields = dict(re.findall(r'^(\w+) = "?([^"\n]*)"?$', entry, re.MULTILINE))
-        found[fields.get("key", "fn")] = 8 * int(fields["column"]) + int(fields["row"])
-    return found
+    return {key.name: 8 * key.column + key.row for key in keys_of(layout)}
 
 
 def scan_codes() -> bytes:

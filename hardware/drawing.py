@@ -5,7 +5,7 @@ from tables import Key, Part, Pin, Type
 
 GRID = 2.54
 LEAD = 2 * GRID
-SHEET = "A2"
+SHEET = "A1"
 
 Point = Tuple[float, float]
 Line = Tuple[Point, ...]
@@ -78,16 +78,30 @@ def _grid(parts: List[Part], x: float, y: float, step: Point, rows: int) -> Iter
         yield Placed(part, round(x + step[0] * (number // rows), 2), round(y + step[1] * (number % rows), 2))
 
 
-def placed(parts: List[Part], keys: List[Key]) -> List[Placed]:
-    """The parts with their places: the chips above, the small parts beside them, the keys below as a matrix."""
-    chips = [part for part in parts if part.type.name not in SHAPES]
-    in_matrix = {"%s%d" % (letter, number) for number in range(1, len(keys) + 1) for letter in ("SW", "D")}
-    small = [part for part in parts if part.type.name in SHAPES and part.reference not in in_matrix]
-    items = list(_grid(chips, 24 * GRID, 34 * GRID, (28 * GRID, 0), 1))
-    items += _grid(small, 140 * GRID, 12 * GRID, (20 * GRID, 4 * GRID), 13)
+def _blocks(parts: Dict[str, Part], blocks: Dict[str, List[str]]) -> Iterator[Placed]:
+    """The parts of each block below one another, the blocks side by side."""
+    x = 164 * GRID
+    for references in blocks.values():
+        y = 24 * GRID
+        for reference in references:
+            drawn = shape(parts[reference].type)
+            high = max(4, len(drawn.ends) + 1 if parts[reference].type.name not in SHAPES else 0)
+            yield Placed(parts[reference], round(x, 2), round(y + GRID * (high // 2 - 2), 2))
+            y += GRID * high
+        x += 62 * GRID if any(parts[reference].type.name not in SHAPES for reference in references) else 44 * GRID
+
+
+def placed(parts: List[Part], keys: List[Key], blocks: Dict[str, List[str]]) -> List[Placed]:
+    """The parts with their places: the chips above, the blocks beside them, what is in none below these, and the keys as a matrix."""
     by_reference = {part.reference: part for part in parts}
+    grouped = {reference for references in blocks.values() for reference in references}
+    in_matrix = {"%s%d" % (letter, number) for number in range(1, len(keys) + 1) for letter in ("SW", "D")}
+    left = [part for part in parts if part.reference not in grouped | in_matrix]
+    items = list(_grid([part for part in left if part.type.name not in SHAPES], 24 * GRID, 34 * GRID, (40 * GRID, 0), 1))
+    items += _grid([part for part in left if part.type.name in SHAPES], 128 * GRID, 12 * GRID, (20 * GRID, 4 * GRID), 13)
+    items += _blocks(by_reference, blocks)
     for number, key in enumerate(keys, 1):
-        x, y = (16 + 17 * key.column) * GRID, (72 + 4 * key.row) * GRID
+        x, y = (16 + 17 * key.column) * GRID, (96 + 4 * key.row) * GRID
         items.append(Placed(by_reference["SW%d" % number], round(x, 2), round(y, 2)))
         items.append(Placed(by_reference["D%d" % number], round(x + 2 * LEAD, 2), round(y, 2)))
     return items

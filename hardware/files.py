@@ -5,7 +5,7 @@ from typing import Dict
 from kicad import library, library_table, netlist, schematic
 from lists import matrix, parts_list
 from picture import picture
-from tables import HERE, TABLE, read_board, read_layout
+from tables import HERE, TABLE, read_blocks, read_board, read_layout
 
 PICO = HERE / "pico.txt"
 
@@ -16,8 +16,9 @@ def made(layout: Path) -> Dict[str, str]:
     boards = {path.stem: read_board(keys, path) for path in (TABLE, PICO)}
     texts = {"matrix.txt": matrix(keys), "sym-lib-table": library_table(),
              "kbd48.kicad_sym": library([part for parts in boards.values() for part in parts])}
-    for name, parts in boards.items():
-        texts[name + ".kicad_sch"], texts[name + ".svg"] = schematic(parts, keys), picture(parts, keys)
+    for path in (TABLE, PICO):
+        name, parts, blocks = path.stem, boards[path.stem], read_blocks(path)
+        texts[name + ".kicad_sch"], texts[name + ".svg"] = schematic(parts, keys, blocks), picture(parts, keys, blocks)
         texts[name + ".net"] = netlist(parts)
         texts["parts.csv" if name == "board" else name + "_parts.csv"] = parts_list(parts)
     return texts

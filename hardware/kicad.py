@@ -3,7 +3,8 @@ import re
 import uuid
 from typing import Any, Dict, List, Set, Tuple
 
-from drawing import SHEET, Line, Placed, Shape, ends, placed, shape
+from drawing import SHEET, Line, Placed, Point, Shape, ends, placed, shape
+from routes import Routes, routed, titles
 from tables import Key, Nets, Node, Part, Type, nets_of
 
 KINDS = {"in": "input", "out": "output", "io": "bidirectional", "oc": "open_collector", "power": "power_in",
@@ -57,7 +58,19 @@ def _label(net: str, x: float, y: float, side: int) -> str:
         net, x, y, angle, justify, _id("label", x, y))
 
 
-def _instance(item: Placed) -> List[str]:
+def _drawn_wires(routes: Routes) -> List[str]:
+    """Wires, dots and labels."""
+    lines = ['(wire (pts (xy %g %g) (xy %g %g)) (stroke (width 0) (type default) (color 0 0 0 0)) (uuid %s))' % (
+        *begin, *end, _id("wire", *begin, *end)) for begin, end in routes.wires]
+    lines += ['(junction (at %g %g) (diameter 0) (color 0 0 0 0) (uuid %s))' % (*at, _id("dot", *at)) for at in routes.dots]
+    return lines + [_label(net, *at, side) for net, at, side in routes.labels]
+
+
+def _title(title: str, at: Point) -> str:
+    return '(text "%s" (at %g %g 0) (effects (font (size 2.5 2.5))) (uuid %s))' % (title, *at, _id("title", title))
+
+
+def _instance(item: Placed, joined: Set[Node]) -> List[str]:
     part, drawn = item.part, shape(item.part.type)
     above = 2.54 if len(part.type.pins) == 2 else max(abs(y) for line in drawn.lines for _, y in line) + 2.54
     pins = " ".join('(pin "%s" (uuid %s))' % (pin.number, _id(part.reference, pin.number)) for pin in part.type.pins.values())
@@ -67,7 +80,7 @@ def _instance(item: Placed) -> List[str]:
     for pin, (x, y) in ends(item).items():
         if pin not in part.nets:
             lines.append("(no_connect (at %g %g) (uuid %s))" % (x, y, _id("open", x, y)))
-        elif not part.nets[pin].startswith("KEY"):  # a key's switch and diode touch
+        elif (part.reference, pin) not in joined and not part.nets[pin].startswith("KEY"):  # a key's switch and diode touch
             lines.append(_label(part.nets[pin], x, y, drawn.sides[pin]))
     return lines
 
@@ -103,12 +116,14 @@ def library_table() -> str:
     return '(sym_lib_table\n  (lib (name "%s")(type "KiCad")(uri "%s")(options "")(descr ""))\n)\n' % (LIBRARY, place)
 
 
-def schematic(parts: List[Part], keys: List[Key]) -> str:
+def schematic(parts: List[Part], keys: List[Key], blocks: Dict[str, List[str]]) -> str:
     """The schematic."""
-    items = placed(parts, keys)
+    items = placed(parts, keys, blocks)
+    routes = routed(items, keys, blocks)
     body, paths = _flags()
+    body += _drawn_wires(routes) + [_title(*title) for title in titles(items, blocks)]
     for item in items:
-        body += _instance(item)
+        body += _instance(item, routes.joined)
         part = item.part
         paths.append('(path "/%s" (reference "%s") (unit 1) (value "%s") (footprint "%s"))' % (
             _id(part.reference), part.reference, part.value, part.type.footprint))
@@ -161,11 +176,38 @@ def symbol_pins(symbol: Tree) -> Dict[str, Tree]:
     return {named(pin, "number")[0][1]: pin for unit in named(symbol, "symbol") for pin in named(unit, "pin")}
 
 
+def _points(tree: Tree) -> List[Point]:
+    return [(float(point[1]), float(point[2])) for point in named(named(tree, "pts")[0], "xy")]
+
+
+def _is_inside(point: Point, begin: Point, end: Point) -> bool:
+    """Whether a point is on a straight wire, but at neither end."""
+    (x, y), (a, b), (c, d) = point, begin, end
+    on_line = a == c == x and min(b, d) < y < max(b, d) or b == d == y and min(a, c) < x < max(a, c)
+    return on_line and point not in (begin, end)
+
+
+def _joined(places: Set[Point], wires: List[Tuple[Point, Point]]) -> Dict[Point, Point]:
+    """One place for all that wires join, by each place. A wire joins its ends alone, so none may pass over another's end, or over a
+    pin or a label."""
+    for place in places | {end for wire in wires for end in wire}:
+        for begin, end in wires:
+            if _is_inside(place, begin, end):
+                raise KeyError("a wire passes over %s" % (place,))
+    group = {place: place for place in places | {end for wire in wires for end in wire}}
+    for begin, end in wires:
+        old, new = group[begin], group[end]
+        if old != new:
+            group.update({place: new for place, its in group.items() if its == old})
+    return group
+
+
 def drawn_nets(text: str) -> Tuple[Nets, Set[Node]]:
-    """The nets of a schematic, found from where its pins and labels are, and the open pins. Pins are given by their numbers."""
+    """The nets of a schematic, found from where its pins, wires and labels are, and the open pins. Pins are given by their
+    numbers."""
     tree = read_tree(text)
     symbols = {symbol[1]: symbol_pins(symbol) for symbol in named(named(tree, "lib_symbols")[0], "symbol")}
-    at: Dict[Tuple[float, float], Set[Node]] = {}
+    at: Dict[Point, Set[Node]] = {}
     for item in named(tree, "symbol"):
         x, y = map(float, named(item, "at")[0][1:3])
         reference = next(prop[2] for prop in named(item, "property") if prop[1] == "Reference")
@@ -174,10 +216,10 @@ def drawn_nets(text: str) -> Tuple[Nets, Set[Node]]:
             if not reference.startswith("#"):
                 at.setdefault((round(x + dx, 2), round(y - dy, 2)), set()).add((reference, number))
     opened = {node for mark in named(tree, "no_connect") for node in at.pop(tuple(map(float, named(mark, "at")[0][1:3])))}
+    labels = [(label[1], tuple(map(float, named(label, "at")[0][1:3]))) for label in named(tree, "global_label")]
+    group = _joined(set(at) | {place for _, place in labels}, [tuple(_points(wire)) for wire in named(tree, "wire")])
+    names = {group[place]: net for net, place in labels}
     nets: Nets = {}
-    for label in named(tree, "global_label"):
-        place = tuple(map(float, named(label, "at")[0][1:3]))
-        nets.setdefault(label[1], set()).update(at.pop(place, set()))
-    for nodes in at.values():
-        nets["touching " + " ".join(map("/".join, sorted(nodes)))] = nodes
+    for place, nodes in at.items():
+        nets.setdefault(names.get(group[place], "at %s %s" % group[place]), set()).update(nodes)
     return nets, opened

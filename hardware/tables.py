@@ -108,8 +108,8 @@ def read_board(keys: List[Key], path: Path = TABLE) -> List[Part]:
                 parts.append(_part(types, words[0], words[1:]))
             elif what == "key":
                 parts += _keys(types, keys, words)
-            else:
-                raise ValueError("a line begins with type, part or key")
+            elif what != "block":
+                raise ValueError("a line begins with type, part, key or block")
         except (ValueError, KeyError, IndexError, TypeError) as fault:
             raise Refused("%s: line %d: %s" % (path.name, number, fault)) from fault
     if len({part.reference for part in parts}) < len(parts):
@@ -118,6 +118,11 @@ def read_board(keys: List[Key], path: Path = TABLE) -> List[Part]:
     for part in parts:
         part.nets = {pin: net for pin, net in part.nets.items() if net in used or not re.match(r"COL\d", net)}
     return parts
+
+
+def read_blocks(path: Path = TABLE) -> Dict[str, List[str]]:
+    """The blocks of a board: parts that are drawn together, with wires, under a title."""
+    return {words[1]: words[2:] for _, words in _paragraphs(path) if words[0] == "block"}
 
 
 def read_layout(path: Path) -> List[Key]:

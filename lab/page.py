@@ -129,7 +129,7 @@ def page(keyboard: str, program: str, sources: str) -> str:
         raise Broken("a script or the style ends itself")
     policy = (
         f"default-src 'none'; script-src {policy_hash(code)} 'wasm-unsafe-eval'; style-src {policy_hash(style)}; "
-        "img-src data:; base-uri 'none'; form-action 'none'"
+        "img-src data:; worker-src blob:; base-uri 'none'; form-action 'none'"
     )
     fields = {
         "<!--POLICY-->": f'<meta http-equiv="Content-Security-Policy" content="{policy}">',

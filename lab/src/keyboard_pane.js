@@ -2,10 +2,11 @@
 import { BoardOpener, shapes } from './board_opener.js';
 import { byId, fill, make, tell } from './dom.js';
 import { files, named, onFile, originals } from './files.js';
-import { HEIGHT, SHAPES, WIDTH, isWhite, keyOfCode, keysOf, legendOf } from './places.js';
+import { HEIGHT, SHAPES, WIDTH, isWhite, keyOfCode, keysOf, legendOf, saidOfKey } from './places.js';
 import { explained, kbd48 } from './program.js';
 
 const TAP = 60; // ms that a key is held if its release isn't reported
+const FINGER_STAYS = 140, FINGER_MOVES = 8, CLICK_AFTER = 1000; // ms after which a finger holds its key; pixels; ms
 const LEAVE = 500; // ms between the two Escapes that leave the keyboard
 const STICKS = new Set(['lshift', 'rshift', 'ctrl', 'alt']);
 const NOTES = ['Click the keyboard, and type. Your keys go to it while it has the focus. Escape twice, and Tab leaves it.',
@@ -79,8 +80,8 @@ export class KeyboardPane {
       was never drawn up, changes between two looks. */
   draw() {
     for (const [name, wentDown] of this.moved) {
-      const isDown = this.held.get(name).size > 0, { classList } = this.drawn.get(name);
-      classList.toggle('down', wentDown || isDown);
+      const isDown = this.held.get(name).size > 0, element = this.drawn.get(name), { classList } = element;
+      element.setAttribute('aria-pressed', String(classList.toggle('down', wentDown || isDown)));
       classList.toggle('anew', (wentDown || isDown) && classList.contains('anew') !== this.anew.has(name));
       if (wentDown && !isDown) this.moved.set(name, false);
       else this.moved.delete(name);
@@ -113,12 +114,17 @@ export class KeyboardPane {
     this.drawn.clear();
     this.board.replaceChildren();
     for (const [at, key] of this.keys.entries()) {
-      const { x, y, width, height } = places[at], element = make('div', { className: isWhite(key.sends) ? 'white' : 'grey' });
+      const { x, y, width, height, turned } = places[at], element = make('div', { className: isWhite(key.sends) ? 'white' : 'grey' });
+      element.setAttribute('role', 'button');
+      element.setAttribute('aria-pressed', 'false');
+      element.setAttribute('aria-label', key.fn ? 'Fn' : saidOfKey(key.sends));
       const unit = 100 / wide, row = 100 / high, [right, down] = whole ? [x, y] : [x - left, y - top];
       Object.assign(element.style, {
         left: `${right * unit}%`, top: `calc(${down * row}% + 3px)`,
         width: `calc(${width * unit}% - 3px)`, height: `calc(${height * row}% - 6px)`,
       });
+      // A turned key is turned about a point of the board.
+      if (turned?.by) Object.assign(element.style, { transform: `rotate(${turned.by}deg)`, transformOrigin: `${(turned.x - x) * 100 / width}% ${(turned.y - y) * 100 / height}%` });
       element.dataset.key = key.name;
       this.drawn.set(key.name, element);
       this.board.append(element);
@@ -137,24 +143,60 @@ export class KeyboardPane {
 
   #point(element, key) {
     const sticks = STICKS.has(key.sends) || key.fn;
-    element.addEventListener('pointerdown', event => {
-      event.preventDefault();
-      this.board.focus();
+    let finger = null, pointed = -Infinity;
+    const down = event => {
       if (sticks && (byId('sticky').checked || event.pointerType === 'touch')) {
-        const down = !this.stuck.delete(key.name);
-        if (down) this.stuck.add(key.name);
-        this.hold(key.name, down, 'stuck');
-      } else {
-        element.setPointerCapture(event.pointerId);
-        this.hold(key.name, true, 'pointer');
-      }
-    });
+        const isStuck = !this.stuck.delete(key.name);
+        if (isStuck) this.stuck.add(key.name);
+        this.hold(key.name, isStuck, 'stuck');
+      } else this.hold(key.name, true, 'pointer');
+    };
     const up = () => {
       this.hold(key.name, false, 'pointer');
       if (!sticks) this.#unstick();
     };
-    element.addEventListener('pointerup', up);
-    element.addEventListener('pointercancel', up);
+    const forget = () => {
+      clearTimeout(finger?.timer);
+      finger = null;
+    };
+    element.addEventListener('pointerdown', event => {
+      this.board.focus({ preventScroll: true });
+      if (event.pointerType !== 'touch') {
+        event.preventDefault();
+        element.setPointerCapture(event.pointerId);
+        down(event);
+        return;
+      }
+      // A finger that goes down may be about to move the page: it types when it goes up, or stays.
+      const timer = setTimeout(() => {
+        finger.isDown = true;
+        down(event);
+      }, FINGER_STAYS);
+      finger = { x: event.clientX, y: event.clientY, timer, isDown: false };
+    });
+    element.addEventListener('pointermove', event => {
+      if (finger && !finger.isDown && Math.hypot(event.clientX - finger.x, event.clientY - finger.y) > FINGER_MOVES) forget();
+    });
+    element.addEventListener('pointerup', event => {
+      pointed = event.timeStamp;
+      if (event.pointerType !== 'touch') up();
+      else if (finger?.isDown) up();
+      else if (finger) {
+        down(event);
+        setTimeout(up, TAP);
+      }
+      forget();
+    });
+    element.addEventListener('pointercancel', () => {
+      if (!finger || finger.isDown) up();
+      forget();
+    });
+    // Assistive technology clicks; a pointer was heard already.
+    element.addEventListener('click', event => {
+      if (event.timeStamp - pointed < CLICK_AFTER) return;
+      down({ pointerType: 'touch' });
+      setTimeout(up, TAP);
+    });
   }
 
   #unstick() {

@@ -1,9 +1,13 @@
 // The lessons: each has a file to change, a task, two hints, and what it asks of the file (`judges`). `begin` says which texts of
 // an example are replaced for the first form of the file, or `start` is that form. `command` runs what one has made, in which OWN
 // is the file and IMAGE its image.
-import { certifies, columnOf, saysOfBytes, sendsOnPress, writesBeforeRead } from './course/asked.js';
+import { certifies, columnOf, columnsOf, doesInTrials, saysOfBytes, sendsOnPress, writesBeforeRead } from './course/asked.js';
+import { MAKES, SILENT, TAKES } from './course/programs.js';
+import { answers, atPowerOn, makeTrials, silences, strokesOf, withBreaks } from './course/trials.js';
 
 const FOUR_KEYS = ['a', 'b', 'c', 'd'], FOUR_CODES = ['1C', '32', '21', '23'];
+const MATRIX = [FOUR_KEYS, ['e', 'f', 'g', 'h']], EIGHT_KEYS = MATRIX.flat(), EIGHT_CODES = [...FOUR_CODES, '24', '2B', '34', '33'];
+const ASKED = [['EE', ['EE']], ['ED', ['FA']], ['F4', ['FA']], ['FF', ['FA', 'AA']], ['00', ['FA']]];
 
 export const LESSONS = [
   {
@@ -97,6 +101,53 @@ export const LESSONS = [
     begin: [['01D 398', '01D 397']],
     command: 'cert four_keys.hex OWN',
     judges: certifies('four_keys.hex', '057', '01D', 400),
+  },
+  {
+    title: 'Send one byte',
+    text: ['A keyboard that was switched on tests itself and says so with the byte AA. This program has a subroutine that sends the byte in R0, and doesn\'t call it.',
+      'CALL goes to a subroutine, whose RET comes back to the instruction after the CALL.'],
+    task: 'Let the program send AA once after power-on, and nothing else.',
+    hints: ['The byte must be in R0 before send is called.', 'After the CALL the program must not run on into the subroutine: halt stays where it is.'],
+    file: 'lesson9.asm',
+    start: SILENT,
+    command: 'board IMAGE four_keys.toml four_keys.keys',
+    judges: doesInTrials(columnOf(FOUR_KEYS), [...atPowerOn(['AA']), ...atPowerOn(['AA'], '10ms press a\n60ms release a\n100ms end\n')]),
+  },
+  {
+    title: 'A key that goes up',
+    text: ['The PC must know how long a key is held: with Shift it makes capitals. A key that goes up sends two bytes, F0 and its code.',
+      'In this program R5 has a 1 for each row that changed, and R1 a 1 for each key that is down. Both are turned together, so bit 0 is the row whose code R6 names.'],
+    task: 'Let a key that goes up send F0, and then its code.',
+    hints: ['A key went up if its bit of R5 is 1 and its bit of R1 is 0: that is before JMP turn.', 'Two calls of send are needed. The second is the one that a key that goes down has too.'],
+    file: 'lesson10.asm',
+    start: MAKES,
+    command: 'board IMAGE four_keys.toml four_keys.keys',
+    judges: doesInTrials(columnOf(FOUR_KEYS), [...withBreaks(makeTrials(FOUR_KEYS, FOUR_CODES), FOUR_KEYS, FOUR_CODES), ...silences(FOUR_KEYS)],
+      { name: 'a', code: '1C', as: trial => ({ ...trial, bytes: ['1C', 'F0', '1C'] }) }),
+  },
+  {
+    title: 'Scan a matrix',
+    text: ['Eight keys need eight rows, or two columns of four rows. A matrix of 12 columns and 8 rows has room for 96 keys, and needs 12 steps to read them all.',
+      'The keys e to h are in column 1, rows 0 to 3. Their codes are 24, 2B, 34 and 33. A key sends its code when it goes down.'],
+    task: 'Let the program read both columns in turn, and send the codes of all eight keys.',
+    hints: ['Each column needs a register of its own for the keys that were down.', 'With one byte for both columns the rest of the program stays: read column 0 into the low four bits, column 1 into the high four (SWAP A), and join them with ORL A,R1.'],
+    file: 'lesson11.asm',
+    start: MAKES,
+    extra: { 'eight_keys.toml': columnsOf(MATRIX), 'eight_keys.keys': '10ms press a\n60ms release a\n100ms press e\n160ms release e\n200ms end\n' },
+    command: 'board IMAGE eight_keys.toml eight_keys.keys',
+    judges: doesInTrials(columnsOf(MATRIX), [...strokesOf(EIGHT_KEYS, EIGHT_CODES), ...makeTrials(['a', 'e', 'd', 'h'], ['1C', '24', '23', '33']), ...silences(EIGHT_KEYS)], { name: 'h', code: '33' }),
+  },
+  {
+    title: 'Answer the PC: EE and FF',
+    text: ['The PC writes bytes to the keyboard: EE asks for an echo, FF for a reset. If the clock is high and data is low, the keyboard must give eleven clocks, and pull data for the last one. The subroutine take does that.',
+      'The keyboard answers each byte: EE with EE, any other with FA. After FF it sends FA, begins anew, and says AA as after power-on.'],
+    task: 'Let the program answer EE with EE, FF with FA and AA, and each other byte with FA. After power-on it sends nothing.',
+    hints: ['XRL A,#0EEH makes A 0 if it was EE. R0 still has the byte.', 'Between FA and AA the answer to the PC\'s byte is over: send waits until the wires are free.'],
+    file: 'lesson12.asm',
+    start: TAKES,
+    extra: { 'asked.keys': '10ms write60 EE\n30ms write60 FF\n60ms end\n' },
+    command: 'board IMAGE four_keys.toml asked.keys',
+    judges: doesInTrials(columnOf(FOUR_KEYS), [...answers(ASKED), { says: 'nobody writes', keys: '50ms end\n', bytes: [], calm: true }]),
   },
 ];
 

@@ -8,6 +8,7 @@ import { COPIES_APART, History } from './history.js';
 
 export const CYCLES_OF_A_MS = 400, FIRST_STAMP = 4096;
 const KEPT = 40000, TRIMMED = 30000;
+const TICK_CYCLES = 2048;
 const LAST_STAMP = 240_000_000, MOST_EVENTS = 65_536; // of a key file
 // An item in the words of the log; what the page itself takes from the buffer of INT 09h isn't said.
 const SAYS = {
@@ -34,6 +35,7 @@ export class Live {
     Object.assign(this, { keyboard, names, pushed: [], orders: [], events: [], edges: [], bytes: [], items: [] });
     this.up = false;
     this.masked = false;
+    this.handedAt = -Infinity;
     /** It rises with all that can be seen: an edge, a byte, a line of the log. */
     this.news = 0;
     keyboard.openLayout(new TextEncoder().encode(layout));
@@ -53,6 +55,9 @@ export class Live {
 
   /** Whether nothing will be seen for a while: no key is down, and nothing was handed in for a second. */
   get isCalm() { return this.isQuiet && !this.down.size && this.cycle - this.stirred > CALM_AFTER; }
+
+  /** Whether an edge of a key waits, or was handed in so late that the keyboard may not have read it yet. */
+  get isUnseen() { return this.pushed.length > 0 || this.cycle - this.handedAt < TICK_CYCLES; }
 
   // Whoever runs this keyboard hears before something is handed in.
   #stir() {
@@ -173,6 +178,7 @@ export class Live {
     const { keyboard, pushed, cycle, stamp } = this, { status } = keyboard.runKeys(1, true);
     if (keyboard.queued() === pushed.length) return status;
     const { place, down } = pushed.shift();
+    this.handedAt = cycle;
     this.history.note(cycle, copy => copy.key(place, down));
     this.events.push({ stamp, words: `${down ? 'press' : 'release'} ${this.names.get(place)}` });
     return status;

@@ -1,8 +1,10 @@
 // The page: it starts the two modules, and shows the panes that are chosen.
 import { Keyboard, Program } from '../kbd48.mjs';
+import { serveRuns } from './long_runs.js';
 import { answerOfBoards } from './board_opener.js';
-import { byId, setHidden } from './dom.js';
+import { byId, setHidden, setText } from './dom.js';
 import { files } from './files.js';
+import { fillGlossary } from './glossary.js';
 import { keeping } from './keeping.js';
 import { KeyboardPane } from './keyboard_pane.js';
 import { LESSONS } from './lessons.js';
@@ -11,8 +13,11 @@ import { CYCLES_OF_A_MS, Live } from './live.js';
 import { Pc } from './pc.js';
 import { ProcessorPane, isStopped } from './processor_pane.js';
 import { useProgram } from './program.js';
+import { runs } from './runs.js';
 import { bytesOf, sharedIn, unpacked } from './share.js';
 import { bring, listenToDrops } from './taking.js';
+import { Tour } from './tour.js';
+import { watchKeys } from './where_keys_go.js';
 import { WiresPane } from './wires_pane.js';
 import { WorkbenchPane } from './workbench_pane.js';
 
@@ -26,6 +31,10 @@ const STRETCH = 40, CALM_STRETCH = 100, SOON = 20; // ms
 // drawn a little later. If time is slow, which somebody watches, wires and logs are drawn ten times a second.
 const FAST = 240; // ms between two strokes
 const BETWEEN_NEWS = 240, BETWEEN_FAST_NEWS = 900, BETWEEN_PICTURES = 160, LATEST = 100; // ms
+const SAID_AFTER = 900, BETWEEN_STILLS = 1500; // ms
+// Somebody who wants little motion sees a new picture of the wires now and then.
+const isStill = matchMedia('(prefers-reduced-motion: reduce)');
+const SELF_TEST = 135_168, TICK_MS = 5.12; // cycles until AA has been read; ms
 const STROKE = 150; // ms after which a key that is down is a held one
 // A key that went up is drawn after a tenth of a second at the latest, or after 150 ms if somebody types fast.
 const UP_LATEST = LATEST - SOON, FAST_UP_LATEST = 150; // ms
@@ -78,9 +87,15 @@ class Lab {
       byId('speed').value = '1';
       byId('board').focus();
     };
-    for (const button of document.querySelectorAll('#panes button')) {
-      button.onclick = () => this.show(button.dataset.pane, button.getAttribute('aria-pressed') !== 'true');
+    for (const button of document.querySelectorAll('#panes [data-pane]')) button.onclick = () => this.show(button.dataset.pane, true);
+    for (const button of document.querySelectorAll('[data-hides]')) {
+      button.onclick = () => {
+        this.show(button.dataset.hides, false);
+        document.querySelector(`#panes [data-pane=${button.dataset.hides}]`).focus();
+      };
     }
+    this.tour = new Tour(name => this.show(name, true));
+    fillGlossary();
     for (const button of document.querySelectorAll('button[data-pane]')) this.show(button.dataset.pane, button.getAttribute('aria-pressed') === 'true', false);
     const watch = new IntersectionObserver(entries => this.#seen(entries));
     for (const pane of [this.keys, this.wires, this.processor]) watch.observe(pane.element);
@@ -133,6 +148,7 @@ class Lab {
     if (!down && this.timer !== null && this.#isFast) this.#wait(this.#stretch);
   }
 
+  /** Shows a pane and goes to it, or hides it. */
   show(name, shown, scrolled = true) {
     const pane = byId(name);
     pane.hidden = !shown;
@@ -144,8 +160,11 @@ class Lab {
 
   /** Lets so many milliseconds pass for the keyboard, at the speed that is chosen. */
   pass(ms) {
-    const speed = Number(byId('speed').value);
+    const chosen = Number(byId('speed').value), { live } = this;
+    // Nobody waits for the self-test at a thousandth.
+    const speed = chosen > 0 && live.stamp < SELF_TEST ? 1 : chosen;
     setHidden(byId('stopped'), speed !== 0);
+    this.#sayWaiting(speed);
     this.owed += Math.min(ms, LONGEST) * CYCLES_OF_A_MS * speed;
     const cycles = Math.floor(this.owed), before = this.live.cycle;
     if (cycles > 0) {
@@ -153,6 +172,13 @@ class Lab {
       this.owed -= this.live.cycle - before;
     }
     this.keys.lamps(this.keyboard.lights());
+  }
+
+  // At a slow speed a key that went down isn't seen at once.
+  #sayWaiting(speed) {
+    const isWaiting = speed > 0 && speed < 1 && this.live.isUnseen;
+    setHidden(byId('waiting'), !isWaiting);
+    if (isWaiting) setText(byId('waiting'), `The key waits for the scan: the keyboard reads its keys once in 5.12 ms, which are ${(TICK_MS / speed / 1000).toFixed(2)} s at this speed.`);
   }
 
   // Whether time is real.
@@ -166,6 +192,7 @@ class Lab {
   #isDue(isSharp, isUp) {
     const { last, live } = this, isReal = this.#isReal;
     if (live.news === this.news) return last - this.drawn >= BETWEEN_PICTURES;
+    if (isStill.matches && last - this.newsDrawn < BETWEEN_STILLS) return false;
     this.since ??= last;
     const ago = last - this.newsDrawn, waited = last - this.since;
     if (this.#isFast) return isSharp && ago >= BETWEEN_FAST_NEWS;
@@ -180,6 +207,11 @@ class Lab {
     this.keys.draw();
     this.pc.draw();
     this.upSince = this.keys.wentUp ? this.last : null;
+  }
+
+  // What was typed is said when nothing was typed for a while: a screen reader needn't say each letter.
+  #sayTyped() {
+    if (this.pc.unsaid && this.last - this.pressed > SAID_AFTER) byId('heard').textContent = this.pc.takeUnsaid();
   }
 
   /** Draws what changed in the other panes that are in sight. */
@@ -197,6 +229,7 @@ class Lab {
     const isUpNow = isUp && (isDue || last - this.upSince >= (this.#isFast ? FAST_UP_LATEST : UP_LATEST));
     if (isSharp || isUpNow) this.drawKeys();
     if (isDue) this.draw();
+    this.#sayTyped();
   }
 
   // The keyboard's time goes on up to now.
@@ -247,13 +280,16 @@ class Lab {
 }
 
 async function begin() {
-  const [keyboard, program] = await Promise.all([moduleOf('keyboard-module').then(Keyboard.load), moduleOf('program-module').then(Program.load)]);
+  const [keyboardModule, programModule] = await Promise.all(['keyboard-module', 'program-module'].map(moduleOf));
+  const [keyboard, program] = await Promise.all([Keyboard.load(keyboardModule), Program.load(programModule)]);
   useProgram(program);
+  runs.begin(programModule, serveRuns.name);
   keeping.begin();
   const shared = await sharedIn(location.hash).catch(error => { trouble(error); return null; });
   const lab = new Lab(keyboard, program);
   globalThis.lab = lab;
   if (!shared) byId('board').focus({ preventScroll: true });
+  watchKeys();
   lab.takeLink(shared).catch(trouble);
   lab.tick();
 }

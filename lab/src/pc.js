@@ -10,7 +10,7 @@ const CURSOR = '▁';
 export class Pc {
   /** `order(port, byte)` lets the PC write a byte; its screen is drawn into an element. */
   constructor(order, element) {
-    Object.assign(this, { order, lights: 0, lock: 0, screen: new Screen(element) });
+    Object.assign(this, { order, lights: 0, lock: 0, unsaid: '', screen: new Screen(element) });
   }
 
   byte(byte) {
@@ -23,7 +23,18 @@ export class Pc {
     }
   }
 
-  word(word) { this.screen.put(word & 255); }
+  word(word) {
+    const code = word & 255;
+    this.screen.put(code);
+    this.unsaid += code === BACKSPACE ? ' backspace ' : code === ENTER ? ' enter ' : code >= FIRST && code <= LAST ? String.fromCharCode(code) : '';
+  }
+
+  /** What was put on the screen since this was asked last. */
+  takeUnsaid() {
+    const { unsaid } = this;
+    this.unsaid = '';
+    return unsaid;
+  }
 
   /** Whether the screen has a text that isn't drawn yet. */
   get isNew() { return this.screen.isNew; }

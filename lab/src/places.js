@@ -52,6 +52,15 @@ const LEGENDS = {
 /** What stands on a key that sends this. */
 export const legendOf = name => LEGENDS[name] ?? name.toUpperCase();
 
+const SPOKEN = {
+  grave: 'grave', minus: 'minus', equal: 'equals', backslash: 'backslash', lbracket: 'left bracket', rbracket: 'right bracket', semicolon: 'semicolon',
+  quote: 'quote', comma: 'comma', period: 'period', slash: 'slash', backspace: 'backspace', lshift: 'left shift', rshift: 'right shift', caps: 'caps lock',
+  num: 'num lock', scroll: 'scroll lock', esc: 'escape', sysreq: 'sys req', prtsc: 'print screen', kpminus: 'keypad minus', kpplus: 'keypad plus', kpdot: 'keypad point',
+};
+
+/** What a screen reader says of a key that sends this. */
+export const saidOfKey = name => SPOKEN[name] ?? name.replace(/^kp/, 'keypad ');
+
 export const isWhite = name => /^([a-z0-9]|grave|minus|equal|backslash|[lr]bracket|semicolon|quote|comma|period|slash|space)$/.test(name);
 
 const CODES = {

@@ -18,10 +18,13 @@ export class Waveform {
       this.size = [width, height];
       this.draw();
     }).observe(canvas);
+    // A wheel without Shift or Ctrl scrolls the page, as it does everywhere.
     canvas.addEventListener('wheel', event => {
+      const isSideways = Math.abs(event.deltaX) > Math.abs(event.deltaY);
+      if (!event.ctrlKey && !event.shiftKey && !isSideways) return;
       event.preventDefault();
-      if (event.ctrlKey || event.shiftKey) this.zoomBy(event.deltaY < 0 ? 2 : 0.5);
-      else this.move(event.deltaX || -event.deltaY);
+      if (event.ctrlKey) this.zoomBy(event.deltaY < 0 ? 2 : 0.5);
+      else this.move(isSideways ? event.deltaX : -event.deltaY);
     }, { passive: false });
     canvas.addEventListener('pointermove', event => { if (event.buttons) this.move(event.movementX); });
     canvas.addEventListener('keydown', event => {

@@ -4,8 +4,8 @@ import { named, onFile, replace } from './files.js';
 import { CLOCK, DATA } from './wires.js';
 import { Lines } from './lines.js';
 import { CYCLES_OF_A_MS, FIRST_STAMP } from './live.js';
-import { explained, kbd48 } from './program.js';
-import { readTrace } from './vcd.js';
+import { explained } from './program.js';
+import { runs } from './runs.js';
 import { Waveform, pullersOf } from './waveform.js';
 
 const LIVE = 'what I type';
@@ -73,26 +73,30 @@ export class WiresPane {
   }
 
   // The run of a key file on the layout that is open: its wires, bytes and log, as the program prints them.
-  #show(keys) {
+  async #show(keys) {
     this.still = null;
     this.bytes.clear();
     this.log.clear();
     this.wave.show(null);
     if (keys === LIVE) return;
-    const { name, text } = this.opened(), layout = { [name]: text }, [trace, run] = ['trace', 'run'].map(word => kbd48([word, name, keys], layout));
+    const { name, text } = this.opened(), layout = { [name]: text };
+    const trace = await runs.run(['trace', name, keys], layout), run = trace && await runs.run(['run', name, keys], layout);
+    if (!run || byId('shown').value !== keys) return;
     if (trace.exit !== 0) tell(byId('judged'), `${keys}: ${explained(trace)?.words}`, false);
     else {
-      const { edges, bytes, cycle } = readTrace(trace.text);
+      const { edges, bytes, cycle } = trace.traced;
       this.still = { bytes, lines: run.text.trimEnd().split('\n').map(line => `tick ${line}`) };
       this.wave.show({ edges, bytes, cycle });
     }
   }
 
   // What was done so far as a key file, under the model and under the firmware.
-  #judge() {
+  async #judge() {
     const { name, text } = this.opened(), { keys, isCut } = this.live().keyFile(), given = { 'session.keys': keys, [name]: text };
-    const [run, expect] = ['run', 'expect'].map(word => kbd48([word, name, 'session.keys'], given));
-    if (run.exit !== 0) tell(byId('judged'), `the session is no key file: ${explained(run)?.words}`, false);
+    tell(byId('judged'), 'It runs ..');
+    const run = await runs.run(['run', name, 'session.keys'], given), expect = run && await runs.run(['expect', name, 'session.keys'], given);
+    if (!expect) tell(byId('judged'), 'The run was stopped.', false);
+    else if (run.exit !== 0) tell(byId('judged'), `the session is no key file: ${explained(run)?.words}`, false);
     else if (run.text === expect.text) tell(byId('judged'), `run and expect print the same ${run.text.split('\n').length - 1} lines of ${isCut ? CUT : 'this session'}`, true);
     else tell(byId('judged'), 'run and expect differ', false);
   }

@@ -5,11 +5,12 @@ import { isKeymapText } from './boards/from_kle.js';
 import { byId, fill, make, save, tell } from './dom.js';
 import { edited, files, onFile, put, undo, undoable } from './files.js';
 import { keeping, workOf } from './keeping.js';
+import { LongText } from './long_text.js';
 import { explained, kbd48 } from './program.js';
 import { EXIT } from './refusals.js';
+import { runs } from './runs.js';
 import { linkOf } from './share.js';
 import { takeFiles } from './taking.js';
-import { readTrace } from './vcd.js';
 import { Waveform } from './waveform.js';
 
 // What is offered for a file by its ending; NAME is the file, STEM its name without the ending.
@@ -33,6 +34,9 @@ export class WorkbenchPane {
   constructor() {
     this.select = byId('file');
     this.editor = byId('text');
+    this.answer = new LongText(byId('answer'));
+    this.other = new LongText(byId('other'));
+    byId('stop-run').onclick = () => runs.stop?.();
     this.#fill('four_keys.asm');
     onFile(({ name, isNew }) => {
       if (isNew) this.#fill(this.select.value);
@@ -110,12 +114,24 @@ export class WorkbenchPane {
       return;
     }
     if (this.#assemble(words)) return;
-    const before = performance.now(), said = kbd48(words), took = performance.now() - before;
-    byId('answer').textContent = said.text;
-    const other = beside ? kbd48(beside.trim().split(/\s+/)).text : null;
+    const before = performance.now(), said = runs.run(words), other = beside ? runs.run(beside.trim().split(/\s+/)) : null;
+    if (said instanceof Promise || other instanceof Promise) this.#later(words, Promise.all([said, other]), before);
+    else this.#show(words, said, other, performance.now() - before);
+  }
+
+  // A long run: the page goes on meanwhile.
+  async #later(words, answers, before) {
+    tell(byId('told'), 'It runs ..');
+    const [said, other] = await answers;
+    if (said && other !== undefined) this.#show(words, said, other, performance.now() - before);
+    else tell(byId('told'), 'The run was stopped.', false);
+  }
+
+  #show(words, said, other, took) {
+    this.answer.show(said.text);
     byId('other').hidden = other === null;
-    byId('other').textContent = other ?? '';
-    this.#tell(words, said, other, took);
+    this.other.show(other?.text ?? '');
+    this.#tell(words, said, other?.text ?? null, took);
     this.#trace(said);
     this.#keep(words, said);
   }
@@ -123,9 +139,9 @@ export class WorkbenchPane {
   // A layout of a board file, with what is told of it beside it.
   #fromKle(words) {
     const said = answerOfBoards(words.slice(1));
-    byId('answer').textContent = said.text || said.told.join('\n');
+    this.answer.show(said.text || said.told.join('\n'));
     byId('other').hidden = said.status !== 0 || !said.told.length;
-    byId('other').textContent = said.told.join('\n');
+    this.other.show(said.told.join('\n'));
     tell(byId('told'), said.status === 0 ? `exit 0, ${said.told.length} remarks` : `exit ${said.status}: ${said.told[0]}`, said.status === 0 ? undefined : false);
     this.#trace(said);
     this.#made(said.shapes ? { name: layoutNameOf(words), said } : null);
@@ -138,7 +154,7 @@ export class WorkbenchPane {
       if (!(source in files) || (image in files && !edited.has(source))) continue;
       const said = kbd48(['asm', source]);
       if (said.exit !== EXIT.DONE) {
-        byId('answer').textContent = said.text;
+        this.answer.show(said.text);
         this.#tell(['asm', source], said, null, 0);
         return true;
       }
@@ -165,10 +181,9 @@ export class WorkbenchPane {
   }
 
   #trace(said) {
-    const isTrace = said.text.startsWith('$timescale');
-    byId('trace').hidden = !isTrace;
-    if (!isTrace) return;
-    this.traced = readTrace(said.text);
+    byId('trace').hidden = !said.traced;
+    if (!said.traced) return;
+    this.traced = said.traced;
     this.wave.back = 0;
     this.wave.draw();
   }

@@ -1,14 +1,12 @@
 #!/usr/bin/env python3
-"""Prints what examples/from_kle answers of every board of examples/boards, stored or drawn, as JSON: words, files, and the
-status, the text and the remarks. The page must give the same."""
+"""Prints what lab/src/boards answers in Node of every board of examples/boards, stored or drawn, as JSON: words, files, and the
+status, the text and the remarks. The page must give the same. .ci/kle compares the answers with the stored ones."""
 
 from __future__ import annotations
 
 import json
-import os
+import subprocess
 import sys
-import tempfile
-from concurrent.futures import ThreadPoolExecutor
 from importlib.machinery import SourceFileLoader
 from importlib.util import module_from_spec, spec_from_loader
 from pathlib import Path
@@ -39,19 +37,11 @@ def stored() -> list[tuple[list[str], dict[str, str]]]:
 
 
 def main() -> None:
-    """Prints the answers."""
+    """Prints the answers, which one call of Node gives."""
     wild = script(BOARDS / "wild")
-
-    def answer(words: list[str], files: dict[str, str], folder: Path | str) -> dict[str, object]:
-        status, text, told = wild.answer(words, folder)
-        return {"words": words, "files": files, "status": status, "text": text, "told": told}
-
-    with tempfile.TemporaryDirectory() as folder, ThreadPoolExecutor(os.cpu_count()) as pool:
-        cases = list(wild.cases())
-        for case in cases:
-            wild.write(case, folder)
-        answers = [*pool.map(lambda it: answer(*it, BOARDS), stored()), *pool.map(lambda it: answer(it.words, it.files, folder), cases)]
-    json.dump(answers, sys.stdout)
+    boards = [*stored(), *((case.words, case.files) for case in wild.cases())]
+    asked = json.dumps([{"words": words, "files": files} for words, files in boards])
+    subprocess.run(["node", Path(__file__).with_name("answers.mjs")], input=asked, text=True, check=True)
 
 
 if __name__ == "__main__":

@@ -7,8 +7,8 @@ import { hands } from './hands.mjs';
 
 const FLAGS = ['--headless=new', '--no-sandbox', '--disable-gpu', '--remote-debugging-pipe', '--no-first-run'];
 
-/** Opens a page. What it logs, what it throws, and what it asks for from elsewhere, is in `seen`. */
-export async function open(program, url, [width, height]) {
+/** Opens a page, for somebody who has chosen these media features. What it logs, what it throws, and what it asks for from elsewhere, is in `seen`. */
+export async function open(program, url, [width, height], media = {}) {
   const profile = mkdtempSync(join(tmpdir(), 'kbd48-lab-'));
   const child = spawn(program, [...FLAGS, `--user-data-dir=${profile}`, `--window-size=${width},${height}`, 'about:blank'],
     { stdio: ['ignore', 'ignore', 'ignore', 'pipe', 'pipe'] });
@@ -37,6 +37,7 @@ export async function open(program, url, [width, height]) {
   const { targetInfos } = await send('Target.getTargets');
   ({ sessionId: session } = await send('Target.attachToTarget', { targetId: targetInfos.find(it => it.type === 'page').targetId, flatten: true }));
   for (const domain of ['Runtime', 'Page', 'Log', 'Network']) await send(`${domain}.enable`);
+  await send('Emulation.setEmulatedMedia', { features: Object.entries(media).map(([name, value]) => ({ name, value })) });
   await send('Page.navigate', { url });
   const key = (type, code, more) => send('Input.dispatchKeyEvent', { type, code, key: code, windowsVirtualKeyCode: VIRTUAL[code] ?? 65, ...more });
   return hands({
@@ -53,7 +54,8 @@ export async function open(program, url, [width, height]) {
       await send('Input.dispatchMouseEvent', { type: name, x, y, button: 'left', buttons, clickCount: 1 });
     },
     async touch(type, point) {
-      await send('Input.dispatchTouchEvent', { type: type === 'down' ? 'touchStart' : 'touchEnd', touchPoints: type === 'down' ? [point] : [] });
+      const name = { down: 'touchStart', drag: 'touchMove', up: 'touchEnd' }[type];
+      await send('Input.dispatchTouchEvent', { type: name, touchPoints: type === 'up' ? [] : [point] });
     },
     async choose(selector, files) {
       const { root } = await send('DOM.getDocument');

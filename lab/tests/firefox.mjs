@@ -6,8 +6,9 @@ import { join } from 'node:path';
 import { hands } from './hands.mjs';
 
 /** Opens a page, as `open` of `chromium.mjs` does. */
-export async function open(program, url, [width, height]) {
+export async function open(program, url, [width, height], media = {}) {
   const profile = mkdtempSync(join(tmpdir(), 'kbd48-firefox-'));
+  writeFileSync(join(profile, 'user.js'), Object.entries(media).map(([name, value]) => PREFERENCES[`${name}: ${value}`]).join(''));
   const child = spawn(program, ['--headless', '--no-remote', '--profile', profile, '--remote-debugging-port=0'], { stdio: ['ignore', 'ignore', 'pipe'] });
   const socket = new WebSocket(`${await addressOf(child)}/session`);
   await new Promise((yes, no) => Object.assign(socket, { onopen: yes, onerror: no }));
@@ -84,6 +85,13 @@ export async function open(program, url, [width, height]) {
     },
   });
 }
+
+// What makes Firefox say that somebody has chosen a media feature.
+const PREFERENCES = {
+  'forced-colors: active': 'user_pref("browser.display.document_color_use", 2);\n',
+  'prefers-reduced-motion: reduce': 'user_pref("ui.prefersReducedMotion", 1);\n',
+  'prefers-color-scheme: dark': 'user_pref("ui.systemUsesDarkTheme", 1);\n',
+};
 
 function addressOf(child) {
   return new Promise((yes, no) => {

@@ -10,13 +10,16 @@ import * as keyboard from './parts/keyboard.mjs';
 import * as lessonParts from './parts/lessons.mjs';
 import * as look from './parts/look.mjs';
 import * as processor from './parts/processor.mjs';
+import * as screens from './parts/screens.mjs';
 import * as wires from './parts/wires.mjs';
 import * as workbench from './parts/workbench.mjs';
 
 const [, , kind, program, page, answers, shots] = process.argv;
 const { open } = await import(`./${kind}.mjs`);
 const url = pathToFileURL(page).href, examples = resolve(dirname(page), '../examples');
-const browser = await open(program, url, [1280, 1320]), folder = mkdtempSync(join(tmpdir(), 'kbd48-files-'));
+const SIZE = [1280, 1320];
+let browser = await open(program, url, SIZE);
+const folder = mkdtempSync(join(tmpdir(), 'kbd48-files-'));
 
 async function shot(name) {
   if (!shots) return;
@@ -34,6 +37,12 @@ async function part(name, act) {
     throw new Error(`${browser.name}, ${name}: ${error.message}`, { cause: error });
   }
 }
+
+// What somebody may have chosen for all pages.
+const MEDIA = [
+  ['forced colours', { 'forced-colors': 'active', 'prefers-reduced-motion': 'reduce' }, screens.forced],
+  ['dark', { 'prefers-color-scheme': 'dark' }, screens.dark],
+];
 
 try {
   await browser.ready();
@@ -62,6 +71,7 @@ try {
   await part('sources', () => workbench.sources(browser));
   await part('downloads', () => workbench.downloads(browser, examples));
   await part('runs', () => workbench.runs(browser, shot));
+  await part('long runs', () => workbench.longRuns(browser));
   await part('contrast of the workbench', () => look.contrast(browser));
   await part('second layer', () => keyboard.secondLayer(browser));
   const boards = await part('every board', () => keyboard.everyBoard(browser, answers));
@@ -81,8 +91,22 @@ try {
   const controls = await part('focus', () => look.focus(browser));
   const load = await part('load', () => look.loads(browser));
   await part('phones', () => look.phones(browser, shot));
+  await part('fingers', () => screens.fingers(browser));
+  await part('first window', () => screens.firstWindow(browser));
+  await part('where keys go', () => screens.whereKeysGo(browser));
+  await part('screen readers', () => screens.readers(browser));
+  await part('tour', () => screens.tour(browser));
+  await part('slowly', () => screens.slowly(browser));
   await part('macOS', () => keyboard.macintosh(browser, url));
   await part('trap', () => look.trap(browser));
+  for (const [name, media, act] of MEDIA) {
+    const { seen } = browser;
+    await browser.close();
+    browser = await open(program, url, SIZE, media);
+    browser.seen.push(...seen);
+    await browser.ready();
+    await part(name, () => act(browser, shot));
+  }
   assert.deepEqual(browser.seen, [], 'nothing on the console, and nothing asked for');
   console.log(`the page in ${browser.name}: every button and pane, ${boards} boards, ${lessons} lessons, ${controls} controls by Tab, small screens; ${load}`);
 } finally {

@@ -157,4 +157,70 @@ export const SOLUTIONS = {
       { edit: [['04F 0 32 4', '04F 0 31 4']], says: /line/ },
     ],
   },
+  9: {
+    right: [
+      [['        MOV R0,#0AAH\n', '        MOV A,#0AAH\n        MOV R0,A\n']],
+      [['halt:   JMP halt', 'halt:   NOP\n        JMP halt']],
+      [['        CALL send\n', '        MOV R7,#200\nlate:   DJNZ R7,late\n        CALL send\n']],
+    ],
+    wrong: [
+      { edit: [['        CALL send\n', '']], says: /port AA.*nothing more/s },
+      { edit: [['halt:   JMP halt', 'halt:   CALL send\n        JMP halt']], says: /nothing more.*port AA/s },
+      { edit: [['MOV R0,#0AAH', 'MOV R0,#0ABH']], says: /port AA/ },
+      { edit: [['        MOV R0,#0AAH\n', '']], says: /port AA|cycles|bit/ },
+      { edit: [['halt:   JMP halt\n', '']], says: /\d/ },
+      { edit: [[LOW_NOPS, NOP.repeat(6)]], says: /32.*30/s },
+      { edit: [['CPL A                   ; 1 if the number of ones is even', 'NOP']], says: /parity bit/ },
+      { edit: [['        MOV R4,#11\n', '        MOV R4,#10\n']], says: /frame|bit|port AA/ },
+    ],
+  },
+  10: {
+    right: [
+      [['        JB0 down\n        MOV R0,#0F0H            ; the key went up\n        CALL send\n', '        CPL A\n        JB0 up\n        JMP down\nup:     MOV R0,#0F0H\n        CALL send\n']],
+      [['        MOV R0,#0F0H            ; the key went up\n', '        MOV A,#0F0H\n        MOV R0,A\n']],
+    ],
+    wrong: [
+      ...[ALWAYS_WRONG[0], ALWAYS_WRONG[1], ALWAYS_WRONG[2]],
+      { edit: [['        CALL send\ndown:', '        CALL send\n        JMP turn\ndown:']], says: /port 9E/ },
+      { edit: [['MOV R0,#0F0H', 'MOV R0,#0E0H']], says: /what the PC reads|bytes on the wires/ },
+      { edit: [['        MOV R0,#0F0H            ; the key went up\n        CALL send\n', '        MOV R0,#9EH             ; the key went up\n        CALL send\n        JMP turn\n']], says: /what the PC reads|bytes on the wires/ },
+      { edit: [['        MOV R0,#0F0H            ; the key went up\n        CALL send\n', '']], says: /port 9E.*port 1E/s },
+      { edit: [['        JB0 down\n', '        JMP up\n'], ['        MOV R0,#0F0H ', 'up:     MOV R0,#0F0H ']], says: /port 1E.*port 9E/s },
+      { edit: [['        CALL send\ndown:', '        CALL send\n        MOV R6,#bytes\ndown:']], says: /key b/ },
+    ],
+  },
+  11: {
+    right: [
+      [['        ANL A,#0FH\n        SWAP A\n', '        SWAP A\n        ANL A,#0F0H\n']],
+      [['bytes:  DB 1CH,32H,21H,23H      ; a, b, c, d\n        DB 24H,2BH,34H,33H      ; e, f, g, h', 'bytes:  DB 1CH,32H,21H,23H,24H,2BH,34H,33H']],
+    ],
+    wrong: [
+      ALWAYS_WRONG[0], ALWAYS_WRONG[2],
+      { edit: [['DB 24H,2BH,34H,33H', 'DB 2BH,24H,34H,33H']], says: /key e/ },
+      { edit: [['MOV A,#1 ', 'MOV A,#2 ']], says: /key e/ },
+      { edit: [['        SWAP A\n        MOV R1,A', '        MOV R1,A']], says: /key e/ },
+      { edit: [['        ORL A,R1\n', '']], says: /key e/ },
+      { edit: [['        DB 24H,2BH,34H,33H      ; e, f, g, h\n', '']], says: /key e/ },
+      { edit: [['        ANL A,#0FH\n        SWAP A', '        ANL A,#7\n        SWAP A']], says: /key h/ },
+      { edit: [['        CLR A                   ; and column 0 into the low four\n        OUTL P1,A\n', '']], says: /key [ae]/ },
+      { edit: [[LOOK, NO_LOOK]], says: /the PC writes|the PC switches/ },
+    ],
+  },
+  12: {
+    right: [
+      [['        XRL A,#0EEH\n        JZ echo\n', '        ADD A,#12H\n        JZ echo\n']],
+      [['        XRL A,#0FFH\n        JNZ poll\n', '        CPL A\n        JNZ poll\n']],
+    ],
+    wrong: [
+      { edit: [['        XRL A,#0EEH\n        JZ echo\n', '']], says: /writes EE.*port EE.*port FA/s },
+      { edit: [['        XRL A,#0FFH\n        JNZ poll\n', '        JMP poll\n']], says: /writes FF.*port AA/s },
+      { edit: [['MOV R0,#0FAH', 'MOV R0,#0EEH']], says: /writes ED.*port FA/s },
+      { edit: [['        XRL A,#0FFH\n        JNZ poll\n', '        XRL A,#0FEH\n        JNZ poll\n']], says: /writes FF/ },
+      { edit: [['        XRL A,#0FFH\n        JNZ poll\n', '']], says: /writes ED/ },
+      { edit: [['        ANL P2,#0FDH            ; the keyboard says that it has the byte\n', '']], says: /data for the last clock.*expected low, got high/ },
+      { edit: [['take:   MOV R4,#8', 'take:   MOV R4,#7']], says: /writes EE/ },
+      { edit: [['MOV R0,#0AAH', 'MOV R0,#0FAH']], says: /writes FF/ },
+      { edit: [[LOW_NOPS, NOP.repeat(7)]], says: /writes EE: the bytes on the wires: expected EE/ },
+    ],
+  },
 };

@@ -101,7 +101,7 @@ def guessed(fault):
     """What is probably meant. A file of any bytes may have misled the guess; then there is none."""
     try:
         return KINDS[fault.kind].hints(fault)
-    except (ValueError, LookupError, TypeError, RecursionError):
+    except (ValueError, LookupError, TypeError, RecursionError, OSError):
         return []
 
 

@@ -15,7 +15,7 @@ function imageOf(say, text) {
 }
 
 /** The layout of keys in column 0, from row 0 on. */
-export const columnOf = names => `format = 1\n${names.map((name, row) => `[[key]]\nkey = "${name}"\ncolumn = 0\nrow = ${row}\n`).join('')}`;
+export const columnOf = names => columnsOf([names]);
 
 const WRITES_APART = 3; // cycles between two times at which the PC writes
 
@@ -35,6 +35,19 @@ export const sendsOnPress = (names, codes) => function* judged(say, text) {
   const frame = frameOf(say, image, layout, names[0]);
   return yield* judging(say, image, layout, [brokenOff, switchedOff].flatMap(kind => kind(names[0], codes[0], frame, WRITES_APART)));
 };
+
+/** A program on a board with this layout, in these trials; and then in those that depend on the frame of a key, if one is named. */
+export const doesInTrials = (layout, trials, byKey) => function* judgedInTrials(say, text) {
+  const { image, refused } = imageOf(say, text);
+  if (refused) return { refused };
+  const first = yield* judging(say, image, layout, trials);
+  if (first || !byKey) return first;
+  const frame = frameOf(say, image, layout, byKey.name);
+  return yield* judging(say, image, layout, [brokenOff, switchedOff].flatMap(kind => kind(byKey.name, byKey.code, frame, 2 * WRITES_APART)).map(byKey.as ?? (it => it)));
+};
+
+/** The layout of keys in columns, each a list of names from row 0 on. */
+export const columnsOf = columns => `format = 1\n${columns.flatMap((names, column) => names.map((name, row) => `[[key]]\nkey = "${name}"\ncolumn = ${column}\nrow = ${row}\n`)).join('')}`;
 
 /** Bytes after `words`, whose items are those of one of these lists. */
 export const saysOfBytes = (...lists) => function* judged(say, text) {

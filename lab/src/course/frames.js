@@ -2,7 +2,7 @@
 // there before each fall. The program hears a byte if its falls are 32 cycles apart; the other rules are those of a real board.
 import { BOTH, CLOCK, DATA } from '../wires.js';
 
-const FALLS_OF_A_FRAME = 11, FALLS_APART = 32, LOW = 16, SET_UP = 2; // cycles
+const FALLS_OF_A_FRAME = 11, FALLS_APART = 32, LOW = 16, SET_UP = 2, HELD_BY_PC = 60; // cycles
 const START = 0, PARITY = 9, STOP = 10; // falls
 const STAMP_ZERO = 4096;
 
@@ -63,6 +63,19 @@ export function heardFault({ edges, bytes }) {
     if (sender !== 'keyboard') continue;
     const last = falls.findLastIndex(it => it.cycle <= end) + 1, found = frameFault(falls.slice(last - FALLS_OF_A_FRAME, last), changes);
     if (found) return found;
+  }
+  return null;
+}
+
+/** The first frame of the PC's in which the keyboard doesn't pull data for the last clock. The PC asks for a frame by letting go
+    of the clock, which it has held, while it pulls data. */
+export function takenFault({ edges }) {
+  const { falls, rises } = changesOf(edges);
+  for (const rise of rises) {
+    const held = falls.findLast(it => it.cycle < rise), asked = edges.findLast(it => it.cycle <= rise);
+    if (rise - held.cycle < HELD_BY_PC || asked.levels & DATA) continue;
+    const last = falls.filter(it => it.cycle > rise)[FALLS_OF_A_FRAME - 1];
+    if (last?.data) return fault(last.cycle, 'data for the last clock of the PC\'s byte', 'low', 'high');
   }
   return null;
 }

@@ -3,7 +3,7 @@
 // `expected` and `got`, line by line, up to the first `line` that differs; and a `trace` with the cycle `at`, if it is of wires.
 import { hex } from '../dom.js';
 import { readTrace } from '../vcd.js';
-import { calmFault, fallsOf, heardFault, stampOf } from './frames.js';
+import { calmFault, fallsOf, heardFault, stampOf, takenFault } from './frames.js';
 
 const NOTHING = 'nothing more';
 
@@ -46,7 +46,7 @@ export function tried(say, image, layout, trial) {
   const { log, items, trace } = runOf(say, image, layout, trial), { says } = trial;
   if (!trace) return { says, what: 'the run', line: 0, expected: ['it goes on to its end'], got: [log.text.trimEnd().split('\n').at(-1)] };
   const inOrder = list => (trial.any ? [...list].sort() : list), heard = trace.bytes.filter(it => it.sender === 'keyboard').map(it => hex(it.byte));
-  const wires = wireFound(says, trial.calm ? calmFault(trace) : heardFault(trace), trace);
+  const wires = wireFound(says, trial.calm ? calmFault(trace) : heardFault(trace) ?? (trial.takes ? takenFault(trace) : null), trace);
   const expected = trial.items ?? itemsOfBytes(say, trial.bytes), more = { trace, at: trace.edges.at(-1)?.cycle };
   return wires ?? differing(says, 'what the PC reads', inOrder(expected), inOrder(items))
     ?? differing(says, 'the bytes on the wires', inOrder(trial.bytes), inOrder(heard), more)

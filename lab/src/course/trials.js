@@ -138,3 +138,25 @@ export function switchedOff(name, code, [begin, end], apart) {
   }
   return trials;
 }
+
+const F0 = 'F0';
+
+/** Gives trials of keys that send when they go down the bytes that they send when they go up too. */
+export const withBreaks = (trials, names, codes) => trials.map(trial => {
+  const bytes = trial.keys.split('\n').map(line => line.split(' ')).filter(([, word]) => word === 'press' || word === 'release')
+    .flatMap(([, word, key]) => [...(word === 'release' ? [F0] : []), codes[names.indexOf(key)]]);
+  return { ...trial, bytes };
+});
+
+/** Strokes of these keys, each alone, two that roll over, and many one after the other. */
+export const strokesOf = (names, codes) => [aloneTrials, rolloverTrials, manyTrials].flatMap(kind => kind(names, codes));
+
+/** A run without a key: what is sent after power-on, whatever memory holds. */
+export const atPowerOn = (bytes, keys = '20ms end\n') => TRIAL_FILLS.map(fill => ({ says: `power-on, with ${fill} in memory`, keys, bytes, calm: true, fill }));
+
+/** What the PC writes at port 60h, each some time after the one before, and what the keyboard answers. */
+export function answers(pairs) {
+  const each = pairs.map(([asked, bytes]) => ({ says: `the PC writes ${asked}`, keys: keyFileOf([{ ms: FIRST_MS, words: `write60 ${asked}` }]), bytes, takes: true }));
+  const all = { says: 'the PC writes one after the other', keys: keyFileOf(pairs.map(([asked], n) => ({ ms: FIRST_MS + 20 * n, words: `write60 ${asked}` }))), bytes: pairs.flatMap(([, bytes]) => bytes), takes: true };
+  return [...each, all];
+}

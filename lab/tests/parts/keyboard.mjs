@@ -105,7 +105,7 @@ export async function outOfSight(browser) {
 /** Two Escapes, and Tab leaves the keyboard on either side. */
 export async function leaving(browser) {
   await browser.evaluate('document.getElementById("board").focus()');
-  for (const [tab, more, to] of [['Tab', {}, 'speed'], ['Tab', { modifiers: 8 }, 'sticky']]) {
+  for (const [tab, more, to] of [['Tab', {}, 'hide-wires'], ['Tab', { modifiers: 8 }, 'hide-keyboard']]) {
     await browser.evaluate('document.getElementById("board").focus()');
     await browser.stroke('Tab', 10);
     assert.equal(await browser.evaluate('document.activeElement.id'), 'board', 'Tab is a key of the keyboard');

@@ -14,15 +14,22 @@ const LEAST_HEIGHT = 90; // pixels of a text or a picture
 export const PANES = ['keyboard', 'wires', 'processor', 'workbench', 'lessons'];
 const PHONES = { narrow: [360, 800, 2], iphone: [390, 844, 3], android: [412, 915, 2.625], lying: [844, 390, 3] };
 
-/** The buttons at the top show and hide the panes. */
+/** The buttons at the top show a pane and go to it, also if it is shown; each pane's own button hides it. */
 export async function panes(browser) {
+  const seen = pane => browser.evaluate(`[document.querySelector('#panes [data-pane=${pane}]').getAttribute('aria-pressed') === 'true', document.getElementById('${pane}').checkVisibility()]`);
   for (const pane of PANES) {
-    const seen = async () => browser.evaluate(`[document.querySelector('#panes [data-pane=${pane}]').getAttribute('aria-pressed') === 'true', document.getElementById('${pane}').checkVisibility()]`);
-    const [was] = await seen();
-    for (const now of [!was, was]) {
+    const [was] = await seen(pane);
+    for (let times = 0; times < 2; times++) {
+      await browser.evaluate('scrollTo(0, 0)');
       await browser.click(`#panes [data-pane=${pane}]`);
-      assert.deepEqual(await seen(), [now, now], `the button of ${pane}`);
+      assert.deepEqual(await seen(pane), [true, true], `the button of ${pane} shows it`);
+      const top = await browser.evaluate(`document.getElementById('${pane}').getBoundingClientRect().top`);
+      assert.ok(top >= -1 && top < await browser.evaluate('innerHeight'), `${pane} is in sight`);
     }
+    await browser.click(`#hide-${pane}`);
+    assert.deepEqual(await seen(pane), [false, false], `${pane} is hidden`);
+    assert.equal(await browser.evaluate('document.activeElement.dataset.pane'), pane, 'the focus is on the button that shows it again');
+    await browser.evaluate(`lab.show('${pane}', ${was})`);
   }
   await browser.evaluate('scrollTo(0, 0)');
 }
@@ -101,7 +108,7 @@ export async function phones(browser, shot) {
 /** The policy allows this page's own script and style by their sums, the modules, and nothing else. */
 export async function policy(browser) {
   const said = await browser.evaluate('document.querySelector("meta[http-equiv=Content-Security-Policy]").content');
-  assert.match(said, /^default-src 'none'; script-src 'sha256-[^' ]+' 'wasm-unsafe-eval'; style-src 'sha256-[^' ]+'; img-src data:; base-uri 'none'; form-action 'none'$/);
+  assert.match(said, /^default-src 'none'; script-src 'sha256-[^' ]+' 'wasm-unsafe-eval'; style-src 'sha256-[^' ]+'; img-src data:; worker-src blob:; base-uri 'none'; form-action 'none'$/);
   assert.deepEqual(await browser.evaluate('performance.getEntriesByType("resource").map(it => it.name).filter(name => !/^(data|blob):/.test(name))'), [], 'nothing is loaded');
   // What the policy refuses, the browser does too: a script and a request of somebody else's.
   const before = browser.seen.length;

@@ -150,7 +150,9 @@ export async function waveform(browser, shot) {
   await changes(() => browser.click('#wave-back'), 'back');
   await browser.evaluate('document.getElementById("wave").focus()');
   await changes(() => browser.stroke('ArrowLeft', 5), 'the left arrow');
-  await changes(() => browser.evaluate('document.getElementById("wave").dispatchEvent(new WheelEvent("wheel", { deltaY: -200, cancelable: true }))'), 'the wheel');
+  await changes(() => browser.evaluate('document.getElementById("wave").dispatchEvent(new WheelEvent("wheel", { deltaY: -200, shiftKey: true, cancelable: true }))'), 'the wheel with Shift');
+  const scrolls = await browser.evaluate('(() => { const event = new WheelEvent("wheel", { deltaY: -200, cancelable: true }); document.getElementById("wave").dispatchEvent(event); return !event.defaultPrevented; })()');
+  assert.ok(scrolls, 'the wheel alone scrolls the page');
   const middle = await browser.place('#wave');
   await changes(async () => {
     await browser.mouse('down', middle);

@@ -13,6 +13,8 @@ const BROKEN_LINKS = [
   [`lab=${packed(`{"files":{"a.asm":"${' '.repeat(50 << 20)}"}}`)}`, /it has more than 4194304 bytes/],
 ];
 
+const STROKES = 300;
+
 const run = async (browser, words) => {
   await browser.put('words', words);
   await browser.click('#do');
@@ -110,6 +112,36 @@ export async function brokenFiles(browser, folder) {
   await browser.choose('#open-board', [file('board.toml', 'format = 1\n')]);
   await browser.says('layout-fault', /board\.toml wasn't opened: the layout: /);
   await browser.put('layout', 'us84.toml');
+}
+
+/** A long run is made beside the page: the keyboard goes on, the run can be stopped, and of a long text the lines are put into
+    the page as they are seen. */
+export async function longRuns(browser) {
+  const strokes = Array.from({ length: STROKES }, (_, n) => `${500 + 80 * n}ms press a\n${540 + 80 * n}ms release a\n`).join('');
+  for (const [name, text] of [['long.keys', `${strokes}30000ms end\n`], ['longest.keys', '400ms press a\n600000ms end\n']]) {
+    await browser.evaluate(`lab.workbench.take([new File([${JSON.stringify(text)}], '${name}')])`);
+    await browser.until(`"${name}" in lab.files`);
+  }
+  await browser.only('workbench');
+  await browser.evaluate(`globalThis.turns = 0; globalThis.watching = setInterval(() => { turns += !document.getElementById('runs').hidden; }, 10); 0`);
+  await run(browser, 'trace us84.toml long.keys');
+  // The page itself counts, since the run may be over before this test looks.
+  await browser.until('turns > 0');
+  await browser.says('told', /^exit 0, \d{6,} bytes/);
+  assert.ok(await browser.evaluate('turns') > 3, 'the page goes on while the run is made');
+  assert.equal(await browser.evaluate('lab.workbench.traced.bytes.length'), 1 + 3 * STROKES);
+  const lines = () => browser.evaluate('document.getElementById("answer").textContent.split("\\n").length');
+  const first = await lines();
+  assert.ok(first < 2000, `${first} lines are in the page`);
+  await browser.evaluate('(it => { it.scrollTop = it.scrollHeight; })(document.getElementById("answer"))');
+  await browser.until(`document.getElementById("answer").textContent.split("\\n").length > ${first}`);
+  await run(browser, 'trace us84.toml longest.keys');
+  await browser.until('!document.getElementById("runs").hidden');
+  await browser.click('#stop-run');
+  await browser.says('told', /The run was stopped/);
+  await run(browser, 'run us84.toml long.keys');
+  await browser.says('told', /^exit 0/);
+  await browser.evaluate('clearInterval(watching)');
 }
 
 /** A link carries the open file and those that the command names; a broken one is said to be broken. */

@@ -1,0 +1,27 @@
+// Runs that take long are made in a worker, so that the page goes on. The worker's program is the part of this page's script up
+// to the mark at the end of this file.
+import { Program } from '../kbd48.mjs';
+import { readTrace } from './vcd.js';
+
+/** In a worker: answers each call { words, files } with { exit, text }, and the edges and bytes of a trace. The first message
+    is the module. */
+export function serveRuns(scope) {
+  let program = null;
+  scope.onmessage = async ({ data }) => {
+    if (data instanceof Uint8Array) {
+      program = Program.load(data);
+      return;
+    }
+    const { exit, text } = (await program).run(data.words, data.files);
+    const traced = exit === 0 && text.startsWith('$timescale') ? readTrace(text) : null;
+    if (!traced) {
+      scope.postMessage({ exit, text });
+      return;
+    }
+    // As two arrays, which cost the page nothing to take.
+    const cycles = Float64Array.from(traced.edges, it => it.cycle), levels = Uint8Array.from(traced.edges, it => it.levels);
+    scope.postMessage({ exit, text, traced: { cycles, levels, bytes: traced.bytes, cycle: traced.cycle } }, [cycles.buffer, levels.buffer]);
+  };
+}
+
+/* The end of what a worker runs. */

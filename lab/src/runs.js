@@ -1,0 +1,80 @@
+// The program's answers, from a worker if the run is long.
+import { byId } from './dom.js';
+import { files } from './files.js';
+import { kbd48 } from './program.js';
+import { readTrace } from './vcd.js';
+
+const END_OF_WORKER = '/* The end of what a worker runs. */';
+const LONG_RUN = 20_000, CYCLES_OF_MS = 400; // ms
+
+/** The last time of a key file, in ms. */
+function endOf(keys) {
+  const found = /^\s*(\d+)(ms)?\s+end\b/m.exec(keys.slice(-200));
+  return found ? Number(found[1]) / (found[2] ? 1 : CYCLES_OF_MS) : 0;
+}
+
+const isLong = (words, all) => words.slice(1).some(word => word.endsWith('.keys') && word in all && endOf(all[word]) > LONG_RUN);
+
+const answerOf = (exit, text, traced = null) => ({ exit, text, bytes: { length: new Blob([text]).size }, traced });
+
+class Runs {
+  /** `module` has the bytes of the program's module; `serves` is the name of the function that answers in a worker. */
+  begin(module, serves) { Object.assign(this, { module, serves, worker: null, stop: null, isBarred: false }); }
+
+  // The worker, or null if the browser makes none for this page.
+  #start() {
+    if (this.worker || this.isBarred) return this.worker;
+    const script = [...document.scripts].map(it => it.textContent).find(text => text.includes(END_OF_WORKER)), end = script.indexOf(END_OF_WORKER);
+    const url = URL.createObjectURL(new Blob([script.slice(0, end), `${this.serves}(self);`], { type: 'text/javascript' }));
+    try {
+      this.worker = new Worker(url);
+      this.worker.postMessage(this.module);
+    } catch {
+      this.worker = null;
+    }
+    return this.worker;
+  }
+
+  /** What the program answers: { exit, text, bytes, traced }, at once or later; or undefined if somebody stopped the run. */
+  run(words, more = {}) {
+    const all = { ...files, ...more };
+    return isLong(words, all) && this.#start() ? this.#later(words, more, all) : this.#now(words, more);
+  }
+
+  #now(words, more) {
+    const { exit, text, bytes } = kbd48(words, more);
+    return { exit, text, bytes, traced: exit === 0 && text.startsWith('$timescale') ? readTrace(text) : null };
+  }
+
+  #later(words, more, all) {
+    const needed = Object.fromEntries(words.slice(1).filter(word => Object.hasOwn(all, word)).map(word => [word, all[word]])), { worker } = this;
+    byId('runs').hidden = false;
+    return new Promise(answered => {
+      const end = () => {
+        byId('runs').hidden = true;
+        this.stop = null;
+      };
+      this.stop = () => {
+        worker.terminate();
+        this.worker = null;
+        end();
+        answered(undefined);
+      };
+      // A browser may let this page have no worker: then the run is made at once.
+      worker.onerror = event => {
+        event.preventDefault();
+        this.isBarred = true;
+        this.worker = null;
+        end();
+        answered(this.#now(words, more));
+      };
+      worker.onmessage = ({ data: { exit, text, traced } }) => {
+        end();
+        answered(answerOf(exit, text, traced && { ...traced, edges: Array.from(traced.cycles, (cycle, n) => ({ cycle, levels: traced.levels[n] })) }));
+      };
+      worker.postMessage({ words, files: needed });
+    });
+  }
+}
+
+export const runs = new Runs();

@@ -1,0 +1,144 @@
+// Everybody's screen, and the first minute: small and large screens, fingers, forced colours, a dark page, little motion, screen
+// readers; where keys go; the tour and the words of the log.
+import assert from 'node:assert/strict';
+import { contrast } from './look.mjs';
+import { PANES } from './look.mjs';
+
+const SMALL = [1366, 768], WINDOW = 625; // pixels; the height that a browser's own bars leave of 768
+const NARROW = [360, 800];
+const presses = browser => browser.evaluate('lab.live.events.filter(it => it.words.startsWith("press ")).length');
+const selfTested = browser => browser.until('lab.live.stamp > 200000');
+
+/** On a small laptop the wires are in sight below the keyboard, and a typed byte is seen there. */
+export async function firstWindow(browser) {
+  await browser.size(SMALL, 1, false);
+  await browser.evaluate('for (const name of ["keyboard", "wires"]) lab.show(name, true, false); for (const name of ["processor", "workbench", "lessons"]) lab.show(name, false); scrollTo(0, 0)');
+  const [top, bottom] = await browser.evaluate('(it => [it.top, it.bottom])(document.getElementById("wave").getBoundingClientRect())');
+  assert.ok(top > 0 && bottom <= WINDOW + 1, `the wires are from ${top} to ${bottom}`);
+  assert.equal(await browser.evaluate('document.elementFromPoint(683, 540).id'), 'wave', 'nothing lies over them');
+  await browser.size(null);
+}
+
+/** It is said where keys go; a click on a button of the PC's leaves the focus, and letters that nothing has the focus for are typed. */
+export async function whereKeysGo(browser) {
+  await browser.evaluate('scrollTo(0, 0); document.getElementById("board").focus(); document.dispatchEvent(new FocusEvent("focusin"))');
+  await browser.says('keys-go', /^your keys go to the keyboard below$/);
+  const asked = () => browser.evaluate('lab.live.bytes.filter(it => it.sender === "host" && it.byte === 0xEE).length');
+  const before = await asked(), echo = await browser.evaluate('(it => { it.id = "echo"; return it.textContent; })([...document.querySelectorAll("#commands button")].find(it => it.textContent.startsWith("EE")))');
+  assert.match(echo, /echo/);
+  await browser.click('#echo');
+  await browser.until('document.activeElement.id === "board"');
+  await browser.stroke('Space');
+  await browser.says('screen', / ▁$/);
+  assert.equal(await asked(), before + 1, 'a space isn\'t another EE');
+  await browser.evaluate('document.getElementById("any-byte").focus(); document.dispatchEvent(new FocusEvent("focusin"))');
+  await browser.says('keys-go', /^your keys go to: any byte/);
+  await browser.evaluate('document.activeElement.blur(); document.dispatchEvent(new FocusEvent("focusin"))');
+  await browser.says('keys-go', /^click the keyboard/);
+  const many = await presses(browser);
+  await browser.evaluate('document.body.dispatchEvent(new KeyboardEvent("keydown", { code: "KeyQ", key: "q", bubbles: true, cancelable: true })); document.getElementById("board").dispatchEvent(new KeyboardEvent("keyup", { code: "KeyQ", key: "q", bubbles: true, cancelable: true }))');
+  await browser.until(`lab.live.events.filter(it => it.words.startsWith("press ")).length === ${many + 1}`);
+  assert.equal(await browser.evaluate('document.activeElement.id'), 'board');
+}
+
+/** A finger that moves the page types nothing; one that taps does. */
+export async function fingers(browser) {
+  await browser.size(NARROW, 2, true);
+  await browser.only('keyboard');
+  await selfTested(browser);
+  const at = await browser.place('[data-key=g]'), many = await presses(browser);
+  await browser.touch('down', at);
+  for (let by = 12; by <= 96; by += 12) await browser.touch('drag', { x: at.x - by, y: at.y - by / 2 });
+  await browser.touch('up', {});
+  await browser.wait(400);
+  assert.equal(await presses(browser), many, 'the page was moved, and nothing was typed');
+  await browser.tap('[data-key=g]');
+  await browser.until(`lab.live.events.filter(it => it.words.startsWith("press ")).length === ${many + 1}`);
+  await browser.tap('[data-key=g]', 900);
+  await browser.says('screen', /ggg+▁$/);
+  await browser.until('!document.querySelector("#board .down")');
+  await browser.size(null);
+}
+
+/** Keys are buttons with a name and a state; what is typed is said after a while. */
+export async function readers(browser) {
+  await browser.only('keyboard');
+  await selfTested(browser);
+  const keys = await browser.evaluate('[...document.querySelectorAll("#board > div")].map(it => [it.getAttribute("role"), it.getAttribute("aria-label"), it.getAttribute("aria-pressed")])');
+  assert.ok(keys.every(([role, label, pressed]) => role === 'button' && label && pressed === 'false'), 'each key has a role, a name and a state');
+  assert.equal(new Set(keys.map(([, label]) => label)).size, keys.length, 'no two keys have one name');
+  await browser.evaluate('lab.keys.hold("lshift", true, "test")');
+  await browser.until('document.querySelector("[data-key=lshift]").getAttribute("aria-pressed") === "true"');
+  await browser.evaluate('lab.keys.hold("lshift", false, "test"); document.getElementById("heard").textContent = ""; lab.pc.takeUnsaid(); lab.pressed = performance.now(); for (const name of ["h", "i"]) { lab.keys.hold(name, true, "test"); lab.keys.hold(name, false, "test"); }');
+  await browser.says('heard', /^hi$/);
+  // A screen reader clicks without a pointer.
+  const many = await presses(browser);
+  await browser.evaluate('document.querySelector("[data-key=y]").click()');
+  await browser.until(`lab.live.events.filter(it => it.words === "release y").length > 0 && lab.live.events.filter(it => it.words.startsWith("press ")).length === ${many + 1}`);
+}
+
+/** The tour goes through five steps, each at something that is in sight; the words of the log are explained. */
+export async function tour(browser) {
+  await browser.only('keyboard');
+  await browser.click('#tour-begin');
+  const seen = [];
+  for (let step = 1; step <= 5; step++) {
+    await browser.says('tour-text', new RegExp(`^${step} of 5\\. `));
+    seen.push(await browser.evaluate('(it => it && it.checkVisibility() && it.getBoundingClientRect().top < innerHeight && it.id)(document.querySelector(".toured"))'));
+    await browser.click('#tour-next');
+  }
+  assert.deepEqual(seen, ['board', 'wave', 'speed', 'commands', 'lesson-title']);
+  assert.ok(await browser.evaluate('document.getElementById("tour").hidden && !document.querySelector(".toured")'));
+  await browser.only('wires');
+  await browser.evaluate('document.querySelector("#glossary summary").click()');
+  const words = await browser.evaluate('[...document.querySelectorAll("#glossary dt")].map(it => it.textContent)');
+  for (const word of ['stamp', 'word 1E61', 'port 1E', 'tick']) assert.ok(words.includes(word), word);
+  await browser.evaluate('document.querySelector("#glossary summary").click()');
+}
+
+/** At a slow speed the self-test passes at full speed, and a key that waits for the scan is said to wait. */
+export async function slowly(browser) {
+  await browser.only('keyboard');
+  await browser.put('speed', '0.001');
+  await browser.click('#restart');
+  await browser.until('lab.live.bytes.some(it => it.byte === 0xAA)');
+  await browser.until('lab.live.stamp >= 135168');
+  await browser.evaluate('lab.keys.hold("a", true, "test")');
+  await browser.until('!document.getElementById("waiting").hidden');
+  await browser.says('waiting', /waits for the scan: the keyboard reads its keys once in 5\.12 ms, which are 5\.12 s at this speed/);
+  await browser.put('speed', '1');
+  await browser.until('document.getElementById("waiting").hidden && lab.live.bytes.some(it => it.byte === 0x1C)');
+  await browser.evaluate('lab.keys.hold("a", false, "test")');
+}
+
+/** With forced colours keys have edges, and one that is down differs; with little motion wires are drawn now and then. */
+export async function forced(browser, shot) {
+  assert.deepEqual(await browser.evaluate('["(forced-colors: active)", "(prefers-reduced-motion: reduce)"].map(it => matchMedia(it).matches)'), [true, true]);
+  await selfTested(browser);
+  const edges = await browser.evaluate('[...document.querySelectorAll("#board > div")].map(it => getComputedStyle(it)).every(it => Number.parseFloat(it.borderTopWidth) >= 1 && it.borderTopColor !== it.backgroundColor)');
+  assert.ok(edges, 'each key has an edge');
+  await browser.evaluate('lab.keys.hold("k", true, "test")');
+  await browser.until('document.querySelector("[data-key=k]").classList.contains("down")');
+  const looks = await browser.evaluate('["k", "l"].map(name => getComputedStyle(document.querySelector(`[data-key=${name}]`)).backgroundColor)');
+  assert.notEqual(looks[0], looks[1], 'a key that is down differs');
+  await shot('forced_colours');
+  await browser.evaluate('globalThis.drawings = 0; globalThis.drawn = lab.wires.draw.bind(lab.wires); lab.wires.draw = () => { drawings++; drawn(); }; 0');
+  const strokes = 'for (const name of ["q", "w"]) { lab.keys.hold(name, true, "test"); setTimeout(() => lab.keys.hold(name, false, "test"), 60); }';
+  for (let count = 0; count < 10; count++) {
+    await browser.evaluate(`${strokes} 0`);
+    await browser.wait(300);
+  }
+  assert.ok(await browser.evaluate('drawings') <= 5, `${await browser.evaluate('drawings')} pictures of the wires in three seconds`);
+}
+
+/** A dark page has enough contrast in each pane. */
+export async function dark(browser, shot) {
+  assert.ok(await browser.evaluate('matchMedia("(prefers-color-scheme: dark)").matches'));
+  assert.match(await browser.evaluate('getComputedStyle(document.documentElement).backgroundColor'), /^rgb\(2\d, 2\d, \d+\)$/);
+  for (const pane of PANES) {
+    await browser.only(pane);
+    await browser.wait(100);
+    await contrast(browser);
+    await shot(`dark_${pane}`);
+  }
+}
