@@ -28,11 +28,11 @@ typedef struct {
     long seed, length, polling, pull, hold, requests, inhibits, keys, rise, latency, period, resend;
     long look, outl, anl, ins, entry_from, entry_to, noise, noisy, noise_width;
     long upset, in_service, place, flip_bank, flip_service, stop_timer, stop_interrupt, scramble;
-    long port, compute, stall, stall_in;
+    long port, compute, stall, stall_in, counts, cut_from, cut_to;
     long trace, watch, press, press_at, release_at, low_wire, low_from, low_to, ram, pins_only, lag, all_keys, flip_bit, reset;
 } Asked;
 static Asked asked = {.seed = 1, .length = 2000, .pull = 100 * US, .hold = 100 * US, .period = 10 * US, .place = -1,
-                      .noise_width = 2 * US, .press = -1, .low_wire = -1, .compute = 5, .stall_in = 16};
+                      .noise_width = 2 * US, .press = -1, .low_wire = -1, .compute = 5, .stall_in = 16, .counts = 11};
 
 typedef struct { const char *name; long *field; long unit; } Word;
 static const Word words[] = {
@@ -78,6 +78,9 @@ static const Word words[] = {
     {"compute", &asked.compute, 1},       // how long that one computes a step, in tenths of a cycle
     {"stall", &asked.stall, 1},           // by how many cycles it is held up at most, and in one step
     {"stall_in", &asked.stall_in, 1},     // of how many
+    {"counts", &asked.counts, 1},         // 11: the host counts eleven falls a byte; 10: it takes the byte at the tenth
+    {"cut_from", &asked.cut_from, CYCLE}, // in every second byte the host pulls the clock, from so many cycles after the first
+    {"cut_to", &asked.cut_to, CYCLE},     // fall to so many, each time one cycle later, and somewhere within the cycle
     {"no_host", &asked.pins_only, 1},     // 1: nothing is plugged in
 };
 
@@ -114,13 +117,15 @@ typedef struct {
     bool seen;           // the clock when it last looked
     Time sample_at;      // when an edge that was noticed is handled
     Time next_poll, until, next_request, next_inhibit, next_noise;
+    Time cut_at, cut;    // when it pulls the clock within a byte, and when in the last one, from `cut_from` on
+    bool cuts;           // it does so in this byte
     int bits, count, byte, last_sent;
     bool wants, awaits;  // it wants to send `byte`; it awaits the reply
     Time reply_by;
 } Host;
 static Host host;
 
-typedef struct { long requests, collided, garbled, codes, lost, extra, resets, refused, echoes, resent; } Counted;
+typedef struct { long requests, collided, garbled, codes, lost, extra, resets, refused, echoes, resent, cuts; } Counted;
 static Counted counted;
 
 enum { EXPECTED = 4096 };
@@ -157,11 +162,27 @@ static void answer_missing(void) { counted.collided++; host.awaits = false; }
 
 static void take_frame(void) {
     int byte = host.bits >> 1 & 0xFF;
-    bool right = !(host.bits & 1) && host.bits >> 10 & 1 && is_odd(byte) != (host.bits >> 9 & 1);
+    bool stop = asked.counts == 10 || host.bits >> 10 & 1;
+    bool right = !(host.bits & 1) && stop && is_odd(byte) != (host.bits >> 9 & 1);
     if (right && host.awaits && host.last_sent == 0xEE && byte != 0xEE) answer_missing();
     if (right) take(byte); else counted.garbled++;
-    pull_for(HOLDING, asked.hold);
+    if (asked.counts == 11) pull_for(HOLDING, asked.hold);
     if (!right && asked.resend) { host.wants = true; host.byte = 0xFE; counted.resent++; }
+}
+
+static void plan_cut(void) { // at the first fall of a byte
+    if (asked.cut_to <= asked.cut_from) return;
+    host.cuts = !host.cuts;
+    if (!host.cuts) return;
+    host.cut_at = now + asked.cut_from + host.cut + drawn(CYCLE);
+    host.cut = (host.cut + CYCLE) % (asked.cut_to - asked.cut_from);
+}
+
+static void cut_byte(void) {
+    host.cut_at = FOREVER;
+    if (host.state != IDLE && host.state != RECEIVING) return;
+    counted.cuts++;
+    pull_for(HOLDING, asked.pull);
 }
 
 static void put_bit(void) { // the host's next bit, at a falling clock
@@ -178,10 +199,12 @@ static void on_fall(bool data) {
         host.bits = data;
         host.count = 1;
         host.until = now + 2 * MS;
+        plan_cut();
         break;
     case RECEIVING:
         host.bits |= data << host.count++;
-        if (host.count == 11) take_frame();
+        if (host.count == asked.counts) take_frame();
+        else if (host.count == 11) host.state = IDLE; // the frame ends for a host that has taken it at the tenth fall
         break;
     case ASKING:
         host.state = SENDING;
@@ -240,6 +263,7 @@ static void host_step(void) {
         if (fell && asked.polling) on_fall(wire[DATA].high);
         else if (fell && host.sample_at == FOREVER) host.sample_at = now + drawn((uint32_t)asked.latency + 1);
     }
+    if (now >= host.cut_at) cut_byte();
     start_pulls();
 }
 
@@ -332,7 +356,7 @@ static Time next_event(Time at) {
         if (!wire[i].pulls && !wire[i].high) at = sooner(at, wire[i].pulled + asked.rise + 1);
     }
     if (asked.pins_only) return at;
-    Time due[] = {host.until, host.until - 5 * US, host.sample_at, host.next_request, host.next_inhibit, host.next_noise,
+    Time due[] = {host.until, host.until - 5 * US, host.sample_at, host.cut_at, host.next_request, host.next_inhibit, host.next_noise,
                   next_key, host.awaits ? host.reply_by : FOREVER, asked.polling ? host.next_poll : FOREVER};
     for (size_t i = 0; i < sizeof due / sizeof *due; i++) at = sooner(at, due[i]);
     return at;
@@ -732,7 +756,7 @@ int main(int argc, char **argv) {
     noise_state = 0x9E3779B97F4A7C15ULL * (uint64_t)(asked.seed + 1);
     drawn(2);
     memset(chip.ram, (int)asked.ram, sizeof chip.ram);
-    host.sample_at = host.until = FOREVER;
+    host.sample_at = host.until = host.cut_at = FOREVER;
     if (asked.trace) return trace_steps();
     if (!asked.pins_only && first_key() == PLACES) return fail("it has no codes of keys at 300 to 35F", argv[1]);
     host.next_request = 500 * MS + until_next(asked.requests);
@@ -750,8 +774,8 @@ int main(int argc, char **argv) {
         whole &= run_chip(250 * MS);
         counted.lost += last_due - first_due;
         printf("ran=%d started=%d requests=%ld collided=%ld garbled=%ld codes=%ld lost=%ld extra=%ld resets=%ld refused=%ld echoes=%ld "
-               "resent=%ld\n", whole, started, counted.requests, counted.collided, counted.garbled, counted.codes, counted.lost,
-               counted.extra, counted.resets, counted.refused, counted.echoes, counted.resent);
+               "resent=%ld cuts=%ld\n", whole, started, counted.requests, counted.collided, counted.garbled, counted.codes, counted.lost,
+               counted.extra, counted.resets, counted.refused, counted.echoes, counted.resent, counted.cuts);
         return 0;
     }
     run_chip(500 * MS + drawn(20 * MS));

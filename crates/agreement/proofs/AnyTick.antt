@@ -218,7 +218,7 @@ module _ (d : Board) (bytes : List ℕ) (hk : HasKernel bytes) (alike : IsSilent
       ≡ clock_in d w byte look
   clock_look_is l byte look is =
       let frame : Frame = SentFrame byte in
-      let far : look ≤ 344 = look_within look is in
+      let far : look ≤ 334 = look_within look is in
       let a : 260 + start + look ≡ start + (260 + look) = omega arith in
       ap (λ b. (d.pins 44 (sent_latch v byte look) (260 + start + look) b).t0)
       (in_frame frame l look (omega (arith, far)))
@@ -307,7 +307,7 @@ module _ (d : Board) (bytes : List ℕ) (hk : HasKernel bytes) (alike : IsSilent
       → ((earlier : ℕ) → IsLook earlier → earlier < look → clock_in d w byte earlier ≡ true)
       → clock_in d w byte look ≡ false → Tick d TICK bytes w (So Cut (CutFrame byte look))
   cut byte look o is looks last =
-      let far : look ≤ 344 = look_within look is in
+      let far : look ≤ 334 = look_within look is in
       let frame : Frame = CutFrame byte look in
       let n : ℕ = cut_after look in
       let last_off : ℕ = 231 + (26 + n + (0 + (56 + (2 + most)))) in

@@ -24,7 +24,7 @@ one_byte a b h =
 -- at a look the latch is that of the frame
 pub sent_at : (old v byte look : ℕ) → IsLook look → tick_latch old v (SentFrame byte) (260 + look) ≡ sent_latch v byte look
 sent_at old v byte look is =
-    within old v (SentFrame byte) look (let far : look ≤ 344 = look_within look is in omega (arith, far))
+    within old v (SentFrame byte) look (let far : look ≤ 334 = look_within look is in omega (arith, far))
 
 -- in a received one both wires are let go
 pub received_at : (old v : ℕ) → IsReleased v → (k : ℕ) → k < 10 → tick_latch old v ReceivedFrame (306 + 32 * k) ≡ v

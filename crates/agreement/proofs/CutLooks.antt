@@ -52,7 +52,6 @@ module _ (events : List HostEvent) (v start : ℕ) (released : IsReleased v) (b 
     pub pulls : pulled (at_cycle (4 + look)).side.port.link ≡ Some since
     pub from : start + 256 ≤ since
     pub afterwards : (earlier : ℕ) → IsLook earlier → earlier < look → start + (260 + earlier) ≤ since
-    pub not_last : look < 344
 
   up : (o : ℕ) → 256 + start ≤ o → o < 288 + start → (whole o).clk ≡ true
   up o a u = (sent_lines v start released byte 0).0 o a u
@@ -126,14 +125,13 @@ module _ (events : List HostEvent) (v start : ℕ) (released : IsReleased v) (b 
         pulls = ap (λ o. pulled (at_cycle (4 + o)).side.port.link) e ∙ p.1;
         from = omega (arith, from);
         afterwards = λ earlier is l. absurd (no_earlier earlier is (omega (arith, e, l)));
-        not_last = omega (arith, e);
       }
     where
       no_earlier : (earlier : ℕ) → IsLook earlier → earlier < 8 → ⊥
       no_earlier earlier (inl q) l = omega (arith, q, l)
       no_earlier earlier (inr (inl q)) l = omega (arith, q, l)
       no_earlier earlier (inr (inr (k, few, inl q))) l = omega (arith, q, l)
-      no_earlier earlier (inr (inr (k, few, inr q))) l = omega (arith, q, l)
+      no_earlier earlier (inr (inr (k, few, inr (q, more)))) l = omega (arith, q, l)
   before_edge gone look (inr (inl e)) early before low =
       let high : lets 8 ≡ true = before 8 (inl refl) (omega (arith, e)) in
       let p = pulls_on 12 18 (omega arith) (free_at_first high) (ap lets (sym e) ∙ low) in
@@ -143,14 +141,13 @@ module _ (events : List HostEvent) (v start : ℕ) (released : IsReleased v) (b 
         pulls = ap (λ o. pulled (at_cycle (4 + o)).side.port.link) e ∙ p.1;
         from = omega (arith, from);
         afterwards = λ earlier is l. (let one : earlier ≤ 8 = up_to_eight earlier is (omega (arith, e, l)) in omega (arith, one, from));
-        not_last = omega (arith, e);
       }
     where
       up_to_eight : (earlier : ℕ) → IsLook earlier → earlier < 26 → earlier ≤ 8
       up_to_eight earlier (inl q) l = omega (arith, q, l)
       up_to_eight earlier (inr (inl q)) l = absurd (omega (arith, q, l))
       up_to_eight earlier (inr (inr (k, few, inl q))) l = absurd (omega (arith, q, l))
-      up_to_eight earlier (inr (inr (k, few, inr q))) l = absurd (omega (arith, q, l))
+      up_to_eight earlier (inr (inr (k, few, inr (q, more)))) l = absurd (omega (arith, q, l))
   before_edge gone look (inr (inr (k, few, inl e))) early before low =
       let first : k ≡ 0 = omega (arith, e, early) in
       let at : look ≡ 46 = omega (arith, e, first) in
@@ -168,7 +165,6 @@ module _ (events : List HostEvent) (v start : ℕ) (released : IsReleased v) (b 
                   ∙ (pulled_span events whole 18 (32 + (256 + start)) (at_cycle 32) p.0 p.1 (omega (arith, from))).1;
               from = omega (arith, from);
               afterwards = λ earlier is l. (let one : earlier ≤ 26 = up_to_second earlier is (omega (arith, at, l)) in omega (arith, one, from));
-              not_last = omega (arith, at);
             }
       ]
     where
@@ -176,8 +172,8 @@ module _ (events : List HostEvent) (v start : ℕ) (released : IsReleased v) (b 
       up_to_second earlier (inl q) l = omega (arith, q, l)
       up_to_second earlier (inr (inl q)) l = omega (arith, q, l)
       up_to_second earlier (inr (inr (k, few, inl q))) l = absurd (omega (arith, q, l))
-      up_to_second earlier (inr (inr (k, few, inr q))) l = absurd (omega (arith, q, l))
-  before_edge gone look (inr (inr (k, few, inr e))) early before low = absurd (omega (arith, e, early))
+      up_to_second earlier (inr (inr (k, few, inr (q, more)))) l = absurd (omega (arith, q, l))
+  before_edge gone look (inr (inr (k, few, inr (e, more)))) early before low = absurd (omega (arith, e, early))
 
   -- the PC's side at a look, by the cycles after the first edge
   as_look : (look n : ℕ) → look ≡ 28 + n
@@ -196,13 +192,13 @@ module _ (events : List HostEvent) (v start : ℕ) (released : IsReleased v) (b 
   up_to_cell k earlier (inl q) l = (omega (arith, q), λ more. omega (arith, q, more))
   up_to_cell k earlier (inr (inl q)) l = (omega (arith, q), λ more. omega (arith, q, more))
   up_to_cell k earlier (inr (inr (i, few, inl q))) l = (omega (arith, q, l), λ more. omega (arith, q, l))
-  up_to_cell k earlier (inr (inr (i, few, inr q))) l = (omega (arith, q, l), λ more. omega (arith, q, l))
+  up_to_cell k earlier (inr (inr (i, few, inr (q, less)))) l = (omega (arith, q, l), λ more. omega (arith, q, l))
 
   up_to_first : (k earlier : ℕ) → IsLook earlier → earlier < 56 + 32 * k → earlier ≤ 46 + 32 * k
   up_to_first k earlier (inl q) l = omega (arith, q)
   up_to_first k earlier (inr (inl q)) l = omega (arith, q)
   up_to_first k earlier (inr (inr (i, few, inl q))) l = omega (arith, q, l)
-  up_to_first k earlier (inr (inr (i, few, inr q))) l = omega (arith, q, l)
+  up_to_first k earlier (inr (inr (i, few, inr (q, less)))) l = omega (arith, q, l)
 
   -- and those of the cells, by what is known of a frame that is broken off
   module _ (there : (at_meeting events whole start b).side.port.link ≡ Free) where
@@ -227,7 +223,7 @@ module _ (events : List HostEvent) (v start : ℕ) (released : IsReleased v) (b 
         (λ o a u. refl) leaves pulls
         (λ i s. let less : i < 10 = omega (arith, s, few) in
         sym (as_cycle events whole start b (56 + 32 * i) (32 * i + 28) (omega arith))
-        ∙ before (56 + 32 * i) (inr (inr (i, less, inr refl))) (omega (arith, e, s))) in
+        ∙ before (56 + 32 * i) (inr (inr (i, less, inr (refl, omega (arith, s, few))))) (omega (arith, e, s))) in
         record {
           since = off.since;
           pulls = as_look look (32 * k + suc 17) (omega (arith, e)) ∙ off.pulls;
@@ -245,9 +241,8 @@ module _ (events : List HostEvent) (v start : ℕ) (released : IsReleased v) (b 
                     let near : earlier ≤ 24 + 32 * k = most.1 (omega (arith, s)) in
                     omega (arith, s, least, near)
               ];
-          not_last = omega (arith, e, few);
         }
-    in_cells look (inr (inr (k, few, inr e))) before low =
+    in_cells look (inr (inr (k, few, inr (e, less)))) before low =
         let high : leaves_clock events whole start b k ≡ true =
         sym (as_cycle events whole start b (46 + 32 * k) (32 * k + 18) (omega arith))
         ∙ before (46 + 32 * k) (inr (inr (k, few, inl refl))) (omega (arith, e)) in
@@ -262,7 +257,6 @@ module _ (events : List HostEvent) (v start : ℕ) (released : IsReleased v) (b 
         (λ o a u. refl) leaves pulls in
         let way = since_first events whole whole start k 27 (frame_bit byte) b frame at few (omega arith) (omega arith)
         (λ o a u. refl) leaves pulls high in
-        let inside : suc k < 10 = way.0 in
         let least : 32 * k + (288 + start) + 18 ≤ off.since = way.1 in
         record {
           since = off.since;
@@ -270,7 +264,6 @@ module _ (events : List HostEvent) (v start : ℕ) (released : IsReleased v) (b 
           from = omega (arith, least);
           afterwards = λ earlier is l.
               (let near : earlier ≤ 46 + 32 * k = up_to_first k earlier is (omega (arith, e, l)) in omega (arith, near, least));
-          not_last = omega (arith, e, inside);
         }
 
   -- what is known of the first look that finds the clock low

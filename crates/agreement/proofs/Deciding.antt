@@ -227,7 +227,7 @@ module _ (edges : List Edge) (events : List HostEvent) (d : Board) (to : d.State
                 by_cycle (46 + 32 * i) (32 * i + 18) (omega arith) (omega (arith, e, l))
                 ∙ first.before (46 + 32 * i) (inr (inr (i, less, inl refl))) (omega (arith, e, l)))
                 (by_cycle first.look (32 * j + suc 17) (omega (arith, e)) (omega arith) ∙ first.low)
-            by_look there (inr (inr (j, below, inr e))) =
+            by_look there (inr (inr (j, below, inr (e, more)))) =
                 broken_ticked events v w.cycle released rest k look all byte j 27 first.look first.is (omega (arith, e)) below
                 (omega arith) (omega arith) free there
                 (λ i l. let less : i < 10 = omega (arith, l, below) in
@@ -240,7 +240,7 @@ module _ (edges : List Edge) (events : List HostEvent) (d : Board) (to : d.State
         cut =
             goes edges events d to over bytes layout same codes own n w m time tie columns of_layout released lamps noise kbd.Cut met.Cut
             (CutFrame byte first.look)
-            (some, first.is, (since events v w.cycle released look byte free first).not_last) refl (λ b e. absurd cc)
+            (some, first.is) refl (λ b e. absurd cc)
             (λ rest more k all long. at_model here rest k (Some byte) met.Cut ended some (ticked rest k all))
             (is_cut edges events d to over bytes hk alike small low w tie.started tie.repeating few tie.lit byte first.look first.is
             (shown_tests ∙ ended) (shown_offers ∙ some) free first.before first.low)

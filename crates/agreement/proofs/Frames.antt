@@ -1,7 +1,7 @@
 -- The frame of a tick, by the PC's side: what is offered is sent, or cut at a look; or the controller's byte is
 -- received.
 use Rattle.std.proofs.Common.{◌≡◌, ◌≤◌, ◌<◌, ◌⊎◌, inl, inr, ℕ, suc, zero, ◌==◌, List, Bool, true, false, Some}
-use Rattle.std.proofs.Common.{None, ◌+◌, ◌*◌, ◌&&◌, nat_lt, refl, ap, sym, ◌∙◌, arith}
+use Rattle.std.proofs.Common.{None, ◌+◌, ◌*◌, ◌&&◌, ◌||◌, not, nat_lt, refl, ap, sym, ◌∙◌, arith}
 use Rattle.std.specs.declared.option.Option.{Option}
 use Rattle.std.proofs.lemmas.Bool.Decides.{nat_tests}
 use Rattle.board_terms.specs.declared.event.HostEvent.{HostEvent}
@@ -54,11 +54,35 @@ pub record FirstLow (lets : ℕ → Bool) : Type 0 where
   pub low : lets look ≡ false
 
 module _ (lets : ℕ → Bool) where
-  abbrev in_cell : ℕ → Bool
-  in_cell k = lets (46 + 32 * k) && lets (56 + 32 * k)
+  -- the tenth cell has no second look
+  abbrev second_in : ℕ → Bool
+  second_in k = lets (56 + 32 * k) || not (nat_lt k 9)
 
-  both_let : (k : ℕ) → in_cell k ≡ true → (lets (46 + 32 * k) ≡ true) × (lets (56 + 32 * k) ≡ true)
-  both_let k h = both (lets (46 + 32 * k)) (lets (56 + 32 * k)) h
+  abbrev in_cell : ℕ → Bool
+  in_cell k = lets (46 + 32 * k) && second_in k
+
+  second_let : (k : ℕ) → second_in k ≡ true → k < 9 → lets (56 + 32 * k) ≡ true
+  second_let k h less =
+      let there : nat_lt k 9 ≡ true = grind (arith, nat_tests, less) in
+      by (lets (56 + 32 * k)) refl (sym (ap (λ c. lets (56 + 32 * k) || not c) there) ∙ h)
+    where
+      by : (b : Bool) → lets (56 + 32 * k) ≡ b → (lets (56 + 32 * k) || false) ≡ true → lets (56 + 32 * k) ≡ true
+      by true e f = e
+      by false e f = absurd (let none : false ≡ true = sym (ap (λ c. c || false) e) ∙ f in cc none)
+
+  both_let : (k : ℕ) → in_cell k ≡ true → (lets (46 + 32 * k) ≡ true) × (second_in k ≡ true)
+  both_let k h = both (lets (46 + 32 * k)) (second_in k) h
+
+  -- a second look that fails is one
+  second_low : (k : ℕ) → second_in k ≡ false → (lets (56 + 32 * k) ≡ false) × (k < 9)
+  second_low k h = by (lets (56 + 32 * k)) refl (nat_lt k 9) refl
+    where
+      by : (a : Bool) → lets (56 + 32 * k) ≡ a → (b : Bool) → nat_lt k 9 ≡ b → (lets (56 + 32 * k) ≡ false) × (k < 9)
+      by true e b f = absurd (let some : true ≡ false = sym (ap (λ c. c || not (nat_lt k 9)) e) ∙ h in cc some)
+      by false e true f = (e, grind (arith, nat_tests, f))
+      by false e false f =
+          absurd (let some : true ≡ false =
+          sym (ap (λ c. c || not (nat_lt k 9)) e ∙ ap (λ c. false || not c) f) ∙ h in cc some)
 
   -- the looks before those of a cell
   before_cell : (j : ℕ) → lets 8 ≡ true → lets 26 ≡ true → ((k : ℕ) → k < j → in_cell k ≡ true)
@@ -67,8 +91,8 @@ module _ (lets : ℕ → Bool) where
   before_cell j first second cells earlier (inr (inl e)) l = ap lets e ∙ second
   before_cell j first second cells earlier (inr (inr (k, few, inl e))) l =
       ap lets e ∙ (both_let k (cells k (omega (arith, e, l)))).0
-  before_cell j first second cells earlier (inr (inr (k, few, inr e))) l =
-      ap lets e ∙ (both_let k (cells k (omega (arith, e, l)))).1
+  before_cell j first second cells earlier (inr (inr (k, few, inr (e, less)))) l =
+      ap lets e ∙ second_let k (both_let k (cells k (omega (arith, e, l)))).1 less
 
   before_second : (j : ℕ) → ((earlier : ℕ) → IsLook earlier → earlier < 46 + 32 * j → lets earlier ≡ true)
       → lets (46 + 32 * j) ≡ true → (earlier : ℕ) → IsLook earlier → earlier < 56 + 32 * j → lets earlier ≡ true
@@ -84,27 +108,28 @@ module _ (lets : ℕ → Bool) where
           let late : 46 + 32 * j ≤ earlier = grind (arith, nat_tests, e) in
           let same : earlier ≡ 46 + 32 * j = omega (arith, late, l, q) in
           ap lets same ∙ high
-      by false e (inr (inr (k, few, inr q))) =
+      by false e (inr (inr (k, few, inr (q, less)))) =
           let late : 46 + 32 * j ≤ earlier = grind (arith, nat_tests, e) in absurd (omega (arith, late, l, q))
 
   none_before : (earlier : ℕ) → IsLook earlier → earlier < 8 → lets earlier ≡ true
   none_before earlier (inl q) l = absurd (omega (arith, q, l))
   none_before earlier (inr (inl q)) l = absurd (omega (arith, q, l))
   none_before earlier (inr (inr (k, few, inl q))) l = absurd (omega (arith, q, l))
-  none_before earlier (inr (inr (k, few, inr q))) l = absurd (omega (arith, q, l))
+  none_before earlier (inr (inr (k, few, inr (q, less)))) l = absurd (omega (arith, q, l))
 
   one_before : lets 8 ≡ true → (earlier : ℕ) → IsLook earlier → earlier < 26 → lets earlier ≡ true
   one_before first earlier (inl q) l = ap lets q ∙ first
   one_before first earlier (inr (inl q)) l = absurd (omega (arith, q, l))
   one_before first earlier (inr (inr (k, few, inl q))) l = absurd (omega (arith, q, l))
-  one_before first earlier (inr (inr (k, few, inr q))) l = absurd (omega (arith, q, l))
+  one_before first earlier (inr (inr (k, few, inr (q, less)))) l = absurd (omega (arith, q, l))
 
   -- all looks, by the ten cells
   all_let : lets 8 ≡ true → lets 26 ≡ true → ((k : ℕ) → k < 10 → in_cell k ≡ true) → (look : ℕ) → IsLook look → lets look ≡ true
   all_let first second cells look (inl e) = ap lets e ∙ first
   all_let first second cells look (inr (inl e)) = ap lets e ∙ second
   all_let first second cells look (inr (inr (k, few, inl e))) = ap lets e ∙ (both_let k (cells k few)).0
-  all_let first second cells look (inr (inr (k, few, inr e))) = ap lets e ∙ (both_let k (cells k few)).1
+  all_let first second cells look (inr (inr (k, few, inr (e, less)))) =
+      ap lets e ∙ second_let k (both_let k (cells k few)).1 less
 
   in_frame : lets 8 ≡ true → lets 26 ≡ true → (first : FailsFirst in_cell) → FirstLow lets
   in_frame first second fails = by (lets (46 + 32 * fails.j)) refl
@@ -114,12 +139,14 @@ module _ (lets : ℕ → Bool) where
 
       by : (c : Bool) → lets (46 + 32 * fails.j) ≡ c → FirstLow lets
       by false e = record { look = 46 + 32 * fails.j; is = inr (inr (fails.j, fails.below, inl refl)); before = before; low = e }
-      by true e = record {
-        look = 56 + 32 * fails.j;
-        is = inr (inr (fails.j, fails.below, inr refl));
-        before = before_second fails.j before e;
-        low = ap (λ c. c && lets (56 + 32 * fails.j)) (sym e) ∙ fails.fails;
-      }
+      by true e =
+          let second = second_low fails.j (ap (λ c. c && second_in fails.j) (sym e) ∙ fails.fails) in
+          record {
+            look = 56 + 32 * fails.j;
+            is = inr (inr (fails.j, fails.below, inr (refl, second.1)));
+            before = before_second fails.j before e;
+            low = second.0;
+          }
 
   -- the clock is let at all looks, or there is a first that finds it low
   pub first_low : ((look : ℕ) → IsLook look → lets look ≡ true) ⊎ (FirstLow lets)

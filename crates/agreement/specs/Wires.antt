@@ -32,10 +32,10 @@ use Rattle.ctl_wire.specs.Wires.{Pc}
 use Rattle.agreement.specs.Agreement.{switched_on}
 
 -- the frame of a tick with this meeting, if the keyboard offers this byte: the byte that is sent; the byte offered,
--- cut at a look, which isn't the last; the frame in which the controller's byte is received; or none
+-- cut at a look; the frame in which the controller's byte is received; or none
 abbrev pub IsFrameOf : Option ℕ → Meeting → Frame → Type 0
 IsFrameOf offered (Sent byte) frame = frame ≡ SentFrame byte
-IsFrameOf offered Cut (CutFrame byte look) = (offered ≡ Some byte) × IsLook look × (look < 344)
+IsFrameOf offered Cut (CutFrame byte look) = (offered ≡ Some byte) × IsLook look
 IsFrameOf offered Cut NoFrame = ⊥
 IsFrameOf offered Cut (SentFrame byte) = ⊥
 IsFrameOf offered Cut ReceivedFrame = ⊥

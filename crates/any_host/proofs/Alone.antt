@@ -47,7 +47,7 @@ module _ (w : Wiring) (wires : AreWires w) (rules : IsRuleful w) (x : ℕ)
       sym at_clock ∙ ap (λ i. (w.pins i).clk) (sym q) ∙ wires.clock.pulled p (pulls p l (omega (arith, m))) (pulls (suc p) (omega (arith, l)) (omega (arith, m)))
 
   -- each pull of 24 cycles there is found by a look
-  any_pull : (a c : ℕ) → a ≤ c → c < a + 24 → x + 256 ≤ c → c ≤ x + 603
+  any_pull : (a c : ℕ) → a ≤ c → c < a + 24 → x + 256 ≤ c → c ≤ x + 593
       → ((i : ℕ) → a ≤ i → i < a + 24 → (w.host i).clk ≡ false) → true ≡ false
   any_pull a c l m from to pulls = by0 (nat_le a (x + 255)) refl
     where
@@ -55,7 +55,7 @@ module _ (w : Wiring) (wires : AreWires w) (rules : IsRuleful w) (x : ℕ)
       by4 far true s =
           let k : ℕ = (a - x - 306) / 32 in
           let r : (a - x - 306) % 32 ≤ 9 = grind (arith, nat_tests, s) in
-          over_look a (56 + 32 * k) (x + (259 + (56 + 32 * k))) (inr (inr (k, omega (arith, far, l, to), inr refl))) refl
+          over_look a (56 + 32 * k) (x + (259 + (56 + 32 * k))) (inr (inr (k, omega (arith, far, l, to), inr (refl, omega (arith, far, l, to))))) refl
           (omega (arith, far, r)) (omega (arith, far)) pulls
       by4 far false s =
           let k : ℕ = (a - x - 306) / 32 in
@@ -92,7 +92,7 @@ module _ (w : Wiring) (wires : AreWires w) (rules : IsRuleful w) (x : ℕ)
           let n : x + 255 < a = grind (arith, nat_tests, s) in by1 n (nat_le a (x + 267)) refl
 
   -- so the host pulls the clock in none of these cycles
-  pub leaves : (o : ℕ) → 256 ≤ o → o ≤ 603 → (w.host (x + o)).clk ≡ true
+  pub leaves : (o : ℕ) → 256 ≤ o → o ≤ 593 → (w.host (x + o)).clk ≡ true
   leaves o l m = by (w.host (x + o)).clk refl
     where
       by : (b : Bool) → (w.host (x + o)).clk ≡ b → (w.host (x + o)).clk ≡ true
@@ -123,42 +123,65 @@ module _ (w : Wiring) (wires : AreWires w) (rules : IsRuleful w) (x : ℕ)
             not_both (λ c. (w.keyboard c).dat) (λ c. (w.host c).dat) (λ c. (w.pins c).dat) (λ c. (w.seen c).dat)
             wires.data_wire x 257 at_data (rules.holds (x + 257) byte here) (rules.holds (x + 258) byte (given byte here))
 
-    -- while bits are taken it lets data go
-    pub data_high : (o : ℕ) → 257 ≤ o → o ≤ 624 → IsTaking (e (x + o)).mode → (w.host (x + o)).dat ≡ true
-    data_high o l m t = by (w.host (x + o)).dat refl (nat_le o 604) refl
+    -- while bits are taken it lets data go: before it pulls data it would have pulled the clock
+    data_by : (o p : ℕ) → p < o → o ≤ p + 21 → (w.host (x + p)).clk ≡ true → IsTaking (e (x + o)).mode
+        → (w.host (x + o)).dat ≡ true
+    data_by o p l m go t = by (w.host (x + o)).dat refl
       where
-        by : (b : Bool) → (w.host (x + o)).dat ≡ b → (c : Bool) → nat_le o 604 ≡ c → (w.host (x + o)).dat ≡ true
-        by true go c s = go
-        by false low true s =
-            let near : o ≤ 604 = grind (arith, nat_tests, s) in
-            let p : ℕ = o - 1 in
-            never (sym (leaves p (omega (arith, l)) (omega (arith, near)))
-            ∙ rules.asks (x + o) t.0 t.1 low (x + p) (omega (arith, l)) (omega (arith, l)))
-        by false low false s =
-            let far : 604 < o = grind (arith, nat_tests, s) in
-            let p : ℕ = o - 21 in
-            never (sym (leaves p (omega (arith, far)) (omega (arith, m)))
-            ∙ rules.asks (x + o) t.0 t.1 low (x + p) (omega (arith, far)) (omega (arith, far)))
+        by : (b : Bool) → (w.host (x + o)).dat ≡ b → (w.host (x + o)).dat ≡ true
+        by true high = high
+        by false low = never (sym go ∙ rules.asks (x + o) t.0 t.1 low (x + p) (omega (arith, l)) (omega (arith, m)))
 
-    next_taking : (o : ℕ) → 257 ≤ o → o ≤ 624 → IsTaking (e (x + o)).mode → IsTaking (e (suc (x + o))).mode
-    next_taking o l m t = by (w.host (x + o)).clk refl (fell w (x + o)) refl
+    data_high : (o : ℕ) → 257 ≤ o → o ≤ 614 → IsTaking (e (x + o)).mode → (w.host (x + o)).dat ≡ true
+    data_high o l m t = by (nat_le o 594) refl
+      where
+        by : (c : Bool) → nat_le o 594 ≡ c → (w.host (x + o)).dat ≡ true
+        by true s =
+            let near : o ≤ 594 = grind (arith, nat_tests, s) in
+            data_by o (o - 1) (omega (arith, l)) (omega (arith, l)) (leaves (o - 1) (omega (arith, l)) (omega (arith, near))) t
+        by false s =
+            let far : 594 < o = grind (arith, nat_tests, s) in
+            data_by o (o - 21) (omega (arith, far)) (omega (arith, far)) (leaves (o - 21) (omega (arith, far)) (omega (arith, m))) t
+
+    next_taking : (o : ℕ) → (w.host (x + o)).dat ≡ true → IsTaking (e (x + o)).mode → IsTaking (e (suc (x + o))).mode
+    next_taking o high t = by (w.host (x + o)).clk refl (fell w (x + o)) refl
       where
         by : (b : Bool) → (w.host (x + o)).clk ≡ b → (f : Bool) → fell w (x + o) ≡ f → IsTaking (e (suc (x + o))).mode
         by false pulls f fs = ([], ap (λ (v : Ear). v.mode) (held w wires (x + o) pulls))
         by true go true fs =
-            subst (λ (v : Ear). IsTaking v.mode) (sym (went w wires (x + o) (Takes t.0) true true go t.1 (data_high o l m t) fs))
+            subst (λ (v : Ear). IsTaking v.mode) (sym (went w wires (x + o) (Takes t.0) true true go t.1 high fs))
             (bit_taken t.0 (w.reads (x + o)) (e (x + o)) (length t.0 == 10) refl)
         by true go false fs =
-            subst (λ (v : Ear). IsTaking v.mode) (sym (went w wires (x + o) (Takes t.0) true false go t.1 (data_high o l m t) fs)) t
+            subst (λ (v : Ear). IsTaking v.mode) (sym (went w wires (x + o) (Takes t.0) true false go t.1 high fs)) t
 
-    pub always_taking : (j : ℕ) → j ≤ 367 → IsTaking (e (x + (257 + j))).mode
+    always_taking : (j : ℕ) → j ≤ 358 → IsTaking (e (x + (257 + j))).mode
     always_taking zero l =
         let z : 257 ≡ 257 + 0 = omega arith in subst (λ o. IsTaking (e (x + o)).mode) z ([], taking_there)
     always_taking (suc j) l =
         let z : suc (x + (257 + j)) ≡ x + (257 + suc j) = omega arith in
-        subst (λ c. IsTaking (e c).mode) z (next_taking (257 + j) (omega arith) (omega (arith, l)) (always_taking j (omega (arith, l))))
+        let t = always_taking j (omega (arith, l)) in
+        subst (λ c. IsTaking (e c).mode) z
+        (next_taking (257 + j) (data_high (257 + j) (omega arith) (omega (arith, l)) t) t)
 
-    pub lets_data : (o : ℕ) → 257 ≤ o → o ≤ 624 → (w.host (x + o)).dat ≡ true
+    pub lets_data : (o : ℕ) → 257 ≤ o → o ≤ 614 → (w.host (x + o)).dat ≡ true
     lets_data o l m =
         let p : 257 + (o - 257) ≡ o = omega (arith, l) in
         data_high o l m (subst (λ o. IsTaking (e (x + o)).mode) p (always_taking (o - 257) (omega (arith, m))))
+
+    -- and for a while more, if it lets the clock go past the last look
+    module _ (later : (w.host (x + 603)).clk ≡ true) where
+      still_taking : (j : ℕ) → j ≤ 9 → IsTaking (e (x + (615 + j))).mode
+      still_taking zero l =
+          let z : 257 + 358 ≡ 615 + 0 = omega arith in
+          subst (λ o. IsTaking (e (x + o)).mode) z (always_taking 358 (omega arith))
+      still_taking (suc j) l =
+          let z : suc (x + (615 + j)) ≡ x + (615 + suc j) = omega arith in
+          let t = still_taking j (omega (arith, l)) in
+          subst (λ c. IsTaking (e c).mode) z
+          (next_taking (615 + j) (data_by (615 + j) 603 (omega arith) (omega (arith, l)) later t) t)
+
+      pub lets_data_on : (o : ℕ) → 614 < o → o ≤ 624 → (w.host (x + o)).dat ≡ true
+      lets_data_on o l m =
+          let p : 615 + (o - 615) ≡ o = omega (arith, l) in
+          data_by o 603 (omega (arith, l)) (omega (arith, m)) later
+          (subst (λ o. IsTaking (e (x + o)).mode) p (still_taking (o - 615) (omega (arith, m))))

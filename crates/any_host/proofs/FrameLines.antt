@@ -117,7 +117,7 @@ module _ (byte : ℕ) where
             let m : o < 260 = grind (arith, nat_tests, e) in early cut o m ∙ sym (early sent o m)
         by false e =
             let m : 260 ≤ o = grind (arith, nat_tests, e) in
-            let far : look ≤ 344 = look_within look is in
+            let far : look ≤ 334 = look_within look is in
             let i : ℕ = o - 260 in
             let p : o ≡ 260 + i = omega (arith, m) in
             ap (λ o. frame_lines cut o) p ∙ inside cut i (omega (arith, m, l))
@@ -141,7 +141,7 @@ module _ (byte : ℕ) where
     -- at the look and in the next cycle the clock is let go
     pub at_look : (i : ℕ) → i < 2 → (frame_lines cut (260 + look + i)).clk ≡ true
     at_look i l =
-        let far : look ≤ 344 = look_within look is in
+        let far : look ≤ 334 = look_within look is in
         let p : 260 + look + i ≡ 260 + (look + i) = omega arith in
         cut_as_sent_clock i l
         ∙ ap (λ o. (frame_lines sent o).clk) p ∙ ap (λ l. l.clk) (inside sent (look + i) (omega (arith, l, far)))

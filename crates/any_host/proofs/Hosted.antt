@@ -85,7 +85,7 @@ module _ (d : Board) (w : World d.State) (byte look : ℕ) (is : IsLook look) wh
           let m : nat_lt o 260 ≡ true = e in rw m refl
       by false e =
           let a : 260 ≤ o = grind (arith, nat_tests, e) in
-          let far : look ≤ 344 = look_within look is in
+          let far : look ≤ 334 = look_within look is in
           let i : ℕ = o - 260 in
           let p : 260 + i ≡ o = omega (arith, a) in
           ap (latch_at d w (SentFrame byte)) (sym p)
@@ -184,11 +184,11 @@ module _ (layout : KeyLayout) (d : Board) (from : World d.State) (a : WorksAlone
           s 258 (omega arith) ∙ sym (data_there d (at n).state (SentFrame byte)) ∙ h.1.1,
           c 256 (omega arith) ∙ sym (clock_there d (at n).state (SentFrame byte)) ∙ h.1.0.1,
           λ look is.
-              let far : look ≤ 344 = look_within look is in
+              let far : look ≤ 334 = look_within look is in
               c (260 + look) (omega (arith, far)) ∙ h.2 look is,
         )
         by (CutFrame byte look) h c s =
-            let far : look ≤ 344 = look_within look h.2 in (
+            let far : look ≤ 334 = look_within look h.2 in (
               h.0,
               h.2,
               c (260 + look) (omega (arith, far)) ∙ sym (clock_same d (at n).state byte look h.2) ∙ h.4,

@@ -6,7 +6,7 @@ use Rattle.std.proofs.lemmas.List.{length-append}
 use Rattle.board_terms.proofs.Frames.{read_back}
 use Rattle.board_terms.specs.Frame.{byte_of, frame_bits}
 use Rattle.fw_link.specs.Latch.{SentFrame, IsLook, frame_bit}
-use Rattle.any_host.proofs.Alone.{leaves, lets_data, taking_there}
+use Rattle.any_host.proofs.Alone.{leaves, lets_data, lets_data_on, taking_there}
 use Rattle.any_host.proofs.Ears.{Kept, NoFall, keeps_on, no_fall, went}
 use Rattle.any_host.proofs.FrameLines.{sent_clock, sent_data, sent_late, sent_start, sent_up}
 use Rattle.any_host.proofs.Offsets.{falls_at, high_at, low_at, same_on}
@@ -73,14 +73,14 @@ module _ (w : Wiring) (wires : AreWires w) (rules : IsRuleful w) (x y : ℕ) (lo
   let_go_there : (w.keyboard (x + 257)).clk ≡ true
   let_go_there = clk 257 (omega arith) ∙ sent_up byte 257 (omega arith)
 
-  host_dat : (o : ℕ) → 257 ≤ o → o ≤ 624 → (w.host (x + o)).dat ≡ true
+  host_dat : (o : ℕ) → 257 ≤ o → o ≤ 614 → (w.host (x + o)).dat ≡ true
   host_dat = lets_data w wires rules x looks at_clock at_data first there let_go_there
 
-  host_clk : (o : ℕ) → 256 ≤ o → o ≤ 603 → (w.host (x + o)).clk ≡ true
+  host_clk : (o : ℕ) → 256 ≤ o → o ≤ 593 → (w.host (x + o)).clk ≡ true
   host_clk = leaves w wires rules x looks at_clock at_data
 
   -- a cycle that changes nothing
-  quiet : (o : ℕ) (bits : List Bool) → 257 ≤ o → o ≤ 624 → NoFall w wires (x + o) → (w.host (x + o)).clk ≡ true
+  quiet : (o : ℕ) (bits : List Bool) → 257 ≤ o → o ≤ 614 → NoFall w wires (x + o) → (w.host (x + o)).clk ≡ true
       → (E o).mode ≡ Takes bits → ear_to w (suc (x + o)) ≡ E o
   quiet o bits l m none go is =
       went w wires (x + o) (Takes bits) true false go is (host_dat o l m) (no_fall w wires (x + o) none go)
@@ -88,12 +88,13 @@ module _ (w : Wiring) (wires : AreWires w) (rules : IsRuleful w) (x y : ℕ) (lo
   abbrev bits : ℕ → List Bool
   bits k = bits_to (frame_bit byte) k
 
-  -- the fall of a cell is next: so many bits are taken, and the host has let the clock go
+  -- the fall of a cell is next: so many bits are taken, the host has let the clock go, and lets data go as it reads
   pub record At (k : ℕ) : Type 0 where
     pub mode : (E (288 + 32 * k)).mode ≡ Takes (bits k)
     pub taken : (E (288 + 32 * k)).taken ≡ first.taken
     pub given : (E (288 + 32 * k)).given ≡ first.given
     pub host : (i : ℕ) → i < 4 → (w.host (x + (285 + 32 * k + i))).clk ≡ true
+    pub lets : (o : ℕ) → 257 ≤ o → o ≤ 304 + 32 * k → (w.host (x + o)).dat ≡ true
 
   begins : At 0
   begins =
@@ -112,6 +113,7 @@ module _ (w : Wiring) (wires : AreWires w) (rules : IsRuleful w) (x y : ℕ) (lo
         taken = ap (λ (v : Ear). v.taken) all ∙ there.taken;
         given = ap (λ (v : Ear). v.given) all ∙ there.given;
         host = λ i l. host_clk (285 + 32 * 0 + i) (omega arith) (omega (arith, l));
+        lets = λ o l m. host_dat o l (omega (arith, m));
       }
 
   module _ (k : ℕ) (few : k ≤ 10) (h : At k) where
@@ -190,11 +192,11 @@ module _ (w : Wiring) (wires : AreWires w) (rules : IsRuleful w) (x y : ℕ) (lo
           ∙ high_at (λ c. (w.keyboard c).dat) (λ c. (w.host c).dat) (λ c. (w.pins c).dat) (λ c. (w.seen c).dat)
           wires.data_wire x q
           (ap (λ v. (w.keyboard (x + v)).dat) (sym q0) ∙ driven 0 (omega arith) ∙ is)
-          (host_dat q (omega arith) (omega (arith, few, l)))
+          (h.lets q (omega arith) (omega (arith, l)))
           (ap (λ v. (w.keyboard (x + v)).dat) (sym q1) ∙ driven 1 (omega arith) ∙ is)
-          (host_dat (suc q) (omega arith) (omega (arith, few, l)))
+          (h.lets (suc q) (omega arith) (omega (arith, l)))
           (ap (λ v. (w.keyboard (x + v)).dat) (sym q2) ∙ driven 2 (omega arith) ∙ is)
-          (host_dat (suc (suc q)) (omega arith) (omega (arith, few, l)))
+          (h.lets (suc (suc q)) (omega arith) (omega (arith, l)))
           ∙ sym is
       by_level false is =
           ap (λ c. (w.seen c).dat) (sym to)
@@ -227,6 +229,7 @@ module _ (w : Wiring) (wires : AreWires w) (rules : IsRuleful w) (x y : ℕ) (lo
         let p : 285 + 32 * suc k + i ≡ 289 + 32 * k + (28 + i) = omega arith in
         ap (λ v. (w.host (x + v)).clk) p
         ∙ go (28 + i) (omega (arith, l)) (stay (28 + i) (omega (arith, l)));
+    lets = lets_next;
   }
     where
       long_bits : length (bits k) ≡ k
@@ -245,12 +248,12 @@ module _ (w : Wiring) (wires : AreWires w) (rules : IsRuleful w) (x y : ℕ) (lo
 
       -- the host lets the clock go in the cell
       go : (i : ℕ) → i ≤ 31 → E (289 + 32 * k + i) ≡ E (289 + 32 * k) → (w.host (x + (289 + 32 * k + i))).clk ≡ true
-      go i l same = by (nat_le (289 + 32 * k + i) 603) refl
+      go i l same = by (nat_le (289 + 32 * k + i) 593) refl
         where
-          by : (b : Bool) → nat_le (289 + 32 * k + i) 603 ≡ b → (w.host (x + (289 + 32 * k + i))).clk ≡ true
+          by : (b : Bool) → nat_le (289 + 32 * k + i) 593 ≡ b → (w.host (x + (289 + 32 * k + i))).clk ≡ true
           by true s = host_clk (289 + 32 * k + i) (omega arith) (grind (arith, nat_tests, s))
           by false s =
-              let far : 603 < 289 + 32 * k + i = grind (arith, nat_tests, s) in
+              let far : 593 < 289 + 32 * k + i = grind (arith, nat_tests, s) in
               let all : length (bits (suc k)) ≡ suc k = length_bits (frame_bit byte) (suc k) in
               let last : k ≡ 9 = omega (arith, far, few, l) in
               let z : x + (289 + 32 * k + i) ≡ x + (288 + 32 * k) + suc i = omega arith in
@@ -284,6 +287,18 @@ module _ (w : Wiring) (wires : AreWires w) (rules : IsRuleful w) (x y : ℕ) (lo
           (λ j m before.
           quiet (289 + 32 * k + j) (bits (suc k)) (omega arith) (omega (arith, few, l, m)) (no_fall_in j (omega (arith, l, m)))
           (go j (omega (arith, l, m)) before) (ap (λ (v : Ear). v.mode) before ∙ is))
+
+      lets_next : (o : ℕ) → 257 ≤ o → o ≤ 304 + 32 * suc k → (w.host (x + o)).dat ≡ true
+      lets_next o l m = by (nat_le o 614) refl
+        where
+          by : (b : Bool) → nat_le o 614 ≡ b → (w.host (x + o)).dat ≡ true
+          by true s = host_dat o l (grind (arith, nat_tests, s))
+          by false s =
+              let far : 614 < o = grind (arith, nat_tests, s) in
+              let last : k ≡ 9 = omega (arith, far, few, m) in
+              let z : 603 ≡ 289 + 32 * k + 26 = omega (arith, last) in
+              lets_data_on w wires rules x looks at_clock at_data first there let_go_there
+              (ap (λ v. (w.host (x + v)).clk) z ∙ go 26 (omega arith) (stay 26 (omega arith))) o far (omega (arith, m, few))
 
       there_all : E (288 + 32 * suc k) ≡ E (289 + 32 * k)
       there_all =

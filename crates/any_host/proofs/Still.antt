@@ -35,7 +35,7 @@ module _ (w : Wiring) (wires : AreWires w) (x y : ℕ) (frame : Frame) (long : x
       (subst (λ c. Kept 0 first (e c)) z k)
 
   -- a frame that is cut at a look
-  module _ (byte look : ℕ) (is : frame ≡ CutFrame byte look) (at : IsLook look) (far : look ≤ 344)
+  module _ (byte look : ℕ) (is : frame ≡ CutFrame byte look) (at : IsLook look) (far : look ≤ 334)
       (low : (w.pins (x + (260 + look))).clk ≡ false) (first : Ear) (rests : Kept 0 first (e x)) where
     room : x + (266 + look) ≤ y
     room = subst (λ f. x + least_of f ≤ y) is long
@@ -56,7 +56,7 @@ module _ (w : Wiring) (wires : AreWires w) (x y : ℕ) (frame : Frame) (long : x
         ap (λ o. (frame_lines (SentFrame byte) o).clk) p
         ∙ sent_clock byte k (16 + i) (omega (arith, l)) (omega (arith, l, few)) ∙ up
     by_look (inr (inr (k, few, inr e))) i l =
-        let p : 258 + look + i ≡ 288 + 32 * k + (26 + i) = omega (arith, e) in
+        let p : 258 + look + i ≡ 288 + 32 * k + (26 + i) = omega (arith, e.0) in
         let up : nat_le 16 (26 + i) ≡ true = grind (arith, nat_tests) in
         ap (λ o. (frame_lines (SentFrame byte) o).clk) p
         ∙ sent_clock byte k (26 + i) (omega (arith, l)) (omega (arith, l, few)) ∙ up
@@ -131,7 +131,7 @@ module _ (w : Wiring) (wires : AreWires w) (x y : ℕ) (frame : Frame) (long : x
           subst (λ c. Kept (suc k) first (e c)) z
               (in_cell k 15 few (omega arith) (omega (arith, is)) (cells k (omega (arith, few)) (omega (arith, is)))),
         )
-    before_look (inr (inr (k, few, inr is))) =
+    before_look (inr (inr (k, few, inr (is, more)))) =
         let z : x + (288 + 32 * k) + suc 25 ≡ x + (258 + look) = omega (arith, is) in (
           suc k,
           subst (λ c. Kept (suc k) first (e c)) z

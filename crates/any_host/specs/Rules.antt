@@ -4,15 +4,15 @@ use Rattle.fw_link.specs.Latch.{frame_bit}
 use Rattle.any_host.specs.Ears.{Gives, Takes, ear_to, fell}
 use Rattle.any_host.specs.Wires.{Wiring}
 
--- a host keeps the rules, field by field: each pull of the clock lasts 24 cycles, 60 microseconds; none begins from 28
--- cycles, 70 microseconds, after the tenth fall of a byte that it takes up to the eleventh; there is none while it sends.
+-- a host keeps the rules, field by field: each pull of the clock lasts 24 cycles, 60 microseconds; none begins from 18
+-- cycles, 45 microseconds, after the tenth fall of a byte that it takes up to the eleventh; there is none while it sends.
 -- To request to send it pulls data once a pull of the clock has lasted 21 cycles, 52.5 microseconds, and holds it until
 -- the first fall. From 14 cycles, 35 microseconds, after each fall on it puts the next bit. It reads each bit of the
 -- keyboard in the 16 cycles, 40 microseconds, after the fall. What it sends are bytes
 pub record IsRuleful (w : Wiring) : Type 0 where
   pub long : (c : ℕ) → (w.host c).clk ≡ false
       → (a : ℕ) × (a ≤ c) × (c < a + 24) × ((i : ℕ) → a ≤ i → i < a + 24 → (w.host i).clk ≡ false)
-  pub ends : (c i : ℕ) (nine ten : List Bool) → (ear_to w c).mode ≡ Takes nine → length nine ≡ 9 → fell w c ≡ true → 28 ≤ i
+  pub ends : (c i : ℕ) (nine ten : List Bool) → (ear_to w c).mode ≡ Takes nine → length nine ≡ 9 → fell w c ≡ true → 18 ≤ i
       → (ear_to w (c + i)).mode ≡ Takes ten → length ten ≡ 10 → (w.host (c + i)).clk ≡ true
   pub sends : (c byte falls : ℕ) → (ear_to w c).mode ≡ Gives byte falls → (w.host c).clk ≡ true
   pub asks : (c : ℕ) (bits : List Bool) → (ear_to w c).mode ≡ Takes bits → (w.host c).dat ≡ false

@@ -183,9 +183,10 @@ send:   MOV A,R5            ; 260
         NOP
         JNT0 cut            ; 286
 
-; -- s_cell: cell k of a sent frame: the clock falls upon bit k, rises and is looked at, bit k+1 is put, and the clock is
-; looked at again. OUTL lets the clock rise: on a part it writes a cycle before ANL and ORL do, so the wire has longer to
-; rise until the look. From look to look there is no loop, so how far they are apart is seen from the rows alone.
+; -- s_cell: cell k of a sent frame: the clock falls upon bit k, rises and is looked at, bit k+1 is put, and, but for the
+; tenth cell, the clock is looked at again: once it has risen for the tenth time the frame is sent to its end. OUTL lets
+; the clock rise: on a part it writes a cycle before ANL and ORL do, so the wire has longer to rise until the look. From
+; look to look there is no loop, so how far they are apart is seen from the rows alone.
 ; needs: R1 the latch with bit k, R2, R3, R6, C. leaves: the same for cell k+1; R4 is kept. Goes to cut where the clock
 ; is low.
 ; cycles: 20 or 30 to cut, else 32.
@@ -211,10 +212,11 @@ s_cell: ANL P2,#0FEH        ; 288+32k
         NOP                 ; 311
         NOP
         NOP
+        DJNZ R3,s_look      ; 314
+        NOP                 ; 604
         NOP
         NOP
-        JNT0 cut            ; 316
-        DJNZ R3,s_cell      ; 318
+        NOP
 
 ; -- s_stop: the eleventh fall; the frame ends.
 ; needs: nothing; R4 is kept.
@@ -286,6 +288,12 @@ e_data: DEC A               ; 260
         MOV R1,#AADUE       ; 264
         MOV @R1,#1          ; 266
         JMP scan            ; 268
+
+; -- s_look: the second look of a cell that isn't the tenth.
+; needs: nothing. leaves: nothing. Goes to cut where the clock is low.
+; cycles: 2 to cut, else 4.
+s_look: JNT0 cut            ; 316+32k
+        JMP s_cell          ; 318+32k
 
 ; -- start: power-on. Times are the cycles since reset; the first overflow comes with the end of cycle 4,093.
 ; needs: the state that blank leaves; R0 of power. leaves: register bank 1, the timer's interrupt enabled.

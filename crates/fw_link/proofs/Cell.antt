@@ -89,43 +89,53 @@ module _ (d : Board) (bytes : List ℕ) (has : HasKernel bytes) (y : ℕ) (m : C
       ring (record m { p2 = bit_or (f 25) 3 }) board board_cut free
       (next_bit b (bit 0 (f 30)) (f 26) v low value, (ap not clock_low, (refl, refl, refl)))
 
-  pub cut_again : (b : Bool) (v : ℕ) → IsFree m → bit 0 (f 30) ≡ b → bit_or (2 * digit b) (f 26) ≡ v
-      → clock_seen ≡ true → clock_again v ≡ false
+  -- the cells left, and what they are once R3 is counted down
+  cells_left : (v n : ℕ) → f 27 ≡ suc n → n < 255
+      → memory (turned f m.c v ((f 27 + 255) % 256)) ring ≡ memory (turned f m.c v n) ring
+  cells_left v n count few = ap (λ k. memory (turned f m.c v k) ring) (one_less (f 27) n count few)
+
+  -- at the second look, which the tenth cell hasn't
+  pub cut_again : (b : Bool) (v n : ℕ) → IsFree m → f 27 ≡ suc n → n < 255 → not (n == 0) ≡ true → bit 0 (f 30) ≡ b
+      → bit_or (2 * digit b) (f 26) ≡ v → clock_seen ≡ true → clock_again v ≡ false
       → Leads d (kernel_in true bytes) y (begin_at d S_CELL f ring m board)
-      (At d (record m { p2 = bit_or v 3 }) SCAN (half_turned v) ring 34 (board_cut_again v))
-  cut_again b v free low value high clock_low =
+      (At d (record m { p2 = bit_or v 3 }) SCAN (turned f m.c v n) ring 34 (board_cut_again v))
+  cut_again b v n free count few more low value high clock_low =
       straight d (kernel_in true bytes) (has_rows true bytes has)
-      (Until 121 ∷ Acc v ∷ Until 129 ∷ Go false ∷ Until 138 ∷ Go true ∷ Until SCAN ∷ []) y m S_CELL SCAN 34 f
-      (half_turned v)
-      ring (record m { p2 = bit_or v 3 }) board (board_cut_again v) free
-      (next_bit b (bit 0 (f 30)) (f 26) v low value, (ap not high, (ap not clock_low, (refl, refl, refl))))
+      (Until 121 ∷ Acc v ∷ Until 129 ∷ Go false ∷ Until 136 ∷ Go true ∷ Ram (memory (turned f m.c v n) ring) ∷ Until 218
+      ∷ Go true ∷ Until SCAN ∷ []) y m S_CELL SCAN 34 f (turned f m.c v n)
+      ring (record m { p2 = bit_or v 3 }) board (board_cut_again v) free (
+        next_bit b (bit 0 (f 30)) (f 26) v low value,
+        (ap not high, (asks (f 27) n (one_less (f 27) n count few) true more,
+        (cells_left v n count few, (ap not clock_low, (refl, refl, refl))))),
+      )
 
   pub cell : (b : Bool) (v n : ℕ) → IsFree m → f 27 ≡ suc n → n < 255 → bit 0 (f 30) ≡ b
-      → bit_or (2 * digit b) (f 26) ≡ v → clock_seen ≡ true → clock_again v ≡ true → (more : Bool) → not (n == 0) ≡ more
+      → bit_or (2 * digit b) (f 26) ≡ v → clock_seen ≡ true → (more : Bool) → not (n == 0) ≡ more
+      → (more ≡ true → clock_again v ≡ true)
       → Leads d (kernel_in true bytes) y (begin_at d S_CELL f ring m board)
       (Celled v n (if more then S_CELL else S_STOP))
-  cell b v n free count few low value high high' more left = go more left
+  cell b v n free count few low value high more left high' = go more left high'
     where
       less : (f 27 + 255) % 256 ≡ n
       less = one_less (f 27) n count few
 
-      cells : memory (turned f m.c v ((f 27 + 255) % 256)) ring ≡ memory (turned f m.c v n) ring
-      cells = ap (λ k. memory (turned f m.c v k) ring) less
-
-      go : (more : Bool) → not (n == 0) ≡ more
+      go : (more : Bool) → not (n == 0) ≡ more → (more ≡ true → clock_again v ≡ true)
           → Leads d (kernel_in true bytes) y (begin_at d S_CELL f ring m board)
           (Celled v n (if more then S_CELL else S_STOP))
-      go true left =
+      go true left high' =
           sound d (kernel_in true bytes) (has_rows true bytes has) y
-          (Until 121 ∷ Acc v ∷ Until 129 ∷ Go false ∷ Until 138 ∷ Go false ∷ Until 140 ∷ Go true ∷ Ram (memory (turned f m.c v n) ring) ∷ [])
+          (Until 121 ∷ Acc v ∷ Until 129 ∷ Go false ∷ Until 136 ∷ Go true ∷ Ram (memory (turned f m.c v n) ring)
+          ∷ Until 218 ∷ Go false ∷ Until S_CELL ∷ [])
           (Celled v n S_CELL) (begin_at d S_CELL f ring m board) (
             next_bit b (bit 0 (f 30)) (f 26) v low value,
-            (ap not high, (ap not high', (asks (f 27) n less true left, (cells, (refl, refl, refl, refl))))),
+            (ap not high, (asks (f 27) n less true left,
+            (cells_left v n count few, (ap not (high' refl), (refl, refl, refl, refl))))),
           ) free
-      go false left =
+      go false left high' =
           sound d (kernel_in true bytes) (has_rows true bytes has) y
-          (Until 121 ∷ Acc v ∷ Until 129 ∷ Go false ∷ Until 138 ∷ Go false ∷ Until 140 ∷ Go false ∷ Ram (memory (turned f m.c v n) ring) ∷ [])
+          (Until 121 ∷ Acc v ∷ Until 129 ∷ Go false ∷ Until 136 ∷ Go false ∷ Ram (memory (turned f m.c v n) ring)
+          ∷ Until S_STOP ∷ [])
           (Celled v n S_STOP) (begin_at d S_CELL f ring m board) (
             next_bit b (bit 0 (f 30)) (f 26) v low value,
-            (ap not high, (ap not high', (asks (f 27) n less false left, (cells, (refl, refl, refl, refl))))),
+            (ap not high, (asks (f 27) n less false left, (cells_left v n count few, (refl, refl, refl, refl)))),
           ) free

@@ -17,7 +17,7 @@ use Rattle.fw_logic.proofs.Short.{has_rows}
 use Rattle.fw_logic.proofs.Sound.{chain, weaken}
 use Rattle.fw_link.specs.Latch.{IsLook, wired, frame_bit, sent_latch, cut_latch, cut_after}
 use Rattle.fw_link.proofs.Latches.{driven}
-use Rattle.fw_link.proofs.Cell.{cut, cut_again, board_cut, board_cut_again, half_turned}
+use Rattle.fw_link.proofs.Cell.{turned, cut, cut_again, board_cut, board_cut_again, half_turned}
 use Rattle.fw_link.proofs.Ends.{in_quarters, readied, board_started, cut_first, cut_second}
 use Rattle.fw_link.proofs.Frame.{begins, cells_pass, first_cells, to_start, from_start, first_is, second_is}
 use Rattle.fw_link.proofs.Sending.{InFrame, sending, left_at, next_is, look, high_span, put_span, look_is, again_is}
@@ -35,7 +35,8 @@ as_cut v byte look i = let a : nat_lt (look + 2 + i) (look + 2) ≡ false = grin
 abbrev pub left_at_cut : (f : ℕ → ℕ) (byte look : ℕ) → IsLook look → ℕ × ℕ × ℕ
 left_at_cut f byte look (inl first) = (0, 10, f 24)
 left_at_cut f byte look (inr (inl second)) = (0, 10, in_quarters byte)
-left_at_cut f byte look (inr (inr (k, few, here))) = (suc k, 10 - k, in_quarters byte)
+left_at_cut f byte look (inr (inr (k, few, inl here))) = (suc k, 10 - k, in_quarters byte)
+left_at_cut f byte look (inr (inr (k, few, inr here))) = (suc k, 9 - k, in_quarters byte)
 
 module _ (d : Board) (bytes : List ℕ) (has : HasKernel bytes) (x : ℕ) (m : Cpu) (board : d.State) (f : ℕ → ℕ)
     (ring : List ℕ) (v byte : ℕ) (released : IsReleased v) (small : byte < 256) where
@@ -196,20 +197,32 @@ module _ (d : Board) (bytes : List ℕ) (has : HasKernel bytes) (x : ℕ) (m : C
         (look_is d bytes has x m board f ring v byte released small q.k (x + t.off) t.cpu.p2 r t.cpu.p1 t.board one y put2
         refl q.board_now ∙ ap (λ i. is_high (46 + 32 * i)) is ∙ low))
 
-    cut_after_bit : is_high (46 + 32 * k) ≡ true → is_high (56 + 32 * k) ≡ false
-        → Leads d (kernel_in true bytes) x t (Cut (56 + 32 * k) (suc k, suc n, in_quarters byte))
-    cut_after_bit high low =
+    -- at the second look the cell is counted
+    counted_is : (u : ℕ) (e : Stage d.State) → u ≡ v
+        → e.cpu ≡ scratched (record t.cpu { p2 = u }) SCAN (memory (turned g t.cpu.c next n) ring) e.cpu
+        → e.cpu ≡ scratched m SCAN (memory (sending f v byte (suc k) n (in_quarters byte)) ring) e.cpu
+    counted_is u e again is =
+        is
+        ∙ ap (λ (z : Cpu). scratched (record z { p2 = u }) SCAN (memory (turned g t.cpu.c next n) ring) e.cpu) q.cpu
+        ∙ ap (λ z. scratched (record m { p2 = u }) SCAN (memory (turned g z next n) ring) e.cpu) q.carry
+        ∙ ap (λ z. scratched (record m { p2 = z }) SCAN (memory (sending f v byte (suc q.k) n (in_quarters byte)) ring) e.cpu)
+        (again ∙ sym out)
+        ∙ ap (λ i. scratched m SCAN (memory (sending f v byte (suc i) n (in_quarters byte)) ring) e.cpu) same
+
+    cut_after_bit : not (n == 0) ≡ true → is_high (46 + 32 * k) ≡ true → is_high (56 + 32 * k) ≡ false
+        → Leads d (kernel_in true bytes) x t (Cut (56 + 32 * k) (suc k, n, in_quarters byte))
+    cut_after_bit more high low =
         let u = bit_or next 3 in
         let again : u ≡ v = releases (frame_bit byte (suc q.k)) v released in
         let o : t.off ≡ 28 + 32 * q.k = q.off in
         let is : q.k ≡ k = same in
         let place : 28 + 32 * q.k + 21 + 9 ≡ 56 + 32 * k + 2 = omega (arith, is) in
         from_stage d (kernel_in true bytes) (has_rows true bytes has) x S_CELL here g ring t
-        (At d (record t.cpu { p2 = u }) SCAN (half_turned d bytes has (x + t.off) t.cpu t.board g ring next) ring 34
+        (At d (record t.cpu { p2 = u }) SCAN (turned g t.cpu.c next n) ring 34
         (board_cut_again d bytes has (x + t.off) t.cpu t.board g ring next))
-        (Cut (56 + 32 * k) (suc k, suc n, in_quarters byte)) at_cell
+        (Cut (56 + 32 * k) (suc k, n, in_quarters byte)) at_cell
         (λ e a. record {
-          cpu = cpu_is u e again a.cpu;
+          cpu = counted_is u e again a.cpu;
           off = (let c : e.off ≡ 34 = a.off in omega (arith, c, o, is));
           now =
               a.now
@@ -221,7 +234,8 @@ module _ (d : Board) (bytes : List ℕ) (has : HasKernel bytes) (x : ℕ) (m : C
               (put_span d bytes has x m board f ring v byte released small 9 q.k (x + t.off) t.cpu.p2 r next t.board
               (omega arith) y put2 refl refl q.board_now ∙ ap at_offset place);
         })
-        (cut_again d bytes has (x + t.off) t.cpu t.board g ring (frame_bit byte (suc q.k)) next free
+        (cut_again d bytes has (x + t.off) t.cpu t.board g ring (frame_bit byte (suc q.k)) next n free refl
+        (omega (arith, count)) more
         (next_is q.k byte inside small) (puts (frame_bit byte (suc q.k)) v released)
         (look_is d bytes has x m board f ring v byte released small q.k (x + t.off) t.cpu.p2 r t.cpu.p1 t.board one y put2
         refl q.board_now ∙ ap (λ i. is_high (46 + 32 * i)) is ∙ high)
@@ -236,21 +250,21 @@ module _ (d : Board) (bytes : List ℕ) (has : HasKernel bytes) (x : ℕ) (m : C
   cut_frame free out data_low whole is some look at high low = by at
     where
       in_cell : (k : ℕ) (few : k < 10) (o : ℕ) → 46 + 32 * k ≤ o → ((earlier : ℕ) → IsLook earlier → earlier < o → is_high earlier ≡ true)
-          → (left : ℕ) → k + suc left ≡ 10
-          → ((t : Stage d.State) → In (suc left) t → IsFree t.cpu → Leads d (kernel_in true bytes) x t (Cut o (suc k, suc left, in_quarters byte)))
-          → Leads d (kernel_in true bytes) x (begin_at d SEND f ring m board) (Cut o (suc k, suc left, in_quarters byte))
-      in_cell k few o late high left count last =
-          chain d (kernel_in true bytes) (has_rows true bytes has) x (In 10) (Cut o (suc k, suc left, in_quarters byte)) (begin_at d SEND f ring m board)
+          → (left rest : ℕ) → k + suc left ≡ 10
+          → ((t : Stage d.State) → In (suc left) t → IsFree t.cpu → Leads d (kernel_in true bytes) x t (Cut o (suc k, rest, in_quarters byte)))
+          → Leads d (kernel_in true bytes) x (begin_at d SEND f ring m board) (Cut o (suc k, rest, in_quarters byte))
+      in_cell k few o late high left rest count last =
+          chain d (kernel_in true bytes) (has_rows true bytes has) x (In 10) (Cut o (suc k, rest, in_quarters byte)) (begin_at d SEND f ring m board)
           (begins d bytes has x m board f ring v byte released small free out data_low whole is some
           (high 8 (inl refl) (omega (arith, late))) (high 26 (inr (inl refl)) (omega (arith, late))))
           (λ s h free.
           let ten : 10 ≡ k + suc left = sym count in
           let none : 0 + suc left ≡ suc left = omega arith in
-          chain d (kernel_in true bytes) (has_rows true bytes has) x (In (0 + suc left)) (Cut o (suc k, suc left, in_quarters byte)) s
+          chain d (kernel_in true bytes) (has_rows true bytes has) x (In (0 + suc left)) (Cut o (suc k, rest, in_quarters byte)) s
           (cells_pass d bytes has x m board f ring v byte released small (suc left)
           (λ i l. let less : i < 10 = omega (arith, l) in (
             high (46 + 32 * i) (inr (inr (i, less, inl refl))) (omega (arith, l, count, late)),
-            high (56 + 32 * i) (inr (inr (i, less, inr refl))) (omega (arith, l, count, late)),
+            λ more. high (56 + 32 * i) (inr (inr (i, less, inr (refl, more)))) (omega (arith, l, count, late)),
           )) k s (subst (λ i. In i s) ten h) free)
           (λ t q free. last t (subst (λ i. In i t) none q) free))
 
@@ -267,17 +281,16 @@ module _ (d : Board) (bytes : List ℕ) (has : HasKernel bytes) (x : ℕ) (m : C
           let count : k + suc left ≡ 10 = omega (arith, few) in
           let ten : suc left ≡ 10 - k = omega (arith, few) in
           subst (λ n. Leads d (kernel_in true bytes) x (begin_at d SEND f ring m board) (Cut look (suc k, n, in_quarters byte))) ten
-          (in_cell k few look (omega (arith, e)) high left count
+          (in_cell k few look (omega (arith, e)) high left (suc left) count
           (λ t q free.
           subst (λ o. Leads d (kernel_in true bytes) x t (Cut o (suc k, suc left, in_quarters byte))) (sym e)
           (cut_in_cell k left count out t q free (ap is_high (sym e) ∙ low))))
-      by (inr (inr (k, few, inr e))) =
+      by (inr (inr (k, few, inr (e, less)))) =
           let left : ℕ = 9 - k in
           let count : k + suc left ≡ 10 = omega (arith, few) in
-          let ten : suc left ≡ 10 - k = omega (arith, few) in
-          subst (λ n. Leads d (kernel_in true bytes) x (begin_at d SEND f ring m board) (Cut look (suc k, n, in_quarters byte))) ten
-          (in_cell k few look (omega (arith, e)) high left count
+          let some : 0 < left = omega (arith, less) in
+          in_cell k few look (omega (arith, e)) high left left count
           (λ t q free.
-          subst (λ o. Leads d (kernel_in true bytes) x t (Cut o (suc k, suc left, in_quarters byte))) (sym e)
-          (cut_after_bit k left count out t q free
-          (high (46 + 32 * k) (inr (inr (k, few, inl refl))) (omega (arith, e))) (ap is_high (sym e) ∙ low))))
+          subst (λ o. Leads d (kernel_in true bytes) x t (Cut o (suc k, left, in_quarters byte))) (sym e)
+          (cut_after_bit k left count out t q free (grind (arith, nat_tests, some))
+          (high (46 + 32 * k) (inr (inr (k, few, inl refl))) (omega (arith, e))) (ap is_high (sym e) ∙ low)))

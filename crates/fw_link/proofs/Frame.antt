@@ -105,7 +105,7 @@ module _ (d : Board) (bytes : List ℕ) (has : HasKernel bytes) (x : ℕ) (m : C
 
   -- cells whose looks show the clock high, up to where `rest` are left
   pub cells_pass : (rest : ℕ)
-      → ((k : ℕ) → k + rest < 10 → (is_high (46 + 32 * k) ≡ true) × (is_high (56 + 32 * k) ≡ true))
+      → ((k : ℕ) → k + rest < 10 → (is_high (46 + 32 * k) ≡ true) × (k < 9 → is_high (56 + 32 * k) ≡ true))
       → (n : ℕ) (s : Stage d.State)
       → In (n + rest) s
       → IsFree s.cpu → Leads d (kernel_in true bytes) x s (In (0 + rest))
@@ -133,7 +133,7 @@ module _ (d : Board) (bytes : List ℕ) (has : HasKernel bytes) (x : ℕ) (m : C
       (At d m SENT (sending f v byte 10 0 0) ring 368 (at_offset 368)) s
       (cells_pass 0 (λ k l. let few : k < 10 = omega (arith, l) in (
         high (46 + 32 * k) (inr (inr (k, few, inl refl))),
-        high (56 + 32 * k) (inr (inr (k, few, inr refl))),
+        λ more. high (56 + 32 * k) (inr (inr (k, few, inr (refl, more)))),
       )) 10 s h free)
       (λ t q free.
       let k : q.k ≡ 10 = (let c : q.k + 0 ≡ 10 = q.count in omega (arith, c)) in

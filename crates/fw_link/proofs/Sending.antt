@@ -155,7 +155,7 @@ module _ (d : Board) (bytes : List ℕ) (has : HasKernel bytes) (x : ℕ) (m : C
 
   -- one cell, if its looks show the clock high
   pub one_cell : (n : ℕ) (s : Stage d.State) (h : InFrame (suc n) s) → look (46 + 32 * h.k) ≡ true
-      → look (56 + 32 * h.k) ≡ true → IsFree s.cpu
+      → (h.k < 9 → look (56 + 32 * h.k) ≡ true) → IsFree s.cpu
       → Leads d (kernel_in true bytes) x s (InFrame n)
   one_cell n s h high high' free =
       let k = h.k in
@@ -193,4 +193,7 @@ module _ (d : Board) (bytes : List ℕ) (has : HasKernel bytes) (x : ℕ) (m : C
       bit_now
       (puts (frame_bit byte (suc k)) v released)
       (look_is k (x + s.off) s.cpu.p2 r s.cpu.p1 s.board one y w refl h.board_now ∙ high)
-      (again_is k (x + s.off) s.cpu.p2 r u s.cpu.p1 s.board one y w refl refl h.board_now ∙ high') (not (n == 0)) refl)
+      (not (n == 0)) refl
+      (λ more.
+      let some : 0 < n = grind (arith, nat_tests, more) in
+      again_is k (x + s.off) s.cpu.p2 r u s.cpu.p1 s.board one y w refl refl h.board_now ∙ high' (omega (arith, some, c))))

@@ -74,7 +74,7 @@ module _ (edges : List Edge) (events : List HostEvent) (d : Board) (to : d.State
         (At d m SENT (sending f v byte 10 0 0) ring 368 (sent_board 368))
     sent_whole high free =
         sent_frame d bytes has (260 + start) m s f ring v byte released small free out data_low ready offered some
-        (λ o look. look_sees o look (at_offset o (let far : o ≤ 344 = look_within o look in omega (arith, far))) ∙ high o look)
+        (λ o look. look_sees o look (at_offset o (let far : o ≤ 334 = look_within o look in omega (arith, far))) ∙ high o look)
 
   -- it pulls the clock at a look, and at none before: the frame is cut there
   module _ (cut : ℕ) (is : IsLook cut) (drives : Drives lines (260 + start) (cut_latch v byte cut) (cut_after cut)) where

@@ -48,7 +48,7 @@ module _ (v start byte : ℕ) (released : IsReleased v) where
           ∙ ap latch_of (sym (before_frame (sent_latch v byte) v start 368 o l))
       by_case false e =
           let m : 260 + start ≤ o = grind (arith, nat_tests, e) in
-          let far : look ≤ 344 = look_within look is in
+          let far : look ≤ 334 = look_within look is in
           let i = o - (260 + start) in
           let p : o ≡ 260 + start + i = omega (arith, m) in
           let k : i < cut_after look = omega (arith, m, u) in

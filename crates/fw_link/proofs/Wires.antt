@@ -51,18 +51,18 @@ look_up v byte released look (inr (inr (k, few, inl e))) i l =
     ap (λ i. (latch_of (sent_latch v byte i)).clk) p
     ∙ ap (λ q. (latch_of q).clk) (cell_high v byte k (2 + i) (omega (arith, l)))
     ∙ clock_of_latch true (frame_bit byte k) v released
-look_up v byte released look (inr (inr (k, few, inr e))) i l =
+look_up v byte released look (inr (inr (k, few, inr (e, more)))) i l =
     let p : look + i ≡ 28 + 32 * k + 21 + (7 + i) = omega (arith, e) in
     ap (λ i. (latch_of (sent_latch v byte i)).clk) p
     ∙ ap (λ q. (latch_of q).clk) (cell_next v byte k (7 + i) (omega (arith, l)))
     ∙ clock_of_latch true (frame_bit byte (suc k)) v released
 
 -- a look is within the frame
-pub look_within : (look : ℕ) → IsLook look → look ≤ 344
+pub look_within : (look : ℕ) → IsLook look → look ≤ 334
 look_within look (inl e) = omega (arith, e)
 look_within look (inr (inl e)) = omega (arith, e)
 look_within look (inr (inr (k, few, inl e))) = omega (arith, e, few)
-look_within look (inr (inr (k, few, inr e))) = omega (arith, e, few)
+look_within look (inr (inr (k, few, inr (e, more)))) = omega (arith, e, more)
 
 -- the clock of a cell is low for 16 cycles: it doesn't fall again
 rises_once : (i : ℕ) → (nat_le 16 i && not (nat_le 16 (suc i))) ≡ false

@@ -24,10 +24,13 @@ sent_latch v byte o =
     else if nat_lt o 28 then wired v true false
     else sent_cell v byte ((o - 28) / 32) ((o - 28) % 32)
 
--- the looks at the clock in a sent frame, by the offset from the look at data: two before the first fall, at 8 and 26; and
--- two a cell, 2 cycles after the rise of its clock and 7 after the next bit
+-- the looks at the clock in a sent frame, by the offset from the look at data: two before the first fall, at 8 and 26; in
+-- each of ten cells one 2 cycles after the rise of its clock, and in each but the tenth one 7 cycles after the next bit.
+-- So after the tenth rise there is one look: from there on the frame is sent to its end
 abbrev pub IsLook : ℕ → Type 0
-IsLook look = (look ≡ 8) ⊎ (look ≡ 26) ⊎ ((k : ℕ) × (k < 10) × ((look ≡ 46 + 32 * k) ⊎ (look ≡ 56 + 32 * k)))
+IsLook look =
+    (look ≡ 8) ⊎ (look ≡ 26)
+    ⊎ ((k : ℕ) × (k < 10) × ((look ≡ 46 + 32 * k) ⊎ ((look ≡ 56 + 32 * k) × (k < 9))))
 
 -- a frame that is cut at a look: both wires are released 2 cycles after it
 abbrev pub cut_latch : ℕ → ℕ → ℕ → ℕ → ℕ

@@ -6,7 +6,7 @@ use Rattle.std.proofs.lemmas.Bool.Decides.{nat_tests}
 use Rattle.bits.specs.Bits.{bit}
 use Rattle.fw_link.proofs.TickLatch.{before_lights, before_data, within, afterwards}
 use Rattle.fw_link.proofs.Wired.{IsReleased}
-use Rattle.fw_link.proofs.Wires.{clock_of_latch}
+use Rattle.fw_link.proofs.Wires.{clock_of_latch, look_within}
 use Rattle.fw_link.specs.Latch.{Frame, NoFrame, SentFrame, CutFrame, ReceivedFrame, IsLook, frame_latch, frame_cycles, tick_latch}
 use Rattle.fw_link.specs.Latch.{wired, sent_latch, sent_cell, cut_latch, received_latch, received_cell, frame_bit}
 
@@ -161,7 +161,7 @@ module _ (old v : ℕ) (was : IsReleased old) (is : IsReleased v) where
   cells_to look i (inl e) l u = absurd (omega (arith, e, l, u))
   cells_to look i (inr (inl e)) l u = absurd (omega (arith, e, l, u))
   cells_to look i (inr (inr (k, few, inl e))) l u = omega (arith, e, l, u)
-  cells_to look i (inr (inr (k, few, inr e))) l u = omega (arith, e, l, u)
+  cells_to look i (inr (inr (k, few, inr (e, more)))) l u = omega (arith, e, l, u)
 
   -- and from there on the clock of the last of them is high
   late_of : (look i : ℕ) → IsLook look → 28 ≤ i → look + 2 ≤ i → (260 + i - 288) / 32 < (look + 4) / 32
@@ -169,7 +169,7 @@ module _ (old v : ℕ) (was : IsReleased old) (is : IsReleased v) where
   late_of look i (inl e) l u m = absurd (omega (arith, e, m))
   late_of look i (inr (inl e)) l u m = absurd (omega (arith, e, m))
   late_of look i (inr (inr (k, few, inl e))) l u m = omega (arith, e, l, u, m)
-  late_of look i (inr (inr (k, few, inr e))) l u m = omega (arith, e, l, u, m)
+  late_of look i (inr (inr (k, few, inr (e, more)))) l u m = omega (arith, e, l, u, m)
 
   up_after : (look i : ℕ) → IsLook look → look + 2 ≤ i → clock_in ((look + 4) / 32) (260 + i) ≡ true
   up_after look i at u = by (nat_lt i 28) refl (nat_le ((look + 4) / 32) ((260 + i - 288) / 32)) refl
@@ -186,10 +186,13 @@ module _ (old v : ℕ) (was : IsReleased old) (is : IsReleased v) where
           let m : (260 + i - 288) / 32 < (look + 4) / 32 = grind (arith, nat_tests, f) in
           late_in_cell ((look + 4) / 32) (260 + i) (omega (arith, l)) (late_of look i at l u m)
 
-  cut_clock : (byte look i : ℕ) → IsLook look → look < 344 → i < look + 6
+  cut_clock : (byte look i : ℕ) → IsLook look → i < look + 6
       → bit 0 (cut_latch v byte look i) ≡ clock_in ((look + 4) / 32) (260 + i)
-  cut_clock byte look i at below l = by (nat_lt i (look + 2)) refl (nat_lt i 28) refl
+  cut_clock byte look i at l = by (nat_lt i (look + 2)) refl (nat_lt i 28) refl
     where
+      below : look ≤ 334
+      below = look_within look at
+
       by : (a : Bool) → nat_lt i (look + 2) ≡ a → (b : Bool) → nat_lt i 28 ≡ b
           → bit 0 (cut_latch v byte look i) ≡ clock_in ((look + 4) / 32) (260 + i)
       by true e true f =
@@ -211,14 +214,14 @@ module _ (old v : ℕ) (was : IsReleased old) (is : IsReleased v) where
   abbrev pub Fits : Frame → Type 0
   Fits NoFrame = Unit {0}
   Fits (SentFrame byte) = Unit {0}
-  Fits (CutFrame byte look) = IsLook look × (look < 344)
+  Fits (CutFrame byte look) = IsLook look
   Fits ReceivedFrame = Unit {0}
 
   frame_clock : (frame : Frame)
       → Fits frame → (i : ℕ) → i < frame_cycles frame → bit 0 (frame_latch frame v i) ≡ clock_in (cells frame) (260 + i)
   frame_clock NoFrame fits i l = absurd (omega (arith, l))
   frame_clock (SentFrame byte) fits i l = sent_clock byte i l
-  frame_clock (CutFrame byte look) fits i l = cut_clock byte look i fits.0 fits.1 l
+  frame_clock (CutFrame byte look) fits i l = cut_clock byte look i fits l
   frame_clock ReceivedFrame fits i l = received_clock i l
 
   after_by : (n c i : ℕ)
@@ -245,7 +248,7 @@ module _ (old v : ℕ) (was : IsReleased old) (is : IsReleased v) where
       after_frame (SentFrame byte) h i l = after_by 11 368 i (omega arith) (inr (refl, omega arith))
       after_frame (CutFrame byte look) h i l =
           let z : 260 + (look + 6) + i ≡ 260 + (look + 6 + i) = omega arith in
-          ap (clock_in ((look + 4) / 32)) z ∙ up_after look (look + 6 + i) h.0 (omega arith)
+          ap (clock_in ((look + 4) / 32)) z ∙ up_after look (look + 6 + i) h (omega arith)
       after_frame ReceivedFrame h i l = after_by 11 366 i (omega arith) (inr (refl, omega arith))
 
       by : (a : Bool) → nat_lt o 232 ≡ a → (b : Bool) → nat_lt o 260 ≡ b → (c : Bool)

@@ -13,11 +13,11 @@ use Rattle.wires_heard.proofs.Ticks.{beside}
 use Rattle.agreement.specs.Wires.{IsCutBy}
 
 -- the look that cuts a frame of ten cells
-is_last : (look : ℕ) → IsLook look → look < 344 → (look + 4) / 32 ≡ 10 → look ≡ 334
-is_last look (inl e) below ten = absurd (omega (arith, e, ten))
-is_last look (inr (inl e)) below ten = absurd (omega (arith, e, ten))
-is_last look (inr (inr (k, few, inl e))) below ten = omega (arith, e, ten)
-is_last look (inr (inr (k, few, inr e))) below ten = absurd (omega (arith, e, below, ten))
+is_last : (look : ℕ) → IsLook look → (look + 4) / 32 ≡ 10 → look ≡ 334
+is_last look (inl e) ten = absurd (omega (arith, e, ten))
+is_last look (inr (inl e)) ten = absurd (omega (arith, e, ten))
+is_last look (inr (inr (k, few, inl e))) ten = omega (arith, e, ten)
+is_last look (inr (inr (k, few, inr (e, more)))) ten = absurd (omega (arith, e, more, ten))
 
 module _ (events : List HostEvent) (x : ℕ) (start : Beside) (old v : ℕ) (was : IsReleased old) (is : IsReleased v) where
   pub is_broken : (frame : Frame) (fits : Fits old v was is frame) (idle : is_busy (link_of start) ≡ false)
@@ -26,9 +26,9 @@ module _ (events : List HostEvent) (x : ℕ) (start : Beside) (old v : ℕ) (was
   is_broken NoFrame fits idle cut ten o l u = absurd (omega (arith, ten))
   is_broken (SentFrame byte) fits idle cut ten o l u = absurd (omega (arith, ten))
   is_broken (CutFrame byte look) fits idle cut ten o l u =
-      let last : look ≡ 334 = is_last look fits.0 fits.1 ten in
+      let last : look ≡ 334 = is_last look fits ten in
       let few : 8 < 10 = omega arith in
-      let since : x + (260 + 312) ≤ cut.0 = cut.3 312 (inr (inr (8, few, inr refl))) (omega (arith, last)) in
+      let since : x + (260 + 312) ≤ cut.0 = cut.3 312 (inr (inr (8, few, inr (refl, omega arith)))) (omega (arith, last)) in
       let at : 260 + look ≡ 594 = omega (arith, last) in
       let there : pulled (link_of (beside events x start old v was is (CutFrame byte look) fits idle 594)) ≡ Some cut.0 =
       subst (λ k. pulled (link_of (beside events x start old v was is (CutFrame byte look) fits idle k)) ≡ Some cut.0) at cut.1 in

@@ -4,6 +4,7 @@ use Rattle.board_terms.specs.declared.event.HostEvent.{HostEvent}
 use Rattle.ctl_link.specs.Link.{is_busy}
 use Rattle.board_probes.specs.Transfers.{transfer_in}
 use Rattle.fw_link.proofs.Wired.{IsReleased}
+use Rattle.fw_link.proofs.Wires.{look_within}
 use Rattle.fw_link.specs.Latch.{Frame, NoFrame, SentFrame, CutFrame, ReceivedFrame, IsLook}
 use Rattle.joint_run.specs.Joint.{Beside, latch_of}
 use Rattle.ctl_wire.specs.Wires.{wires}
@@ -47,7 +48,7 @@ module _ (events : List HostEvent) (x : ℕ) (start : Beside) (old v : ℕ) (was
     steady = (false, sent.steady events x start old v was is byte idle h.0 h.1 h.2 (looks byte fits h.3));
     so = sent.heard_so events x start old v was is byte idle h.0 h.1 h.2 (looks byte fits h.3);
   }
-  whole (CutFrame byte look) fits h all = absurd (let below : look < 344 = fits.1 in omega (arith, all, below))
+  whole (CutFrame byte look) fits h all = absurd (let below : look ≤ 334 = look_within look fits in omega (arith, all, below))
   whole ReceivedFrame fits h all = record {
     opens = received.opens events x start old v was is idle h.0 h.1 h.2 h.3;
     steady = (true, received.steady events x start old v was is idle h.0 h.1 h.2 h.3);

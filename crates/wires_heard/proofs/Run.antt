@@ -36,13 +36,13 @@ use Rattle.wires_heard.specs.Passing.{passed_at, passed_to}
 released : (v : ℕ) → IsLetGo v → IsReleased v
 released v h = record { byte = h.0; clock = h.1; data_wire = h.2 }
 
--- a frame of a meeting is cut at a look before the last
+-- a frame of a meeting that is cut is cut at a look
 fits_of : (old v : ℕ) (was : IsReleased old) (is : IsReleased v) (offered : Option ℕ) (meeting : Meeting) (frame : Frame)
     → IsFrameOf offered meeting frame → Fits old v was is frame
 fits_of old v was is offered meeting NoFrame h = tt
 fits_of old v was is offered meeting (SentFrame byte) h = tt
 fits_of old v was is offered (Sent b) (CutFrame byte look) h = absurd cc
-fits_of old v was is offered Cut (CutFrame byte look) h = (h.1, h.2)
+fits_of old v was is offered Cut (CutFrame byte look) h = h.1
 fits_of old v was is offered (Got b) (CutFrame byte look) h = absurd cc
 fits_of old v was is offered Inhibited (CutFrame byte look) h = absurd cc
 fits_of old v was is offered Idle (CutFrame byte look) h = absurd cc

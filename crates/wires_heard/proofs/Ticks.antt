@@ -15,6 +15,7 @@ use Rattle.ctl_wire.specs.declared.wire.Wire.{Wire}
 use Rattle.ctl_wire.specs.declared.wire.Wire.TheVariants.{Recv, Send}
 use Rattle.board_probes.specs.declared.heard.Transfer.{Transfer}
 use Rattle.fw_link.proofs.Wired.{IsReleased}
+use Rattle.fw_link.proofs.Wires.{look_within}
 use Rattle.fw_link.specs.Latch.{Frame, NoFrame, SentFrame, CutFrame, ReceivedFrame, tick_latch}
 use Rattle.fw_logic.proofs.Blocks.{ticks_add}
 use Rattle.joint_run.specs.Joint.{Beside, joint_cycle, latch_of}
@@ -45,7 +46,7 @@ module _ (events : List HostEvent) (x : ℕ) (start : Beside) (old v : ℕ) (was
   few_cells : (f : Frame) → Fits old v was is f → cells f ≤ 11
   few_cells NoFrame h = omega arith
   few_cells (SentFrame byte) h = omega arith
-  few_cells (CutFrame byte look) h = let below : look < 344 = h.1 in omega (arith, below)
+  few_cells (CutFrame byte look) h = let below : look ≤ 334 = look_within look h in omega (arith, below)
   few_cells ReceivedFrame h = omega arith
 
   pub eleven_at_most : n ≤ 11
