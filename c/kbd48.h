@@ -1,5 +1,6 @@
 /* A keyboard of the IBM PC/AT in a handle: keys and port accesses go in as they happen, and bytes, the interrupt line
-   and the lights come out. `docs/EMBEDDING.md` shows how it is used, and says what of it is proved.
+   and the lights come out. `docs/EMBEDDING.md` shows how it is used, `docs/CLAIMS.md` says
+   what of it is proved.
 
    Time is counted in cycles of 2.5 microseconds, 400,000 a second. A step is one instruction of the keyboard's
    processor, and takes one cycle or two. Between two calls the machine is between two steps. If a call makes a step,
@@ -37,6 +38,7 @@
 extern "C" {
 #endif
 
+/* The last release. Calls that CHANGELOG.md lists as unreleased are newer. */
 #define KBD48_VERSION "1.0.0"
 #define KBD48_VERSION_NUMBER 10000 /* 10,000 times the first part, 100 times the second, and the third */
 
@@ -70,7 +72,7 @@ enum {
     KBD48_BAD_SIZE = 20,      /* a saved keyboard has KBD48_SAVED bytes: the buffer is too short, or these are more or fewer */
     KBD48_NOT_SAVED = 21,     /* the bytes don't begin as those of a saved keyboard */
     KBD48_OTHER_VERSION = 22, /* the bytes are of another version of the format */
-    KBD48_BAD_STATE = 23      /* a number in the bytes is out of range: no keyboard is in such a state */
+    KBD48_BAD_STATE = 23      /* the bytes mean no state that a keyboard can be in */
 };
 
 /* The status in words; there is a text for every number. */
@@ -129,10 +131,10 @@ int32_t kbd48_open_ready_layout(const uint8_t *text, size_t length, kbd48 *handl
 int32_t kbd48_open_ready_hex(const uint8_t *text, size_t length, kbd48 *handle, kbd48_fault *fault);
 
 /* Switches the keyboard off and on again. It keeps its program, and is as kbd48_open_hex opens it: at stamp 0, with all
-   keys up and with INT 09h masked; what was said before is gone. At power-on each byte of its data memory, its accumulator
-   and its timer hold `fill`. The calls that open have 00 there; a real part may hold anything. A layout's firmware clears
-   what it uses. A queue of edges (below) begins anew with the keyboard: assign KBD48_NO_KEYS to it. Returns
-   KBD48_NO_MEMORY if there is none; the keyboard is as it was then. */
+   keys up and with INT 09h masked. Its count of cycles begins anew, and is 4,098 for a layout. What was said before is
+   gone. At power-on each byte of its data memory, its accumulator and its timer hold `fill`. The calls that open have 00
+   there; a real part may hold anything. A layout's firmware clears what it uses. A queue of edges (below) begins anew with
+   the keyboard: assign KBD48_NO_KEYS to it. Returns KBD48_NO_MEMORY if there is none; the keyboard is as it was then. */
 int32_t kbd48_power_on(kbd48 *handle, uint8_t fill);
 
 /* Frees the keyboard, and leaves the handle empty. */
@@ -144,7 +146,7 @@ int32_t kbd48_close(kbd48 *handle);
 int32_t kbd48_copy(kbd48 *from, kbd48 *to);
 
 /* Writes the keyboard's state at the beginning of a buffer of at least KBD48_SAVED bytes; the bytes after these stay as
-   they were. `docs/EMBEDDING.md` has the format byte by byte. It has no pointer and no memory of this machine, so it can
+   they were. `docs/CALLS.md` has the format byte by byte. It has no pointer and no memory of this machine, so it can
    be stored and loaded elsewhere. A queue of edges (below) is a struct of yours: store it beside these bytes. Returns
    KBD48_BAD_SIZE if the buffer is too short, and writes nothing then. */
 #define KBD48_SAVED 3077
@@ -152,7 +154,8 @@ int32_t kbd48_save(kbd48 *handle, uint8_t *buffer, size_t length);
 
 /* Opens the keyboard that KBD48_SAVED bytes mean at `handle`, and closes the one that was there. It is in the state in
    which the saved one was: the same calls return the same. Any bytes may be given: those that mean no keyboard return
-   KBD48_BAD_SIZE, KBD48_NOT_SAVED, KBD48_OTHER_VERSION or KBD48_BAD_STATE. On any failure the handle is as it was. */
+   KBD48_BAD_SIZE, KBD48_NOT_SAVED, KBD48_OTHER_VERSION or KBD48_BAD_STATE. A truth value that isn't 1 is taken for 0, and
+   a kind that is too large for the largest (`docs/CALLS.md`). On any failure the handle is as it was. */
 int32_t kbd48_load(kbd48 *handle, const uint8_t *bytes, size_t length);
 
 /* The key at a place, 0 to 95 (eight times its column plus its row), goes down or up. The edge is made before the next
@@ -225,7 +228,8 @@ int32_t kbd48_run_to(kbd48 *handle, uint8_t mask, uint16_t at, uint64_t cycles, 
    full. */
 int32_t kbd48_write(kbd48 *handle, uint8_t port, uint8_t byte);
 
-/* The host reads port 0x60, in one step: the last byte that the controller put out, 00 at first. */
+/* The host reads port 0x60, in one step: the last byte that the controller put out, 00 at first. If bit 0 of the status is
+   1, that is the `output` of kbd48_look. If it is 0, the controller may put out another byte in this very step. */
 int32_t kbd48_read60(kbd48 *handle, uint8_t *byte);
 
 /* The host reads the status at port 0x64, in one step: 01 output buffer full, 02 input buffer full, 04 system flag, 08

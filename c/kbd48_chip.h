@@ -60,7 +60,7 @@ typedef struct {
 #define KBD48_CYCLES(answer) ((uint32_t)(answer) >> 24)
 
 /* The state but for the program, in one form for all machines: the processor's bytes as in a saved keyboard ("Saved bytes" of
-   `docs/EMBEDDING.md`), and data memory. */
+   `docs/CALLS.md`), and data memory. */
 typedef struct {
     uint8_t processor[19], ram[128];
 } kbd48_chip_saved;

@@ -20,7 +20,7 @@ OTHERS = {
     "debugger": "debug", "gdb": "debug", "certify": "cert", "check": "cert", "keys": "type", "typing": "type", "bench": "sample",
     "benchmark": "sample", "scan": "words", "feed": "words", "byte": "words", "bytes": "words", "single": "step", "trial": "sample",
 }
-COUNTS = {"step": (0, 1_000_000, "a number of steps"), "sample": (1, 10_000, "a number of key strokes")}
+COUNTS = {"step": (0, 1_000_000, "a number of steps"), "sample": (1, 10_000, "a number of strokes")}
 MOST_BYTES = 4096
 FILES = {"IMAGE": "hex", "SOURCE": "asm", "LAYOUT": "layout", "KEYS": "keys", "SCRIPT": "script", "CERT": "cert", "TEXT": "text"}
 WHAT = {
