@@ -8,6 +8,7 @@
 #![tactic(auto)]
 
 ghost use Rattle.agreement.specs.Agreement.{AgreementLaw, AnyMemoryLaw, PromptLaw};
+ghost use Rattle.agreement.specs.AnyCount.{AnyCountLaw};
 ghost use Rattle.agreement.specs.AnyKeys.{AnyKeysLaw};
 ghost use Rattle.agreement.specs.AnyStart.{AsShown, FromAnyStart, ThinShowsFew};
 ghost use Rattle.agreement.specs.Executed.{ExecutedLaw, LateLaw, SoonLaw};
@@ -80,6 +81,16 @@ pub fn goes_on_from_any_start()
     ensures from_any_start { FromAnyStart }
     ensures as_shown { AsShown }
     ensures thin { ThinShowsFew }
+{}
+
+/// Whatever the layout's keys do, any number at once, bouncing or not, in any order, whatever bytes the host writes, whatever
+/// data bits and parities noise inverts, and whatever a part holds when it is switched on: the run goes on as the model does
+/// whose ticks get what the columns show, however long they last. At each tick start data memory shows the model's keyboard,
+/// and what was said is what the model says. A tick lasts at least 2,016 cycles (5.04 milliseconds), and at most 2,054 and 62
+/// for each key that changed. Once at most four change in each, the ticks are 2,048 cycles apart again, give or take one.
+/// Nothing is done when it is called; the law is its contract.
+pub fn goes_by_its_columns()
+    ensures any_count { AnyCountLaw }
 {}
 
 /// Whatever the keys and the PC do: for every layout, under any edges at any places, any number at once, bouncing or not,
