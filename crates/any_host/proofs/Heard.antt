@@ -16,7 +16,6 @@ use Rattle.any_host.specs.Hearing.{HearsEach, IsRight, RulefulLaw, got_before, g
 use Rattle.any_host.specs.Rules.{IsRuleful}
 use Rattle.any_host.specs.Ticks.{AreTicks, IsFound, frame_lines}
 use Rattle.any_host.specs.Wires.{AreWires, Wiring}
-use Rattle.agreement.specs.Firmware.{least_of}
 
 module _ (w : Wiring) (wires : AreWires w) (rules : IsRuleful w) (starts : ℕ → ℕ) (frames : ℕ → Frame) (meetings : ℕ → Meeting)
     (ticks : AreTicks w starts frames meetings) where
@@ -57,7 +56,7 @@ module _ (w : Wiring) (wires : AreWires w) (rules : IsRuleful w) (starts : ℕ �
           (cut w wires (starts n) (starts (suc n)) (frames n) (ticks.long n) (ticks.drives n) byte look is h.1
           (look_within look h.1) h.2 (e n) rests)
       by (SentFrame byte) is h =
-          let k = sent.sent w wires rules (starts n) (starts (suc n)) (subst (λ f. starts n + least_of f ≤ starts (suc n)) is (ticks.long n)) byte h.1
+          let k = sent.sent w wires rules (starts n) (starts (suc n)) (let l : starts n + 2016 ≤ starts (suc n) = ticks.long n in omega (arith, l)) byte h.1
           (λ o l. ticks.drives n o l ∙ ap (λ f. frame_lines f o) is) h.4 h.3 h.2 (e n) rests in
           record {
             most = k.most;
@@ -68,8 +67,8 @@ module _ (w : Wiring) (wires : AreWires w) (rules : IsRuleful w) (starts : ℕ �
       by ReceivedFrame is h =
           let drives : (o : ℕ) → starts n + o < starts (suc n) → w.keyboard (starts n + o) ≡ frame_lines ReceivedFrame o =
           λ o l. ticks.drives n o l ∙ ap (λ f. frame_lines f o) is in
-          let k = got.given_there w wires rules (starts n) (starts (suc n)) (subst (λ f. starts n + least_of f ≤ starts (suc n)) is (ticks.long n)) drives h.1 h.2 (e n) rests in
-          let r = got.received w wires rules (starts n) (starts (suc n)) (subst (λ f. starts n + least_of f ≤ starts (suc n)) is (ticks.long n)) drives h.1 h.2 (e n) rests in
+          let k = got.given_there w wires rules (starts n) (starts (suc n)) (let l : starts n + 2016 ≤ starts (suc n) = ticks.long n in omega (arith, l)) drives h.1 h.2 (e n) rests in
+          let r = got.received w wires rules (starts n) (starts (suc n)) (let l : starts n + 2016 ≤ starts (suc n) = ticks.long n in omega (arith, l)) drives h.1 h.2 (e n) rests in
           let byte : ℕ = byte_in (λ k. (w.pins (starts n + (306 + 32 * k))).dat) in
           let good : Bool = right_in (λ k. (w.pins (starts n + (306 + 32 * k))).dat) in
           let met : meetings n ≡ Got byte good = h.0 in
