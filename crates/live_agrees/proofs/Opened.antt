@@ -4,6 +4,7 @@ use Rattle.std.proofs.Common.{Ok, Err, slice_index, refl, ap, sym, subst, ◌∙
 use Rattle.std.proofs.lemmas.List.Elements.{All-cons, All-nil}
 use Rattle.std.specs.declared.option.Option.{Option}
 use Rattle.std.specs.declared.result.Result.{Result}
+use Rattle.agreement.specs.Agreement.{AnyMemoryLaw}
 use Rattle.agreement.specs.AnyKeys.{AnyKeysLaw}
 use Rattle.board_terms.specs.Flips.{FlipsDataOrParity}
 use Rattle.board_terms.specs.declared.event.HostAct.TheVariants.{Mask}
@@ -16,7 +17,7 @@ use Rattle.joint_run.specs.Joint.{Beside, joint_board}
 use Rattle.joint_run.specs.Run.{World, after_step, seen}
 use Rattle.key_file.specs.Accepted.{IsLawfulFor, WritesByte}
 use Rattle.layout_reader.specs.Layouts.{IsKeyLayout, KeyLayout}
-use Rattle.live_agrees.proofs.Agreed.{any_use_is_lawful, fills_are_fine, never_stuck}
+use Rattle.live_agrees.proofs.Agreed.{any_use_is_lawful, fills_are_fine, logs_agree, never_stuck}
 use Rattle.live_agrees.specs.Law.{history_of}
 use Rattle.live_agrees.specs.Opened.{IsMasked, OpenedIsMasked, ReadyIsMasked, masked_at}
 use Rattle.live_board.proofs.Stepping.{here}
@@ -103,7 +104,8 @@ module _ (p : Past) (old new : Keyboard) (end : RunEnd) (from : p.steps ≡ 0) (
   pub ends_at_0 : (4096 ≤ new.joint.cycle) × (new.joint.cycle ≤ 4097)
   ends_at_0 = (least end r.ends, most new.joint.steps refl)
 
-module _ (law : AnyKeysLaw) (layout : KeyLayout) (fill : ℕ) (fine : IsKeyLayout layout) (small : fill < 256) where
+module _ (law : AnyKeysLaw) (memory : AnyMemoryLaw) (layout : KeyLayout) (fill : ℕ) (fine : IsKeyLayout layout)
+    (small : fill < 256) where
   abbrev bytes : List ℕ
   bytes = image_of layout
 
@@ -119,16 +121,26 @@ module _ (law : AnyKeysLaw) (layout : KeyLayout) (fill : ℕ) (fine : IsKeyLayou
   goes p is held =
       never_stuck law layout p fine is (subst (λ m. IsFine m) (sym held) (fills_are_fine fill small))
 
+  -- a past in which nothing but the mask happened
+  is_masked : (stamp steps : ℕ) (k : Keyboard) → stamp ≤ 1 → HasPast (masked_at fill bytes stamp steps) k
+      → IsMasked layout fill k
+  is_masked stamp steps k soon s = record {
+    stamp = stamp;
+    soon = soon;
+    steps = steps;
+    has_past = s;
+    fine = fills_are_fine fill small;
+    lawful = masks stamp steps;
+    agrees =
+        logs_agree memory layout (masked_at fill bytes stamp steps) 0 k s fine refl (fills_are_fine fill small)
+        (masks stamp steps 0);
+  }
+
   -- the mask is done
   masked : (old new : Keyboard) (answer : Result (Unit {0}) Refused) (steps : ℕ) → HasPast (untouched fill bytes steps) old
       → 4096 ≤ old.joint.cycle → old.joint.cycle ≤ 4097 → IsActed Mask old answer new → IsMasked layout fill new
-  masked old new (Ok done) steps s late soon a = record {
-    stamp = old.joint.cycle - 4096;
-    soon = omega (arith, soon);
-    steps = suc steps;
-    has_past = a.1 (untouched fill bytes steps) s;
-    lawful = masks (old.joint.cycle - 4096) (suc steps);
-  }
+  masked old new (Ok done) steps s late soon a =
+      is_masked (old.joint.cycle - 4096) (suc steps) new (omega (arith, soon)) (a.1 (untouched fill bytes steps) s)
   masked old new (Err R.Early) steps s late soon a = absurd (let l : old.joint.cycle < 4096 = a.0 in omega (arith, l, late))
   masked old new (Err R.Over) steps s late soon a = absurd (let l = a.0 in omega (arith, l, soon))
   masked old new (Err R.Full) steps s late soon a = absurd (let e : false ≡ true = a.0.2 in cc)
@@ -143,17 +155,17 @@ module _ (law : AnyKeysLaw) (layout : KeyLayout) (fill : ℕ) (fine : IsKeyLayou
       (λ n. goes (gone_on p n) refl refl) in
       masked o.middle k o.answer o.middle.joint.steps o.ran.has_past ends.0 ends.1 o.masked
 
-pub opened_is_masked : AnyKeysLaw → OpenedIsMasked
-opened_is_masked law layout fill k fine small o = opened_by law layout fill fine small k o
+  -- and it stays so as the run goes on
+  pub ran_on : (old new : Keyboard) (cycles : ℕ) (watched : Bool) (end : RunEnd)
+      → ((p : Past) → HasPast p old → HasRun p old cycles watched end new) → IsMasked layout fill old
+      → IsMasked layout fill new
+  ran_on old new cycles watched end runs m =
+      is_masked m.stamp new.joint.steps new m.soon (runs (masked_at fill bytes m.stamp m.steps) m.has_past).has_past
 
-pub ready_is_masked : AnyKeysLaw → ReadyIsMasked
-ready_is_masked law layout k fine r =
-    let m = opened_by law layout 0 fine (omega arith) r.opened r.is_opened in
-    let ran = r.ran (masked_at 0 (image_of layout) m.stamp m.steps) m.has_past in
-    record {
-      stamp = m.stamp;
-      soon = m.soon;
-      steps = k.joint.steps;
-      has_past = ran.has_past;
-      lawful = λ stop. masks law layout 0 fine (omega arith) m.stamp k.joint.steps stop;
-    }
+pub opened_is_masked : AnyKeysLaw → AnyMemoryLaw → OpenedIsMasked
+opened_is_masked law memory layout fill k fine small o = opened_by law memory layout fill fine small k o
+
+pub ready_is_masked : AnyKeysLaw → AnyMemoryLaw → ReadyIsMasked
+ready_is_masked law memory layout k fine r =
+    let m = opened_by law memory layout 0 fine (omega arith) r.opened r.is_opened in
+    ran_on law memory layout 0 fine (omega arith) r.opened k 400000 true r.end r.ran m

@@ -3,13 +3,15 @@ use Rattle.std.specs.Prelude.{◌≤◌, ◌<◌, ℕ, List, [], ◌∷◌}
 use Rattle.board_terms.specs.declared.event.HostAct.TheVariants.{Mask}
 use Rattle.fw_compile.specs.Image.{image_of}
 use Rattle.joint_run.specs.Filled.{filled}
+use Rattle.joint_run.specs.Joint.{log_of}
 use Rattle.key_file.specs.Accepted.{IsLawfulFor}
 use Rattle.layout_reader.specs.Layouts.{IsKeyLayout, KeyLayout}
-use Rattle.live_agrees.specs.Law.{history_of}
+use Rattle.live_agrees.specs.Law.{BeginsExpected, history_of}
 use Rattle.live_board.specs.Pasts.{Past}
 use Rattle.live_board.specs.Ready.{IsOpened, IsReady}
 use Rattle.live_board.specs.States.{HasPast}
 use Rattle.live_board.specs.declared.parts.Parts.{Parts as Keyboard}
+use Rattle.mcs48_ranges.specs.Sizes.{IsFine}
 
 -- from memory of this byte the program has made so many steps; no key has moved, and all that the host did was to mask
 -- INT 09h at this stamp
@@ -22,13 +24,16 @@ masked_at fill bytes stamp steps = record {
   steps = steps;
 }
 
--- such a past of a keyboard, which is lawful for the layout, whatever its end: the mask came at stamp 0 or 1
+-- such a past of a keyboard: the mask came at stamp 0 or 1. What memory held is fine, and the past is lawful for the layout,
+-- whatever its end. So what was said so far is the beginning of what the model says
 pub record IsMasked (layout : KeyLayout) (fill : ℕ) (k : Keyboard) : Type 0 where
   pub stamp : ℕ
   pub soon : stamp ≤ 1
   pub steps : ℕ
   pub has_past : HasPast (masked_at fill (image_of layout) stamp steps) k
+  pub fine : IsFine (filled fill)
   pub lawful : (stop : ℕ) → IsLawfulFor layout (history_of (masked_at fill (image_of layout) stamp steps) stop)
+  pub agrees : BeginsExpected layout (masked_at fill (image_of layout) stamp steps) (log_of has_past.world.board)
 
 -- so is a keyboard that was opened, or switched off and on again, with a layout's image, from memory of any byte
 abbrev pub OpenedIsMasked : Type 0

@@ -39,7 +39,8 @@ pub fn calls_agree()
 
 /// Whatever calls were made, whatever the part held when it was switched on, whether or not keys bounced, and however many
 /// changed at once: let the edges be at places of the layout, and what is written be bytes. Then what was said so far is the
-/// beginning of what the model says, whose ticks get what the columns show, before a bounce and after it. Nothing is done when it is called; the law is its contract.
+/// beginning of what the model says, whose ticks get what the columns show, before a bounce and after it. Nothing is done
+/// when it is called; the law is its contract.
 pub fn bounces_agree()
     ensures shown { LogsAreShown }
 {
@@ -57,12 +58,14 @@ pub fn never_stuck()
 
 /// A keyboard that was opened with a layout's image, or switched off and on again, from memory of any byte, is in one past:
 /// no key has moved, and INT 09h was masked at stamp 0 or 1. So is one that was run on until its interrupt line rose. That past
-/// is lawful for the layout: with it the calls that follow need no premise on how the keyboard was opened. Nothing is done
-/// when it is called; the laws are its contract.
+/// is lawful for the layout, and what was said so far is the beginning of what the model says of it. The calls that follow
+/// add to this past, so the laws of calls need no premise on how the keyboard was opened. Nothing is done when it is called;
+/// the laws are its contract.
 pub fn opened_is_lawful()
     ensures opened { OpenedIsMasked }
     ensures ready { ReadyIsMasked }
 {
+    run_and_model_agree();
     any_keys();
 }
 
