@@ -57,7 +57,7 @@ module _ (w : Wiring) (wires : AreWires w) (rules : IsRuleful w) where
   all_small zero = tt
   all_small (suc c) = next_small c (all_small c) (w.host c).clk refl
 
-  module _ (x y : ℕ) (long : x + 626 ≤ y)
+  module _ (x y : ℕ) (long : x + 2016 ≤ y)
       (drives : (o : ℕ) → x + o < y → w.keyboard (x + o) ≡ frame_lines ReceivedFrame o)
       (at_clock : (w.pins (x + 256)).clk ≡ true) (at_data : (w.pins (x + 258)).dat ≡ false) (first : Ear)
       (rests : Kept 0 first (ear_to w x)) where
@@ -70,7 +70,7 @@ module _ (w : Wiring) (wires : AreWires w) (rules : IsRuleful w) where
     dat : (o : ℕ) → o < 626 → (w.keyboard (x + o)).dat ≡ (frame_lines ReceivedFrame o).dat
     dat o l = ap (λ l. l.dat) (drives o (omega (arith, long, l)))
 
-    up_clk : (o : ℕ) → o < 288 → (w.keyboard (x + o)).clk ≡ true
+    pub up_clk : (o : ℕ) → o < 288 → (w.keyboard (x + o)).clk ≡ true
     up_clk o l = clk o (omega (arith, l)) ∙ ap (λ l. l.clk) (got_up o l)
 
     up_dat : (o : ℕ) → o < 288 → (w.keyboard (x + o)).dat ≡ true
@@ -254,7 +254,7 @@ module _ (w : Wiring) (wires : AreWires w) (rules : IsRuleful w) where
       is : (E (289 + 32 * k)).mode ≡ Gives byte (suc k)
       is = ap (λ (v : Ear). v.mode) fell_is
 
-      no_fall_in : (i : ℕ) → i < 31 → NoFall w wires (x + (289 + 32 * k + i))
+      pub no_fall_in : (i : ℕ) → i < 31 → NoFall w wires (x + (289 + 32 * k + i))
       no_fall_in i l = by (nat_le 16 (suc i)) refl
         where
           p : 289 + 32 * k + i ≡ 288 + 32 * k + suc i
@@ -339,7 +339,7 @@ module _ (w : Wiring) (wires : AreWires w) (rules : IsRuleful w) where
               ap (λ v. (w.host v).dat) t ∙ put 18 (omega arith) (omega arith) ∙ is)
               ∙ sym is
 
-    at_cell : (k : ℕ) → k ≤ 10 → At k
+    pub at_cell : (k : ℕ) → k ≤ 10 → At k
     at_cell zero l = begins
     at_cell (suc k) l = next k (omega (arith, l)) (at_cell k (omega (arith, l)))
 
@@ -365,7 +365,7 @@ module _ (w : Wiring) (wires : AreWires w) (rules : IsRuleful w) where
         subst (λ u. Kept 0 then_has u) (sym is)
         (record { most = omega arith; taken = h.taken; given = ap (λ t. t ++ byte ∷ []) h.given })
 
-    no_more : (o : ℕ) → 609 ≤ o → x + o < y → NoFall w wires (x + o)
+    pub no_more : (o : ℕ) → 609 ≤ o → x + o < y → NoFall w wires (x + o)
     no_more o l m = by (nat_lt o 624) refl (nat_lt o 626) refl
       where
         by : (a : Bool) → nat_lt o 624 ≡ a → (b : Bool) → nat_lt o 626 ≡ b → NoFall w wires (x + o)

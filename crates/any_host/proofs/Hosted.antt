@@ -32,9 +32,9 @@ use Rattle.any_host.proofs.Run.{works_alone}
 use Rattle.any_host.proofs.SameLines.{same_lines}
 use Rattle.any_host.specs.AnyHost.{AnyHostLaw, IsWiringOf, WorksAt, driven_to, said_before, said_by}
 use Rattle.any_host.specs.AnyPins.{TicksBy, WorksAlone, keyboard_after}
-use Rattle.any_host.specs.Ears.{ear_to}
+use Rattle.any_host.specs.Ears.{Counting, ear_to, taken_by}
 use Rattle.any_host.specs.Hearing.{HearsEach, sent_before, sent_by}
-use Rattle.any_host.specs.Rules.{IsRuleful}
+use Rattle.any_host.specs.Rules.{Ends, IsRuleful}
 use Rattle.any_host.specs.Ticks.{AreTicks, IsFound}
 use Rattle.any_host.specs.Wires.{AreWires, Wiring}
 
@@ -117,6 +117,7 @@ no_frame d w (Got byte good) h = absurd h
 
 module _ (layout : KeyLayout) (d : Board) (from : World d.State) (a : WorksAlone layout d from) (w : Wiring)
     (of_run : IsWiringOf d (image_of layout) from w) (begins : from.cycle ≡ 0) (wires : AreWires w) (rules : IsRuleful w)
+    (counts : Counting) (ends : Ends counts w)
   where
     abbrev starts : ℕ → ℕ
     starts n = 4096 + a.starts n
@@ -217,8 +218,8 @@ module _ (layout : KeyLayout) (d : Board) (from : World d.State) (a : WorksAlone
       found = found;
     }
 
-    hears : HearsEach w starts a.frames a.meetings
-    hears = ruleful w wires rules starts a.frames a.meetings are_ticks
+    hears : HearsEach counts w starts a.frames a.meetings
+    hears = ruleful counts w wires rules ends starts a.frames a.meetings are_ticks
 
     -- what is sent is what the model's keyboard offers
     said : (n : ℕ) → sent_by (a.frames n) ≡ said_by (a.meetings n) (offer (keyboard_after layout a.meetings a.edges n).keyboard)
@@ -259,16 +260,16 @@ module _ (layout : KeyLayout) (d : Board) (from : World d.State) (a : WorksAlone
         let cycles : s.state.cycle ≡ one.state.cycle = ap (λ (v : World d.State). v.cycle) same in
         omega (arith, here, there, cycles)
 
-    pub works_at : WorksAt layout d from w
+    pub works_at : WorksAt counts layout d from w
     works_at = record {
       works = a;
       taken = λ n stamp s.
-          ap (λ t. (ear_to w (4096 + t)).taken) (one_stamp n stamp s) ∙ hears.taken n ∙ said_all n;
+          ap (λ t. taken_by counts w (4096 + t)) (one_stamp n stamp s) ∙ hears.taken n ∙ said_all n;
       given = λ n stamp s. ap (λ t. (ear_to w (4096 + t)).given) (one_stamp n stamp s) ∙ hears.given n;
       right = hears.right;
     }
 
 pub any_host : AnyHostLaw
-any_host layout fine pins tick low m small board few w of_run wires rules =
+any_host layout fine pins tick low m small board few w of_run wires rules counts ends =
     works_at layout (numbered pins tick) (power_on (numbered pins tick) m board)
-    (works_alone layout fine (numbered pins tick) low m small board few) w of_run refl wires rules
+    (works_alone layout fine (numbered pins tick) low m small board few) w of_run refl wires rules counts ends

@@ -10,6 +10,10 @@ pub mod Still
 pub mod Alone
 pub mod SentTick
 pub mod GotTick
+pub mod Tenth
+pub mod TenthTick
+pub mod TenthSent
+pub mod TenthGot
 pub mod Heard
 pub mod SameLines
 pub mod Hosted

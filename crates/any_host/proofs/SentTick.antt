@@ -1,4 +1,4 @@
--- A tick in which a byte is sent: a host that keeps the rules takes it once and right.
+-- A tick in which a byte is sent: a host that keeps the rules takes it once and right, if it counts eleven falls.
 use Rattle.std.proofs.Common.{◌≡◌, ◌≤◌, ◌<◌, ℕ, zero, suc, ◌+◌, ◌-◌, ◌*◌, Bool, true, false, nat_le, nat_lt, ◌==◌}
 use Rattle.std.proofs.Common.{List, [], ◌∷◌, ◌++◌, length, Some, if◌then◌else◌, refl, ap, sym, ◌∙◌, subst, arith, inl}
 use Rattle.std.proofs.lemmas.Bool.Decides.{nat_tests}
@@ -11,8 +11,8 @@ use Rattle.any_host.proofs.Ears.{Kept, NoFall, keeps_on, no_fall, went}
 use Rattle.any_host.proofs.FrameLines.{sent_clock, sent_data, sent_late, sent_start, sent_up}
 use Rattle.any_host.proofs.Offsets.{falls_at, high_at, low_at, same_on}
 use Rattle.any_host.proofs.Still.{to_next}
-use Rattle.any_host.specs.Ears.{Ear, Takes, ear_to, fell, with_bit}
-use Rattle.any_host.specs.Rules.{IsRuleful}
+use Rattle.any_host.specs.Ears.{Ear, Eleventh, Takes, ear_to, fell, with_bit}
+use Rattle.any_host.specs.Rules.{Ends, IsRuleful}
 use Rattle.any_host.specs.Ticks.{frame_lines}
 use Rattle.any_host.specs.Wires.{AreWires, Wiring}
 
@@ -53,7 +53,7 @@ data_level byte k i few l = by k few (nat_lt i 2) refl
         ∙ sent_data byte k (i - 2) (omega (arith, l)) (omega (arith, l, few))
         ∙ ap (λ b. frame_bit byte (if b then k else suc k)) soon
 
-module _ (w : Wiring) (wires : AreWires w) (rules : IsRuleful w) (x y : ℕ) (long : x + 628 ≤ y) (byte : ℕ) (small : byte < 256)
+module _ (w : Wiring) (wires : AreWires w) (rules : IsRuleful w) (x y : ℕ) (long : x + 2016 ≤ y) (byte : ℕ) (small : byte < 256)
     (drives : (o : ℕ) → x + o < y → w.keyboard (x + o) ≡ frame_lines (SentFrame byte) o)
     (looks : (look : ℕ) → IsLook look → (w.pins (x + (260 + look))).clk ≡ true)
     (at_clock : (w.pins (x + 256)).clk ≡ true) (at_data : (w.pins (x + 258)).dat ≡ true) (first : Ear)
@@ -61,7 +61,7 @@ module _ (w : Wiring) (wires : AreWires w) (rules : IsRuleful w) (x y : ℕ) (lo
   abbrev E : ℕ → Ear
   E o = ear_to w (x + o)
 
-  clk : (o : ℕ) → o < 628 → (w.keyboard (x + o)).clk ≡ (frame_lines (SentFrame byte) o).clk
+  pub clk : (o : ℕ) → o < 628 → (w.keyboard (x + o)).clk ≡ (frame_lines (SentFrame byte) o).clk
   clk o l = ap (λ l. l.clk) (drives o (omega (arith, long, l)))
 
   dat : (o : ℕ) → o < 628 → (w.keyboard (x + o)).dat ≡ (frame_lines (SentFrame byte) o).dat
@@ -73,10 +73,10 @@ module _ (w : Wiring) (wires : AreWires w) (rules : IsRuleful w) (x y : ℕ) (lo
   let_go_there : (w.keyboard (x + 257)).clk ≡ true
   let_go_there = clk 257 (omega arith) ∙ sent_up byte 257 (omega arith)
 
-  host_dat : (o : ℕ) → 257 ≤ o → o ≤ 614 → (w.host (x + o)).dat ≡ true
+  pub host_dat : (o : ℕ) → 257 ≤ o → o ≤ 614 → (w.host (x + o)).dat ≡ true
   host_dat = lets_data w wires rules x looks at_clock at_data first there let_go_there
 
-  host_clk : (o : ℕ) → 256 ≤ o → o ≤ 593 → (w.host (x + o)).clk ≡ true
+  pub host_clk : (o : ℕ) → 256 ≤ o → o ≤ 593 → (w.host (x + o)).clk ≡ true
   host_clk = leaves w wires rules x looks at_clock at_data
 
   -- a cycle that changes nothing
@@ -85,7 +85,7 @@ module _ (w : Wiring) (wires : AreWires w) (rules : IsRuleful w) (x y : ℕ) (lo
   quiet o bits l m none go is =
       went w wires (x + o) (Takes bits) true false go is (host_dat o l m) (no_fall w wires (x + o) none go)
 
-  abbrev bits : ℕ → List Bool
+  abbrev pub bits : ℕ → List Bool
   bits k = bits_to (frame_bit byte) k
 
   -- the fall of a cell is next: so many bits are taken, the host has let the clock go, and lets data go as it reads
@@ -160,7 +160,7 @@ module _ (w : Wiring) (wires : AreWires w) (rules : IsRuleful w) (x y : ℕ) (lo
         ap (λ i. (w.keyboard (x + i)).clk) (at3 ∙ z) ∙ clk (288 + 32 * k + 0) (omega (arith, few))
         ∙ sent_clock byte k 0 (omega arith) (omega (arith, few))
 
-    falls : fell w (x + (288 + 32 * k)) ≡ true
+    pub falls : fell w (x + (288 + 32 * k)) ≡ true
     falls = ap (λ i. fell w (x + i)) (sym at3) ∙ falls_at w wires x (suc (suc o)) high down
 
     -- the bit of the cell is read
@@ -207,7 +207,7 @@ module _ (w : Wiring) (wires : AreWires w) (rules : IsRuleful w) (x y : ℕ) (lo
     level : (i : ℕ) → i ≤ 16 → (w.seen (x + (288 + 32 * k) + i)).dat ≡ frame_bit byte k
     level i l = by_level i l (frame_bit byte k) refl
 
-    read : w.reads (x + (288 + 32 * k)) ≡ frame_bit byte k
+    pub read : w.reads (x + (288 + 32 * k)) ≡ frame_bit byte k
     read = rules.reads (x + (288 + 32 * k)) (frame_bit byte k) falls level
 
     -- the fall
@@ -219,12 +219,49 @@ module _ (w : Wiring) (wires : AreWires w) (rules : IsRuleful w) (x y : ℕ) (lo
         (host_dat (288 + 32 * k) (omega arith) (omega (arith, few))) falls
         ∙ ap (λ b. with_bit (bits k) b (E (288 + 32 * k))) read
 
+  -- past the last look the host lets the clock go in a cell, as long as it has taken the cell's bit
+  abbrev pub LetsGo : ℕ → Type 0
+  LetsGo k =
+      (i : ℕ) → i ≤ 31 → 593 < 289 + 32 * k + i → E (289 + 32 * k + i) ≡ E (289 + 32 * k)
+      → (w.host (x + (289 + 32 * k + i))).clk ≡ true
+
+  module _ (k : ℕ) (few : k ≤ 9) (h : At k) where
+    long_bits : length (bits k) ≡ k
+    long_bits = length_bits (frame_bit byte) k
+
+    not_ten : (length (bits k) == 10) ≡ false
+    not_ten = grind (arith, nat_tests, long_bits, few)
+
+    pub fell_is : E (289 + 32 * k) ≡ record (E (288 + 32 * k)) { mode = Takes (bits (suc k)) }
+    fell_is =
+        let z : x + (289 + 32 * k) ≡ suc (x + (288 + 32 * k)) = omega arith in
+        ap (ear_to w) z ∙ fallen k (omega (arith, few)) h ∙ rw not_ten refl
+
+    pub no_fall_in : (i : ℕ) → i < 31 → NoFall w wires (x + (289 + 32 * k + i))
+    no_fall_in i l = by (nat_le 16 (suc i)) refl
+      where
+        p : 289 + 32 * k + i ≡ 288 + 32 * k + suc i
+        p = omega arith
+
+        by : (b : Bool) → nat_le 16 (suc i) ≡ b → NoFall w wires (x + (289 + 32 * k + i))
+        by true up =
+            inl (ap (λ v. (w.keyboard (x + v)).clk) p ∙ clk (288 + 32 * k + suc i) (omega (arith, few, l))
+            ∙ sent_clock byte k (suc i) (omega (arith, l)) (omega (arith, l, few)) ∙ up)
+        by false low =
+            let m : suc i < 16 = grind (arith, nat_tests, low) in
+            let below : nat_le 16 i ≡ false = grind (arith, nat_tests, m) in
+            let q : suc (288 + 32 * k + i) ≡ 289 + 32 * k + i = omega arith in
+            subst (λ v. NoFall w wires (x + v)) q
+            (low_at w wires x (288 + 32 * k + i)
+            (clk (288 + 32 * k + i) (omega (arith, few, l))
+            ∙ sent_clock byte k i (omega (arith, l)) (omega (arith, l, few)) ∙ below))
+
   -- from one cell to the next
-  next : (k : ℕ) → k ≤ 9 → At k → At (suc k)
-  next k few h = record {
+  pub next : (k : ℕ) → k ≤ 9 → At k → LetsGo k → At (suc k)
+  next k few h past = record {
     mode = ap (λ (v : Ear). v.mode) there_all ∙ is;
-    taken = ap (λ (v : Ear). v.taken) (there_all ∙ fell_is) ∙ h.taken;
-    given = ap (λ (v : Ear). v.given) (there_all ∙ fell_is) ∙ h.given;
+    taken = ap (λ (v : Ear). v.taken) (there_all ∙ fell_is k few h) ∙ h.taken;
+    given = ap (λ (v : Ear). v.given) (there_all ∙ fell_is k few h) ∙ h.given;
     host = λ i l.
         let p : 285 + 32 * suc k + i ≡ 289 + 32 * k + (28 + i) = omega arith in
         ap (λ v. (w.host (x + v)).clk) p
@@ -232,19 +269,8 @@ module _ (w : Wiring) (wires : AreWires w) (rules : IsRuleful w) (x y : ℕ) (lo
     lets = lets_next;
   }
     where
-      long_bits : length (bits k) ≡ k
-      long_bits = length_bits (frame_bit byte) k
-
-      not_ten : (length (bits k) == 10) ≡ false
-      not_ten = grind (arith, nat_tests, long_bits, few)
-
-      fell_is : E (289 + 32 * k) ≡ record (E (288 + 32 * k)) { mode = Takes (bits (suc k)) }
-      fell_is =
-          let z : x + (289 + 32 * k) ≡ suc (x + (288 + 32 * k)) = omega arith in
-          ap (ear_to w) z ∙ fallen k (omega (arith, few)) h ∙ rw not_ten refl
-
       is : (E (289 + 32 * k)).mode ≡ Takes (bits (suc k))
-      is = ap (λ (v : Ear). v.mode) fell_is
+      is = ap (λ (v : Ear). v.mode) (fell_is k few h)
 
       -- the host lets the clock go in the cell
       go : (i : ℕ) → i ≤ 31 → E (289 + 32 * k + i) ≡ E (289 + 32 * k) → (w.host (x + (289 + 32 * k + i))).clk ≡ true
@@ -253,39 +279,13 @@ module _ (w : Wiring) (wires : AreWires w) (rules : IsRuleful w) (x y : ℕ) (lo
           by : (b : Bool) → nat_le (289 + 32 * k + i) 593 ≡ b → (w.host (x + (289 + 32 * k + i))).clk ≡ true
           by true s = host_clk (289 + 32 * k + i) (omega arith) (grind (arith, nat_tests, s))
           by false s =
-              let far : 593 < 289 + 32 * k + i = grind (arith, nat_tests, s) in
-              let all : length (bits (suc k)) ≡ suc k = length_bits (frame_bit byte) (suc k) in
-              let last : k ≡ 9 = omega (arith, far, few, l) in
-              let z : x + (289 + 32 * k + i) ≡ x + (288 + 32 * k) + suc i = omega arith in
-              ap (λ c. (w.host c).clk) z
-              ∙ rules.ends (x + (288 + 32 * k)) (suc i) (bits k) (bits (suc k)) h.mode (long_bits ∙ last)
-              (falls k (omega (arith, few)) h) (omega (arith, far, last))
-              (ap (λ c. (ear_to w c).mode) (sym z) ∙ ap (λ (v : Ear). v.mode) same ∙ is) (all ∙ ap suc last)
-
-      no_fall_in : (i : ℕ) → i < 31 → NoFall w wires (x + (289 + 32 * k + i))
-      no_fall_in i l = by (nat_le 16 (suc i)) refl
-        where
-          p : 289 + 32 * k + i ≡ 288 + 32 * k + suc i
-          p = omega arith
-
-          by : (b : Bool) → nat_le 16 (suc i) ≡ b → NoFall w wires (x + (289 + 32 * k + i))
-          by true up =
-              inl (ap (λ v. (w.keyboard (x + v)).clk) p ∙ clk (288 + 32 * k + suc i) (omega (arith, few, l))
-              ∙ sent_clock byte k (suc i) (omega (arith, l)) (omega (arith, l, few)) ∙ up)
-          by false low =
-              let m : suc i < 16 = grind (arith, nat_tests, low) in
-              let below : nat_le 16 i ≡ false = grind (arith, nat_tests, m) in
-              let q : suc (288 + 32 * k + i) ≡ 289 + 32 * k + i = omega arith in
-              subst (λ v. NoFall w wires (x + v)) q
-              (low_at w wires x (288 + 32 * k + i)
-              (clk (288 + 32 * k + i) (omega (arith, few, l))
-              ∙ sent_clock byte k i (omega (arith, l)) (omega (arith, l, few)) ∙ below))
+              let far : 593 < 289 + 32 * k + i = grind (arith, nat_tests, s) in past i l far same
 
       stay : (i : ℕ) → i ≤ 31 → E (289 + 32 * k + i) ≡ E (289 + 32 * k)
       stay i l =
           same_on w wires x i (289 + 32 * k)
           (λ j m before.
-          quiet (289 + 32 * k + j) (bits (suc k)) (omega arith) (omega (arith, few, l, m)) (no_fall_in j (omega (arith, l, m)))
+          quiet (289 + 32 * k + j) (bits (suc k)) (omega arith) (omega (arith, few, l, m)) (no_fall_in k few h j (omega (arith, l, m)))
           (go j (omega (arith, l, m)) before) (ap (λ (v : Ear). v.mode) before ∙ is))
 
       lets_next : (o : ℕ) → 257 ≤ o → o ≤ 304 + 32 * suc k → (w.host (x + o)).dat ≡ true
@@ -304,20 +304,22 @@ module _ (w : Wiring) (wires : AreWires w) (rules : IsRuleful w) (x y : ℕ) (lo
       there_all =
           let z : 288 + 32 * suc k ≡ 289 + 32 * k + 31 = omega arith in ap E z ∙ stay 31 (omega arith)
 
-  at_cell : (k : ℕ) → k ≤ 10 → At k
+  -- up to the tenth fall
+  pub at_cell : (k : ℕ) → k ≤ 9 → At k
   at_cell zero l = begins
-  at_cell (suc k) l = next k (omega (arith, l)) (at_cell k (omega (arith, l)))
+  at_cell (suc k) l =
+      next k (omega (arith, l)) (at_cell k (omega (arith, l))) (λ i m far same. absurd (omega (arith, l, m, far)))
 
   -- the byte of the frame
   whole_frame : bits 10 ++ frame_bit byte 10 ∷ [] ≡ frame_bits byte
   whole_frame = refl
 
-  abbrev then_has : Ear
+  abbrev pub then_has : Ear
   then_has = record { mode = Takes []; taken = first.taken ++ Some byte ∷ []; given = first.given }
 
-  ended : Kept 0 then_has (E 609)
-  ended =
-      let h = at_cell 10 (omega arith) in
+  -- the eleventh fall ends it
+  pub ended : At 10 → Kept 0 then_has (E 609)
+  ended h =
       let ten : (length (bits 10) == 10) ≡ true = refl in
       let z : x + 609 ≡ suc (x + (288 + 32 * 10)) = omega arith in
       let v : Ear = E (288 + 32 * 10) in
@@ -332,7 +334,7 @@ module _ (w : Wiring) (wires : AreWires w) (rules : IsRuleful w) (x y : ℕ) (lo
       })
 
   -- after it
-  no_more : (o : ℕ) → 609 ≤ o → x + o < y → NoFall w wires (x + o)
+  pub no_more : (o : ℕ) → 609 ≤ o → x + o < y → NoFall w wires (x + o)
   no_more o l m = by (nat_lt o 624) refl (nat_lt o 628) refl
     where
       by : (a : Bool) → nat_lt o 624 ≡ a → (b : Bool) → nat_lt o 628 ≡ b → NoFall w wires (x + o)
@@ -354,5 +356,19 @@ module _ (w : Wiring) (wires : AreWires w) (rules : IsRuleful w) (x y : ℕ) (lo
           ∙ clk (288 + 32 * 10 + i) (omega (arith, u)) ∙ sent_clock byte 10 i (omega (arith, u)) (omega (arith, u)) ∙ up)
       by false s false t = inl (ap (λ l. l.clk) (drives o m) ∙ sent_late byte o (grind (arith, nat_tests, t)))
 
-  pub sent : Kept 0 then_has (ear_to w y)
-  sent = to_next w wires x y (SentFrame byte) long drives 0 609 then_has (omega (arith, long)) no_more ended
+  -- a host that counts eleven falls lets the clock go up to the eleventh
+  module _ (ends : Ends Eleventh w) where
+    lets_go : LetsGo 9
+    lets_go i l far same =
+        let h = at_cell 9 (omega arith) in
+        let z : x + (289 + 32 * 9 + i) ≡ x + (288 + 32 * 9) + suc i = omega arith in
+        ap (λ c. (w.host c).clk) z
+        ∙ ends (x + (288 + 32 * 9)) (suc i) (bits 9) (bits 10) h.mode (length_bits (frame_bit byte) 9)
+        (falls 9 (omega arith) h) (omega (arith, far))
+        (ap (λ c. (ear_to w c).mode) (sym z) ∙ ap (λ (v : Ear). v.mode) (same ∙ fell_is 9 (omega arith) h))
+        (length_bits (frame_bit byte) 10)
+
+    pub sent : Kept 0 then_has (ear_to w y)
+    sent =
+        to_next w wires x y (SentFrame byte) long drives 0 609 then_has (omega (arith, long)) no_more
+        (ended (next 9 (omega arith) (at_cell 9 (omega arith)) lets_go))

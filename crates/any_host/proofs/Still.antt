@@ -36,13 +36,13 @@ module _ (w : Wiring) (wires : AreWires w) (x y : ℕ) (frame : Frame) (long : x
   -- a frame that is cut at a look
   module _ (byte look : ℕ) (is : frame ≡ CutFrame byte look) (at : IsLook look) (far : look ≤ 334)
       (low : (w.pins (x + (260 + look))).clk ≡ false) (first : Ear) (rests : Kept 0 first (e x)) where
-    room : x + (266 + look) ≤ y
+    pub room : x + (266 + look) ≤ y
     room = omega (arith, long, far)
 
     clk : (o : ℕ) → o < 266 + look → (w.keyboard (x + o)).clk ≡ (frame_lines (CutFrame byte look) o).clk
     clk o l = ap (λ l. l.clk) (drives o (omega (arith, room, l))) ∙ ap (λ f. (frame_lines f o).clk) is
 
-    as_sent : (o : ℕ) → o < 262 + look → (w.keyboard (x + o)).clk ≡ (frame_lines (SentFrame byte) o).clk
+    pub as_sent : (o : ℕ) → o < 262 + look → (w.keyboard (x + o)).clk ≡ (frame_lines (SentFrame byte) o).clk
     as_sent o l = clk o (omega (arith, l, far)) ∙ ap (λ l. l.clk) (cut_as_sent byte look at o l)
 
     -- the clock is let go from two cycles before the look on
@@ -60,7 +60,7 @@ module _ (w : Wiring) (wires : AreWires w) (x y : ℕ) (frame : Frame) (long : x
         ap (λ o. (frame_lines (SentFrame byte) o).clk) p
         ∙ sent_clock byte k (26 + i) (omega (arith, l)) (omega (arith, l, few)) ∙ up
 
-    up_late : (o : ℕ) → 258 + look ≤ o → x + o < y → (w.keyboard (x + o)).clk ≡ true
+    pub up_late : (o : ℕ) → 258 + look ≤ o → x + o < y → (w.keyboard (x + o)).clk ≡ true
     up_late o l m = ap (λ l. l.clk) (drives o m) ∙ ap (λ f. (frame_lines f o).clk) is ∙ by (nat_lt o (262 + look)) refl
       where
         by : (b : Bool) → nat_lt o (262 + look) ≡ b → (frame_lines (CutFrame byte look) o).clk ≡ true
@@ -105,7 +105,7 @@ module _ (w : Wiring) (wires : AreWires w) (x y : ℕ) (frame : Frame) (long : x
                   ∙ sent_clock byte k i (omega (arith, l)) (omega (arith, l, few)) ∙ below,
             )
 
-    cells : (k : ℕ) → k ≤ 10 → 288 + 32 * k ≤ 260 + look → Kept k first (e (x + (288 + 32 * k)))
+    pub cells : (k : ℕ) → k ≤ 10 → 288 + 32 * k ≤ 260 + look → Kept k first (e (x + (288 + 32 * k)))
     cells zero l m =
         let z : 288 ≡ 288 + 32 * 0 = omega arith in
         subst (λ o. Kept 0 first (e (x + o))) z (up_early 288 (omega arith) (omega (arith, m)))

@@ -16,9 +16,9 @@ use Rattle.mcs48_core.specs.Cpu.{Cpu}
 use Rattle.mcs48_core.specs.declared.levels.Pins.{Pins}
 use Rattle.mcs48_ranges.specs.Sizes.{IsFine}
 use Rattle.any_host.specs.AnyPins.{ShowsOwnKeys, WorksAlone, keyboard_after}
-use Rattle.any_host.specs.Ears.{ear_to}
+use Rattle.any_host.specs.Ears.{Counting, ear_to, taken_by}
 use Rattle.any_host.specs.Hearing.{IsRight, got_before}
-use Rattle.any_host.specs.Rules.{IsRuleful}
+use Rattle.any_host.specs.Rules.{Ends, IsRuleful}
 use Rattle.any_host.specs.Wires.{AreWires, Wiring}
 
 -- the board so many cycles past power-on, if the latch of port 2 is this in each cycle
@@ -52,10 +52,10 @@ said_before layout meetings edges (suc n) =
 
 -- the keyboard works: its run is that of the model, and at each tick start the host has taken what the model's keyboard
 -- said, and the keyboard has got what the host sent
-pub record WorksAt (layout : KeyLayout) (d : Board) (from : World d.State) (w : Wiring) : Type 0 where
+pub record WorksAt (counts : Counting) (layout : KeyLayout) (d : Board) (from : World d.State) (w : Wiring) : Type 0 where
   pub works : WorksAlone layout d from
   pub taken : (n stamp : ℕ) → IsStart d TICK (image_of layout) from n stamp
-      → (ear_to w (4096 + stamp)).taken ≡ said_before layout works.meetings works.edges n
+      → taken_by counts w (4096 + stamp) ≡ said_before layout works.meetings works.edges n
   pub given : (n stamp : ℕ) → IsStart d TICK (image_of layout) from n stamp
       → (ear_to w (4096 + stamp)).given ≡ got_before works.meetings n
   pub right : (n : ℕ) → IsRight (works.meetings n)
@@ -68,8 +68,8 @@ AnyHostLaw =
     (s : IsStart (numbered pins tick) TICK (image_of layout) (power_on (numbered pins tick) m board) n stamp)
     → ShowsOwnKeys layout (numbered pins tick) s.state)
     → (w : Wiring) → IsWiringOf (numbered pins tick) (image_of layout) (power_on (numbered pins tick) m board) w
-    → AreWires w → IsRuleful w
-    → WorksAt layout (numbered pins tick) (power_on (numbered pins tick) m board) w
+    → AreWires w → IsRuleful w → (counts : Counting) → Ends counts w
+    → WorksAt counts layout (numbered pins tick) (power_on (numbered pins tick) m board) w
 
 -- and each such run has a latch in each cycle: so each has its wiring, whatever the host is
 abbrev pub LatchLaw : Type 0

@@ -1,4 +1,5 @@
--- What a host hears on the wires: it counts the falls of the clock, eleven a byte.
+-- What a host hears on the wires: it counts the falls of the clock, eleven a byte. It takes the byte at the eleventh, or at
+-- the tenth already.
 use Rattle.std.specs.Prelude.{ℕ, zero, suc, ◌==◌, Bool, true, false, not, ◌&&◌, List, [], ◌∷◌, ◌++◌, length}
 use Rattle.std.specs.Prelude.{if◌then◌else◌}
 use Rattle.std.specs.declared.option.Option.{Option}
@@ -53,3 +54,27 @@ fell w (suc c) = (w.seen c).clk && not (w.seen (suc c)).clk
 abbrev pub ear_to : Wiring → ℕ → Ear
 ear_to w zero = no_byte
 ear_to w (suc c) = heard_by (w.host c).clk (w.host c).dat (fell w c) (w.reads c) (w.wants c) (ear_to w c)
+
+-- the fall of a byte's clock at which a host counts it as taken
+pub data Counting : Type 0 where
+  Tenth : Counting
+  Eleventh : Counting
+
+-- one that counts the tenth has then nine bits and the parity. It reads no stop bit, and takes the byte as if that were right
+abbrev pub by_tenth : Mode → Bool → Bool → List (Option ℕ)
+by_tenth (Takes bits) true bit = if length bits == 9 then byte_of (bits ++ bit ∷ true ∷ []) ∷ [] else []
+by_tenth (Takes bits) false bit = []
+by_tenth (Gives byte falls) counted bit = []
+
+-- the bytes that it has taken after so many cycles, None for one that came wrong, in order. What it has under way is as
+-- above, and the eleventh fall ends the frame for it too
+abbrev pub taken_at_tenth : Wiring → ℕ → List (Option ℕ)
+taken_at_tenth w zero = []
+taken_at_tenth w (suc c) =
+    taken_at_tenth w c
+    ++ by_tenth (ear_to w c).mode ((w.host c).clk && (w.host c).dat && fell w c) (w.reads c)
+
+-- by the fall that it counts
+abbrev pub taken_by : Counting → Wiring → ℕ → List (Option ℕ)
+taken_by Tenth w c = taken_at_tenth w c
+taken_by Eleventh w c = (ear_to w c).taken

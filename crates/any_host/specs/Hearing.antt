@@ -4,8 +4,8 @@ use Rattle.std.specs.declared.option.Option.{Option}
 use Rattle.fw_link.specs.Latch.{Frame, NoFrame, SentFrame, CutFrame, ReceivedFrame}
 use Rattle.kbd_model.specs.declared.meeting.Meeting.{Meeting}
 use Rattle.kbd_model.specs.declared.meeting.Meeting.TheVariants.{Got, Idle, Inhibited, Sent, Cut}
-use Rattle.any_host.specs.Ears.{ear_to}
-use Rattle.any_host.specs.Rules.{IsRuleful}
+use Rattle.any_host.specs.Ears.{Counting, ear_to, taken_by}
+use Rattle.any_host.specs.Rules.{Ends, IsRuleful}
 use Rattle.any_host.specs.Ticks.{AreTicks}
 use Rattle.any_host.specs.Wires.{AreWires, Wiring}
 
@@ -43,12 +43,14 @@ IsRight (Got byte good) = good ≡ true
 
 -- at each tick start the host has taken the bytes of the sent frames, each once and right, in order; and the keyboard
 -- has got what the host sent, each byte once and right, in order. A byte whose frame was cut is none of them
-pub record HearsEach (w : Wiring) (starts : ℕ → ℕ) (frames : ℕ → Frame) (meetings : ℕ → Meeting) : Type 0 where
-  pub taken : (n : ℕ) → (ear_to w (starts n)).taken ≡ sent_before frames n
-  pub given : (n : ℕ) → (ear_to w (starts n)).given ≡ got_before meetings n
-  pub right : (n : ℕ) → IsRight (meetings n)
+pub record HearsEach (counts : Counting) (w : Wiring) (starts : ℕ → ℕ) (frames : ℕ → Frame) (meetings : ℕ → Meeting) : Type 0
+  where
+    pub taken : (n : ℕ) → taken_by counts w (starts n) ≡ sent_before frames n
+    pub given : (n : ℕ) → (ear_to w (starts n)).given ≡ got_before meetings n
+    pub right : (n : ℕ) → IsRight (meetings n)
 
 abbrev pub RulefulLaw : Type 0
 RulefulLaw =
-    (w : Wiring) → AreWires w → IsRuleful w → (starts : ℕ → ℕ) (frames : ℕ → Frame) (meetings : ℕ → Meeting)
-    → AreTicks w starts frames meetings → HearsEach w starts frames meetings
+    (counts : Counting) (w : Wiring) → AreWires w → IsRuleful w → Ends counts w
+    → (starts : ℕ → ℕ) (frames : ℕ → Frame) (meetings : ℕ → Meeting) → AreTicks w starts frames meetings
+    → HearsEach counts w starts frames meetings

@@ -1,19 +1,16 @@
 -- The rules of a host: what it must do on the two wires.
 use Rattle.std.specs.Prelude.{◌≡◌, ◌≤◌, ◌<◌, ℕ, suc, ◌+◌, Bool, true, false, List, length}
 use Rattle.fw_link.specs.Latch.{frame_bit}
-use Rattle.any_host.specs.Ears.{Gives, Takes, ear_to, fell}
+use Rattle.any_host.specs.Ears.{Counting, Eleventh, Gives, Takes, Tenth, ear_to, fell}
 use Rattle.any_host.specs.Wires.{Wiring}
 
--- a host keeps the rules, field by field: each pull of the clock lasts 24 cycles, 60 microseconds; none begins from 18
--- cycles, 45 microseconds, after the tenth fall of a byte that it takes up to the eleventh; there is none while it sends.
--- To request to send it pulls data once a pull of the clock has lasted 21 cycles, 52.5 microseconds, and holds it until
--- the first fall. From 14 cycles, 35 microseconds, after each fall on it puts the next bit. It reads each bit of the
+-- a host keeps the rules, field by field: each pull of the clock lasts 24 cycles, 60 microseconds; there is none while it
+-- sends. To request to send it pulls data once a pull of the clock has lasted 21 cycles, 52.5 microseconds, and holds it
+-- until the first fall. From 14 cycles, 35 microseconds, after each fall on it puts the next bit. It reads each bit of the
 -- keyboard in the 16 cycles, 40 microseconds, after the fall. What it sends are bytes
 pub record IsRuleful (w : Wiring) : Type 0 where
   pub long : (c : ℕ) → (w.host c).clk ≡ false
       → (a : ℕ) × (a ≤ c) × (c < a + 24) × ((i : ℕ) → a ≤ i → i < a + 24 → (w.host i).clk ≡ false)
-  pub ends : (c i : ℕ) (nine ten : List Bool) → (ear_to w c).mode ≡ Takes nine → length nine ≡ 9 → fell w c ≡ true → 18 ≤ i
-      → (ear_to w (c + i)).mode ≡ Takes ten → length ten ≡ 10 → (w.host (c + i)).clk ≡ true
   pub sends : (c byte falls : ℕ) → (ear_to w c).mode ≡ Gives byte falls → (w.host c).clk ≡ true
   pub asks : (c : ℕ) (bits : List Bool) → (ear_to w c).mode ≡ Takes bits → (w.host c).dat ≡ false
       → (i : ℕ) → i < c → c ≤ i + 21 → (w.host i).clk ≡ false
@@ -23,3 +20,14 @@ pub record IsRuleful (w : Wiring) : Type 0 where
   pub reads : (c : ℕ) (level : Bool) → fell w c ≡ true
       → ((i : ℕ) → i ≤ 16 → (w.seen (c + i)).dat ≡ level) → w.reads c ≡ level
   pub bytes : (c : ℕ) → w.wants c < 256
+
+-- and at the end of a byte, by the fall that it counts. One that counts the eleventh begins no pull of the clock from 18
+-- cycles, 45 microseconds, after the tenth fall up to the eleventh: the keyboard wouldn't see it. One that counts the tenth
+-- begins none in the 19 cycles, 47.5 microseconds, from that fall on: the keyboard might see it. Later it is free to
+abbrev pub Ends : Counting → Wiring → Type 0
+Ends Tenth w =
+    (c i : ℕ) (nine : List Bool) → (ear_to w c).mode ≡ Takes nine → length nine ≡ 9 → fell w c ≡ true
+    → (w.host c).clk ≡ true → i ≤ 18 → (w.host (c + i)).clk ≡ true
+Ends Eleventh w =
+    (c i : ℕ) (nine ten : List Bool) → (ear_to w c).mode ≡ Takes nine → length nine ≡ 9 → fell w c ≡ true → 18 ≤ i
+    → (ear_to w (c + i)).mode ≡ Takes ten → length ten ≡ 10 → (w.host (c + i)).clk ≡ true

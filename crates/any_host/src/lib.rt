@@ -22,19 +22,21 @@ pub fn at_any_host()
     ensures one_meeting { OneMeetingLaw }
 {}
 
-/// A host that keeps the rules of the link takes the bytes of the keyboard's sent frames, each once and right, in order; and
-/// the keyboard gets each byte that the host sends once and right, in order. A wire that both have let go is high two cycles
-/// (5 microseconds) later, and may show anything in between. This is of the wires alone, whatever drives them in such ticks.
-/// Nothing is done when it is called; the law is its contract.
+/// A host that keeps the rules of the link takes the bytes of the keyboard's sent frames, each once and right, in order,
+/// whether it counts a byte as taken at its eleventh fall of the clock or at the tenth; and the keyboard gets each byte that
+/// the host sends once and right, in order. A wire that both have let go is high two cycles (5 microseconds) later, and may
+/// show anything in between. This is of the wires alone, whatever drives them in such ticks. Nothing is done when it is
+/// called; the law is its contract.
 pub fn hears_each()
     ensures ruleful { RulefulLaw }
 {}
 
-/// For every layout, at any host that keeps the rules of the link, with wires that take up to two cycles (5 microseconds) to
-/// rise, whatever a part holds when it is switched on: if the columns show no key as down that the layout doesn't have, any
-/// number of keys at once, the bytes that the host takes are those that the model's keyboard offers in the ticks whose
-/// meeting is Sent, each once and right, in order; and the keyboard gets each byte that the host sends once and right, in
-/// order. Each such run has its wiring, whatever the host does. Nothing is done when it is called; the laws are its contract.
+/// For every layout, at any host that keeps the rules of the link and counts ten falls of the clock a byte or eleven, with
+/// wires that take up to two cycles (5 microseconds) to rise, whatever a part holds when it is switched on: if the columns
+/// show no key as down that the layout doesn't have, any number of keys at once, the bytes that the host takes are those that
+/// the model's keyboard offers in the ticks whose meeting is Sent, each once and right, in order; and the keyboard gets each
+/// byte that the host sends once and right, in order. Each such run has its wiring, whatever the host does. Nothing is done
+/// when it is called; the laws are its contract.
 pub fn works_at_any_host()
     ensures host { AnyHostLaw }
     ensures wirings { LatchLaw }

@@ -24,8 +24,8 @@ use Rattle.any_host.proofs.Ears.{held, never, went}
 use Rattle.ctl_obeys.proofs.InBytes.{requests_bytes}
 use Rattle.ctl_obeys.proofs.LinkSteps.{Turns, clock_after, from_busy, from_free, from_pulled, from_request, late, late_fell, late_held, late_still}
 use Rattle.ctl_obeys.specs.Controller.{ControllerLaw, asked_by, state_at, wiring_by}
-use Rattle.any_host.specs.Ears.{Ear, Gives, Mode, Takes, ear_to, fell, moved}
-use Rattle.any_host.specs.Rules.{IsRuleful}
+use Rattle.any_host.specs.Ears.{Ear, Eleventh, Gives, Mode, Takes, ear_to, fell, moved}
+use Rattle.any_host.specs.Rules.{Ends, IsRuleful}
 use Rattle.any_host.specs.Wires.{AreWires, IsWire, Wiring}
 
 and_false : (a : Bool) → (a && false) ≡ false
@@ -352,10 +352,10 @@ module _ (keyboard : ℕ → Lines) (happens : ℕ → Happening)
             λ i a u. before i (omega (arith, a, far)) (omega (arith, u, far)),
           )
 
-  abbrev Ends : Link Wire → Type 0
-  Ends l = (drive l).clk ≡ true
+  abbrev LetsClockGo : Link Wire → Type 0
+  LetsClockGo l = (drive l).clk ≡ true
 
-  ends : (c : ℕ) (bits : List Bool) (l : Link Wire) → Rel c l (M c) → M c ≡ Takes bits → length bits ≡ 10 → Ends l
+  ends : (c : ℕ) (bits : List Bool) (l : Link Wire) → Rel c l (M c) → M c ≡ Takes bits → length bits ≡ 10 → LetsClockGo l
   ends c bits Free r m ten = refl
   ends c bits (Hold s) r m ten = absurd (too_long c bits r.1 m ten)
     where
@@ -373,7 +373,7 @@ module _ (keyboard : ℕ → Lines) (happens : ℕ → Happening)
   ends c bits (Busy (Recv flip b)) r m ten = refl
   ends c bits (Busy (Send byte n)) r m ten = refl
 
-  sends : (c byte falls : ℕ) (l : Link Wire) → Rel c l (M c) → M c ≡ Gives byte falls → Ends l
+  sends : (c byte falls : ℕ) (l : Link Wire) → Rel c l (M c) → M c ≡ Gives byte falls → LetsClockGo l
   sends c byte falls Free r m = refl
   sends c byte falls (Hold s) r m = never (ap gives (sym m ∙ r.1.1))
   sends c byte falls (Ask b s) r m = never (ap gives (sym m ∙ r.1.1))
@@ -418,7 +418,6 @@ module _ (keyboard : ℕ → Lines) (happens : ℕ → Happening)
   pub keeps_rules : ((c : ℕ) → asked_by (L c) < 256) → IsRuleful W
   keeps_rules small = record {
     long = long;
-    ends = λ c i nine ten m l fall late after all. ends (c + i) ten (L (c + i)) (tied (c + i)) after all;
     sends = λ c byte falls m. sends c byte falls (L c) (tied c) m;
     asks = λ c bits m low. asks c bits (L c) (tied c) m low;
     holds = λ c byte m. holds c byte (L c) (tied c) m;
@@ -428,6 +427,13 @@ module _ (keyboard : ℕ → Lines) (happens : ℕ → Happening)
     bytes = small;
   }
 
+  -- it counts eleven falls
+  pub keeps_end : Ends Eleventh W
+  keeps_end c i nine ten m l fall far after all = ends (c + i) ten (L (c + i)) (tied (c + i)) after all
+
 pub controller_keeps : ControllerLaw
-controller_keeps keyboard happens lines high bytes =
-    (wires keyboard happens lines high, keeps_rules keyboard happens lines high (requests_bytes happens bytes))
+controller_keeps keyboard happens lines high bytes = (
+  wires keyboard happens lines high,
+  keeps_rules keyboard happens lines high (requests_bytes happens bytes),
+  keeps_end keyboard happens lines high,
+)

@@ -17,13 +17,14 @@ use Rattle.joint_run.specs.Starts.{at_tick}
 use Rattle.layout_reader.specs.Layouts.{IsKeyLayout, KeyLayout}
 use Rattle.mcs48_core.specs.Cpu.{Cpu}
 use Rattle.mcs48_ranges.specs.Sizes.{IsFine}
-use Rattle.ctl_obeys.proofs.CtlRules.{keeps_rules, wires}
+use Rattle.ctl_obeys.proofs.CtlRules.{keeps_end, keeps_rules, wires}
 use Rattle.any_host.proofs.Hosted.{works_at}
 use Rattle.any_host.proofs.Latch.{latch, of_run}
 use Rattle.any_host.proofs.OnRun.{up_to_first}
 use Rattle.any_host.proofs.Run.{works_alone}
 use Rattle.any_host.specs.AnyHost.{IsWiringOf, WorksAt, driven_to}
 use Rattle.any_host.specs.AnyPins.{ShowsOwnKeys, WorksAlone}
+use Rattle.any_host.specs.Ears.{Eleventh}
 use Rattle.ctl_obeys.proofs.InBytes.{requests_bytes}
 use Rattle.ctl_obeys.specs.AtController.{AreKeysOf, AtControllerLaw, at_power, controller_board}
 use Rattle.ctl_obeys.specs.Controller.{WriteBytes, state_at, wiring_by}
@@ -103,12 +104,13 @@ module _ (layout : KeyLayout) (fine : IsKeyLayout layout) (keys : ℕ → ℕ �
     data_wire = λ c. ap (λ (v : Lines). v.dat) (link_is c);
   }
 
-  pub joined_run : WorksAt layout d from (wiring_by keyboard happens)
+  pub joined_run : WorksAt Eleventh layout d from (wiring_by keyboard happens)
   joined_run =
       works_at layout d from alone (wiring_by keyboard happens) wiring refl
       (wires keyboard happens (λ c. sym (link_is c)) begins_high)
       (keeps_rules keyboard happens (λ c. sym (link_is c)) begins_high
       (requests_bytes happens write))
+      Eleventh (keeps_end keyboard happens (λ c. sym (link_is c)) begins_high)
 
 pub at_controller : AtControllerLaw
 at_controller layout fine keys low own_keys calls write m small = record {

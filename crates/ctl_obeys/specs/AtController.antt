@@ -14,6 +14,7 @@ use Rattle.layout_reader.specs.Layouts.{HasEntry, IsKeyLayout, KeyLayout}
 use Rattle.mcs48_core.specs.Cpu.{Cpu}
 use Rattle.mcs48_ranges.specs.Sizes.{IsFine}
 use Rattle.any_host.specs.AnyHost.{IsWiringOf, WorksAt}
+use Rattle.any_host.specs.Ears.{Eleventh}
 use Rattle.ctl_obeys.specs.Controller.{WriteBytes, state_at, wiring_by}
 
 -- a board with the controller: each wire is low if either side pulls it. The rows of a column are any, by the cycle and
@@ -55,7 +56,7 @@ pub record WorksThere (layout : KeyLayout) (keys : ℕ → ℕ → ℕ) (calls :
   pub called : (c : ℕ) → ((happens c).before ≡ (calls c).before) × ((happens c).calls ≡ (calls c).calls)
   pub lines : (c : ℕ) → (happens c).line ≡ joined (keyboard c) (drive (state_at happens c).port.link)
   pub wiring : IsWiringOf (controller_board keys calls) (image_of layout) (at_power keys calls m) (wiring_by keyboard happens)
-  pub works : WorksAt layout (controller_board keys calls) (at_power keys calls m) (wiring_by keyboard happens)
+  pub works : WorksAt Eleventh layout (controller_board keys calls) (at_power keys calls m) (wiring_by keyboard happens)
 
 -- for every layout, any rows that show no key as down that the layout doesn't have, any number at once, and any calls that
 -- write bytes, whatever a part held when it was switched on

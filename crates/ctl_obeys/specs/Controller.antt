@@ -8,7 +8,8 @@ use Rattle.ctl_wire.specs.Pulls.{Call, Flips, Happening, Reads, Writes, wire_cyc
 use Rattle.ctl_wire.specs.Wire.{drive}
 use Rattle.ctl_wire.specs.Wires.{joined}
 use Rattle.ctl_wire.specs.declared.wire.Wire.{Wire}
-use Rattle.any_host.specs.Rules.{IsRuleful}
+use Rattle.any_host.specs.Ears.{Eleventh}
+use Rattle.any_host.specs.Rules.{Ends, IsRuleful}
 use Rattle.any_host.specs.Wires.{AreWires, Wiring}
 
 -- the controller before a cycle, by what each cycle brings
@@ -58,3 +59,4 @@ ControllerLaw =
     → ((c : ℕ) → (happens c).line ≡ joined (keyboard c) (drive (state_at happens c).port.link))
     → (keyboard 0).clk ≡ true → WriteBytes happens
     → AreWires (wiring_by keyboard happens) × IsRuleful (wiring_by keyboard happens)
+    × Ends Eleventh (wiring_by keyboard happens)
