@@ -32,8 +32,8 @@ use Rattle.agreement.proofs.Compiled.{has_kernel, is_alike, are_bytes, same_keys
 use Rattle.agreement.proofs.Found.{found}
 use Rattle.agreement.proofs.Ran.{Ran}
 use Rattle.agreement.specs.Agreement.{switched_on}
-use Rattle.agreement.specs.AnyKeys.{longest_tick, tick_with, NeverStops}
-use Rattle.agreement.specs.Firmware.{HasNoPrefix, HasWholeCodes, least_of}
+use Rattle.agreement.specs.AnyKeys.{longest_tick, shortest_tick, tick_with, NeverStops}
+use Rattle.agreement.specs.Firmware.{HasNoPrefix, HasWholeCodes}
 
 module _ (d : Board) (bytes : List ℕ) (hk : HasKernel bytes) (alike : IsSilentAlike bytes) (bare : HasNoPrefix bytes)
     (small : All IsByte bytes) (low : (p1 p2 c : ℕ) (s : d.State) → (d.pins p1 p2 c s).bus < 256) where
@@ -47,7 +47,7 @@ module _ (d : Board) (bytes : List ℕ) (hk : HasKernel bytes) (alike : IsSilent
   abbrev pub Next : World d.State → World d.State → Type 0
   Next w v =
       GoesOn v × (v.cycle ≤ w.cycle + longest_tick) × (v.cycle ≤ w.cycle + tick_with (length (edges_now d w)))
-      × Passes d bytes w
+      × Passes d bytes w × (w.cycle + shortest_tick ≤ v.cycle)
 
   pub onward : (w : World d.State) → GoesOn w → Tick d TICK bytes w (Next w)
   onward w g =
@@ -68,7 +68,7 @@ module _ (d : Board) (bytes : List ℕ) (hk : HasKernel bytes) (alike : IsSilent
             let kept = tick_sound (image_keys bytes) bare f.meeting (edges_now d w) (layers_met bytes f.meeting w.cpu.ram)
             (shown_by w.cpu.ram) (edges_low (changed_now d w) (column_read d w)) refl sound in
             let before : 4096 ≤ w.cycle = g.past in
-            let later : w.cycle + least_of f.frame ≤ v.cycle = r.later in (
+            let later : w.cycle + shortest_tick ≤ v.cycle = r.later in (
               record {
                 start = r.started;
                 repeating = r.repeating;
@@ -78,6 +78,7 @@ module _ (d : Board) (bytes : List ℕ) (hk : HasKernel bytes) (alike : IsSilent
               r.soon,
               r.by_keys,
               r.passes,
+              r.later,
             ))
             t.rest;
       }
@@ -168,6 +169,14 @@ module _ (d : Board) (bytes : List ℕ) (hk : HasKernel bytes) (alike : IsSilent
         let short : (known (suc n)).w.cycle ≤ (known n).w.cycle + longest_tick = (one_on n).1 in
         omega (arith, here, there, short)
 
+    pub apart : (n stamp next : ℕ) → IsStart d TICK bytes from n stamp → IsStart d TICK bytes from (suc n) next
+        → stamp + shortest_tick ≤ next
+    apart n stamp next s e =
+        let here : (known n).w.cycle ≡ 4096 + stamp = cycle_is n stamp s in
+        let there : (known (suc n)).w.cycle ≡ 4096 + next = cycle_is (suc n) next e in
+        let long : (known n).w.cycle + shortest_tick ≤ (known (suc n)).w.cycle = (one_on n).4 in
+        omega (arith, here, there, long)
+
     pub by_keys : (n stamp next : ℕ) (s : IsStart d TICK bytes from n stamp) → IsStart d TICK bytes from (suc n) next
         → next ≤ stamp + tick_with (length (edges_now d s.state))
     by_keys n stamp next s e =
@@ -250,5 +259,6 @@ module _ (layout : KeyLayout) (edges : List Edge) (events : List HostEvent) (fin
             let at : first.end.cycle ≡ 4096 + stamp = begins joint bytes kernel alike prefix are low from first stamp s in
             omega (arith, at, most);
         soon = soon joint bytes kernel alike prefix are low from first;
+        apart = apart joint bytes kernel alike prefix are low from first;
         by_keys = by_keys joint bytes kernel alike prefix are low from first;
       }

@@ -6,12 +6,13 @@ use Rattle.board_terms.specs.declared.event.Edge.{Edge}
 use Rattle.board_terms.specs.declared.event.HostEvent.{HostEvent}
 use Rattle.fw_compile.specs.Image.{image_of}
 use Rattle.fw_kernel.specs.declared.labels.TheConstants.{TICK}
+use Rattle.fw_keys.proofs.Begun.{any_start}
 use Rattle.fw_keys.specs.Edges.{image_keys}
-use Rattle.fw_keys.specs.Frameless.{IsPressed, shown_by, layers_by}
+use Rattle.fw_keys.specs.Frameless.{IsPressed, IsStarted, shown_by, layers_by}
 use Rattle.fw_keys.specs.Healing.{is_fn_held}
 use Rattle.fw_logic.specs.Ticks.{IsOnTime}
 use Rattle.joint_run.specs.Joint.{Beside, joint_board, log_of}
-use Rattle.joint_run.specs.Run.{World}
+use Rattle.joint_run.specs.Run.{World, run_at}
 use Rattle.joint_run.specs.Starts.{Comes, IsStart}
 use Rattle.kbd_model.proofs.CodesAreWhole.{IsWhole}
 use Rattle.kbd_model.specs.Keyboard.{Keyboard, is_held}
@@ -20,10 +21,14 @@ use Rattle.kbd_model.specs.declared.state.Repeat.{Repeat}
 use Rattle.key_file.specs.Histories.{KeyHistory}
 use Rattle.layout_reader.specs.Layouts.{KeyLayout, IsKeyLayout}
 use Rattle.link_model.proofs.Edges.{same_by_place}
+use Rattle.mcs48_core.specs.Cpu.{Cpu}
+use Rattle.mcs48_ranges.specs.Sizes.{IsFine}
 use Rattle.link_model.specs.Expected.{Whole, whole_at}
 use Rattle.link_model.specs.Machine.{LayeredKeyboard, KeyboardMachine, keyboard}
 use Rattle.link_model.specs.TickEdges.{change_at, shown, shown_at}
 use Rattle.agreement.specs.Agreement.{IsPrompt, switched_on}
+use Rattle.agreement.specs.AnyCount.{AnyCountLaw, GoesByColumns, IsCalmFrom, changes_in}
+use Rattle.agreement.specs.AnyKeys.{tick_with}
 use Rattle.agreement.specs.AnyStart.{AreFor, AsShown, FromAnyStart, GoesOnAs, ShowsFew, ShowsKeyboard}
 use Rattle.agreement.specs.AnyStart.{model_at, model_from}
 use Rattle.agreement.specs.Bytes.{IsInBytes}
@@ -33,7 +38,7 @@ use Rattle.agreement.proofs.FromStart as chain
 use Rattle.agreement.proofs.Holding.{HasPlaces, none_held, holds_now}
 use Rattle.agreement.proofs.InTime.{on_time}
 use Rattle.agreement.proofs.Model.{at_first, columns_in}
-use Rattle.agreement.proofs.Tied.{Tied, fits, tied_first, tied_next}
+use Rattle.agreement.proofs.Tied.{Tied, TiedInTime, columns, fits, tied_first, tied_next}
 
 -- what repeats by the image's keys repeats by the layout's
 repeats_alike : (layout : KeyLayout) (l : Layers) (r : Option Repeat) → IsPressed (image_keys (image_of layout)) l r
@@ -52,10 +57,11 @@ module _ (layout : KeyLayout) (edges : List Edge) (events : List HostEvent) (fin
   abbrev R : World Beside → Whole LayeredKeyboard → Type 0
   R = Tied layout history fine ok
 
-  -- a state that is tied to a model shows its keyboard
-  shows : (n : ℕ) (w : World Beside) (m : Whole LayeredKeyboard) → IsOnTime n w → R w m → ShowsKeyboard layout n w
-  shows n w m time t = record {
-    started = t.ties.started;
+  -- a start in time that is tied to a model shows its keyboard
+  shows : (n : ℕ) (w : World Beside) (m : Whole LayeredKeyboard) → IsOnTime n w → IsStarted w.cpu → R w m
+      → ShowsKeyboard layout n w
+  shows n w m time started t = record {
+    started = started;
     time = time;
     repeating = t.ties.repeating;
     fn = ap (λ (l : Layers). l.fn_down) t.ties.layers ∙ t.ties.fn ∙ ap (is_fn_held (image_of layout)) (sym t.ties.keyboard);
@@ -73,7 +79,7 @@ module _ (layout : KeyLayout) (edges : List Edge) (events : List HostEvent) (fin
   tied_at : (n : ℕ) (w : World Beside) → ShowsKeyboard layout n w → R w (model_at w)
   tied_at n w s = record {
     ties = record {
-      started = s.started;
+      started = any_start w.cpu s.started;
       keyboard = refl;
       layers = refl;
       fn = s.fn;
@@ -94,88 +100,155 @@ module _ (layout : KeyLayout) (edges : List Edge) (events : List HostEvent) (fin
     column = s.column;
   }
 
-  module _ (from : World Beside) (n : ℕ) (begin : World Beside) (model : Whole LayeredKeyboard)
-      (run : Comes (joint_board edges events) TICK (image_of layout) from (λ e. e ≡ begin))
-      (time : IsOnTime n begin) (ties : R begin model)
-      (few : length (shown (kb.held model.keys) (columns_in edges begin.cycle)) ≤ 4)
-      (later : (k : ℕ) → ShowsFew edges (suc (n + k))) where
-    abbrev late : (w : World Beside) (m : Whole LayeredKeyboard) → R w m → (2 ≤ w.cpu.pre) × (w.cpu.pre ≤ 3)
-    late w m t = (t.ties.started.entered.early, t.ties.started.entered.late)
-
+  module _ (from begin : World Beside) (model : Whole LayeredKeyboard)
+      (run : Comes (joint_board edges events) TICK (image_of layout) from (λ e. e ≡ begin)) (past : 4096 ≤ begin.cycle)
+      (ties : R begin model) where
     abbrev starts : ℕ → ℕ
     starts =
-        chain.starts LayeredKeyboard (image_of layout) edges events kb R (λ k. HasPlaces k.keyboard)
-        (fits layout history fine ok) (holds_now layout) (tied_next layout history fine ok) late from n begin model run
-        time ties few later
+        chain.starts LayeredKeyboard (image_of layout) edges events kb R (tied_next layout history fine ok) from begin model
+        run past ties
 
     first_is : starts 0 ≡ begin.cycle - 4096
     first_is =
         ap (λ (w : World Beside). w.cycle - 4096)
-        (chain.begins_there LayeredKeyboard (image_of layout) edges events kb R (λ k. HasPlaces k.keyboard)
-        (fits layout history fine ok) (holds_now layout) (tied_next layout history fine ok) late from n begin model run
-        time ties few later)
+        (chain.begins_there LayeredKeyboard (image_of layout) edges events kb R (tied_next layout history fine ok) from begin
+        model run past ties)
 
-    law : (P : ℕ → World Beside → Whole LayeredKeyboard → Type 0)
-        → ((k : ℕ) (w : World Beside) (m : Whole LayeredKeyboard) → IsOnTime (n + k) w → R w m → P k w m) → (k stamp : ℕ)
+    never_stuck : (k : ℕ) → (w : World Beside) × (run_at (joint_board edges events) (image_of layout) from k ≡ Some w)
+    never_stuck =
+        chain.never_stuck LayeredKeyboard (image_of layout) edges events kb R (tied_next layout history fine ok) from begin
+        model run past ties
+
+    each : (k : ℕ) → IsStart (joint_board edges events) TICK (image_of layout) from k (starts k)
+    each =
+        chain.each LayeredKeyboard (image_of layout) edges events kb R (tied_next layout history fine ok) from begin model run
+        past ties
+
+    law : (P : World Beside → Whole LayeredKeyboard → Type 0)
+        → ((w : World Beside) (m : Whole LayeredKeyboard) → R w m → P w m) → (k stamp : ℕ)
         (s : IsStart (joint_board edges events) TICK (image_of layout) from k stamp)
-        → P k s.state (model_from kb edges events starts model k)
+        → P s.state (model_from kb edges events starts model k)
     law =
-        chain.at_starts LayeredKeyboard (image_of layout) edges events kb R (λ k. HasPlaces k.keyboard)
-        (fits layout history fine ok) (holds_now layout) (tied_next layout history fine ok) late from n begin model run
-        time ties few later
+        chain.at_starts LayeredKeyboard (image_of layout) edges events kb R (tied_next layout history fine ok) from begin
+        model run past ties
 
-    goes_as : (at : ℕ → Whole LayeredKeyboard) → model ≡ at (starts 0) → GoesOnAs layout edges events from n at
-    goes_as at is = record {
-      goes_on =
-          chain.never_stuck LayeredKeyboard (image_of layout) edges events kb R (λ k. HasPlaces k.keyboard)
-          (fits layout history fine ok) (holds_now layout) (tied_next layout history fine ok) late from n begin model run
-          time ties few later;
-      starts = starts;
-      each =
-          chain.each LayeredKeyboard (image_of layout) edges events kb R (λ k. HasPlaces k.keyboard)
-          (fits layout history fine ok) (holds_now layout) (tied_next layout history fine ok) late from n begin model run
-          time ties few later;
-      prompt =
-          chain.prompt LayeredKeyboard (image_of layout) edges events kb R (λ k. HasPlaces k.keyboard)
-          (fits layout history fine ok) (holds_now layout) (tied_next layout history fine ok) late from n begin model run
-          time ties few later;
-      shows = λ k stamp s. law (λ k w m. ShowsKeyboard layout (n + k) w) (λ k w m on t. shows (n + k) w m on t) k stamp s;
-      holds = λ k stamp s.
-          subst (λ m. Holds s.state (model_from kb edges events starts m k).keys) is
-          (law (λ k w m. Holds w m.keys) (λ k w m on t. (t.ties.keyboard, t.ties.layers)) k stamp s);
-      log = λ k stamp s.
-          subst (λ m. log_of s.state.board ≡ (model_from kb edges events starts m k).side.log) is
-          (law (λ k w m. log_of w.board ≡ m.side.log) (λ k w m on t. ap (λ (s : _). s.log) t.ties.side) k stamp s);
-    }
+    holds : (k stamp : ℕ) (s : IsStart (joint_board edges events) TICK (image_of layout) from k stamp)
+        → Holds s.state (model_from kb edges events starts model k).keys
+    holds = law (λ w m. Holds w m.keys) (λ w m t. (t.ties.keyboard, t.ties.layers))
+
+    says : (k stamp : ℕ) (s : IsStart (joint_board edges events) TICK (image_of layout) from k stamp)
+        → log_of s.state.board ≡ (model_from kb edges events starts model k).side.log
+    says = law (λ w m. log_of w.board ≡ m.side.log) (λ w m t. ap (λ (s : _). s.log) t.ties.side)
+
+    -- whatever the keys do
+    goes_by : (at : ℕ → Whole LayeredKeyboard) → model ≡ at (starts 0) → GoesByColumns layout edges events from at
+    goes_by at is =
+        record {
+          goes_on = never_stuck;
+          starts = starts;
+          each = each;
+          apart =
+              chain.apart LayeredKeyboard (image_of layout) edges events kb R (tied_next layout history fine ok) from begin
+              model run past ties (columns layout history fine ok);
+          soon = λ k.
+              subst (λ m. starts (suc k) ≤ starts k + tick_with (length (changes_in layout edges events starts m k))) is
+              (chain.soon LayeredKeyboard (image_of layout) edges events kb R (tied_next layout history fine ok) from begin
+              model run past ties (columns layout history fine ok) k);
+          steady = λ k calm.
+              chain.steady LayeredKeyboard (image_of layout) edges events kb R (tied_next layout history fine ok) from begin
+              model run past ties (columns layout history fine ok) k
+              (subst (λ m. IsCalmFrom layout edges events starts m k) (sym is) calm);
+          holds = λ k stamp s.
+              subst (λ m. Holds s.state (model_from kb edges events starts m k).keys) is (holds k stamp s);
+          log = λ k stamp s.
+              subst (λ m. log_of s.state.board ≡ (model_from kb edges events starts m k).side.log) is (says k stamp s);
+        }
+
+    -- if few keys change, in time
+    module _ (n : ℕ) (time : IsOnTime n begin) (started : IsStarted begin.cpu)
+        (few : length (shown (kb.held model.keys) (columns_in edges begin.cycle)) ≤ 4)
+        (later : (k : ℕ) → ShowsFew edges (suc (n + k))) where
+      goes_as : (at : ℕ → Whole LayeredKeyboard) → model ≡ at (starts 0) → GoesOnAs layout edges events from n at
+      goes_as at is = record {
+        goes_on = never_stuck;
+        starts = starts;
+        each = each;
+        prompt =
+            chain.prompt LayeredKeyboard (image_of layout) edges events kb R (tied_next layout history fine ok) from begin
+            model run past ties (columns layout history fine ok) (λ k. HasPlaces k.keyboard) (fits layout history fine ok)
+            (holds_now layout) n time started few later;
+        shows =
+            chain.in_time LayeredKeyboard (image_of layout) edges events kb R (tied_next layout history fine ok) from begin
+            model run past ties (columns layout history fine ok) (λ k. HasPlaces k.keyboard) (fits layout history fine ok)
+            (holds_now layout) n time started few later (λ k w m. ShowsKeyboard layout (n + k) w)
+            (λ k w m on s t. shows (n + k) w m on s t);
+        holds = λ k stamp s.
+            subst (λ m. Holds s.state (model_from kb edges events starts m k).keys) is (holds k stamp s);
+        log = λ k stamp s.
+            subst (λ m. log_of s.state.board ≡ (model_from kb edges events starts m k).side.log) is (says k stamp s);
+      }
 
 pub from_any_start : FromAnyStart
 from_any_start layout edges events n w fine ok s few later =
-    goes_as layout edges events fine ok w n w (model_at w) (record { steps = 0; end = w; run = refl; goal = refl }) s.time
-    (tied_at layout edges events fine ok n w s) few later (λ stamp. model_at w) refl
+    let early : 2 ≤ w.cpu.pre = s.started.entered.early in
+    let time : w.cycle + 2 ≡ 4096 + 2048 * n + w.cpu.pre = s.time in
+    goes_as layout edges events fine ok w w (model_at w) (record { steps = 0; end = w; run = refl; goal = refl })
+    (omega (arith, early, time)) (tied_at layout edges events fine ok n w s) n s.time s.started few later (λ stamp. model_at w)
+    refl
+
+-- the run from power-on
+module _ (layout : KeyLayout) (edges : List Edge) (events : List HostEvent) (fine : IsKeyLayout layout)
+    (ok : AreFor layout edges events) (m : Cpu) (small : IsFine m) where
+  abbrev c : Comes (joint_board edges events) TICK (image_of layout) (switched_on edges events m)
+      (λ e. IsOnTime 0 e × TiedInTime layout (record { edges = edges; host = events; end = 0 }) fine ok e
+      (at_first (keyboard layout) events e.cycle))
+  c = tied_first layout (record { edges = edges; host = events; end = 0 }) fine ok m small
+
+  abbrev begin : World Beside
+  begin = c.end
+
+  run : Comes (joint_board edges events) TICK (image_of layout) (switched_on edges events m) (λ e. e ≡ begin)
+  run = record { steps = c.steps; end = c.end; run = c.run; goal = refl }
+
+  past : 4096 ≤ begin.cycle
+  past =
+      let early : 2 ≤ begin.cpu.pre = c.goal.1.started.entered.early in
+      let time : begin.cycle + 2 ≡ 4096 + 2048 * 0 + begin.cpu.pre = c.goal.0 in
+      omega (arith, early, time)
+
+  abbrev at : ℕ → Whole LayeredKeyboard
+  at stamp = whole_at (keyboard layout) edges events (λ n. stamp) 0
+
+  abbrev model : Whole LayeredKeyboard
+  model = at_first (keyboard layout) events begin.cycle
+
+  model_is : model ≡ at (starts layout edges events fine ok (switched_on edges events m) begin model run past c.goal.1.tied 0)
+  model_is =
+      ap at (sym (first_is layout edges events fine ok (switched_on edges events m) begin model run past c.goal.1.tied))
+
+  from_power_on : GoesByColumns layout edges events (switched_on edges events m) at
+  from_power_on =
+      goes_by layout edges events fine ok (switched_on edges events m) begin model run past c.goal.1.tied at model_is
+
+  in_time : ((n : ℕ) → ShowsFew edges n) → GoesOnAs layout edges events (switched_on edges events m) 0 at
+  in_time few =
+      let kb : KeyboardMachine LayeredKeyboard = keyboard layout in
+      let t = on_time 0 begin c.goal.0 c.goal.1.started.entered.early c.goal.1.started.entered.late in
+      let cycle : begin.cycle ≡ 4096 + 2048 * 0 + (begin.cpu.pre - 2) = t.cycle in
+      let most : begin.cpu.pre - 2 ≤ 1 = t.most in
+      let prompt : IsPrompt 0 (begin.cycle - 4096) = record { least = omega arith; most = omega (arith, cycle, most) } in
+      let now : ℕ → Bool = columns_in edges begin.cycle in
+      let up : shown (kb.held kb.start) now ≡ shown (λ p. false) now =
+      same_by_place (shown_at (kb.held kb.start) now) (shown_at (λ p. false) now)
+      (λ p l. ap (λ b. change_at p b (now p)) (none_held layout p)) 96 (omega arith) in
+      let first : length (shown (kb.held kb.start) now) ≤ 4 =
+      subst (λ v. length v ≤ 4) (sym up) (few 0 (begin.cycle - 4096) prompt) in
+      goes_as layout edges events fine ok (switched_on edges events m) begin model run past c.goal.1.tied 0 c.goal.0
+      c.goal.1.started first
+      (λ k. let same : k ≡ 0 + k = omega arith in subst (λ j. ShowsFew edges (suc j)) same (few (suc k))) at model_is
 
 pub as_shown : AsShown
-as_shown layout edges events fine ok few m small =
-    let history : KeyHistory = record { edges = edges; host = events; end = 0 } in
-    let kb : KeyboardMachine LayeredKeyboard = keyboard layout in
-    let c = tied_first layout history fine ok m small in
-    let begin : World Beside = c.end in
-    let run : Comes (joint_board edges events) TICK (image_of layout) (switched_on edges events m) (λ e. e ≡ begin) =
-    record { steps = c.steps; end = c.end; run = c.run; goal = refl } in
-    let t = on_time 0 begin c.goal.0 c.goal.1.ties.started.entered.early c.goal.1.ties.started.entered.late in
-    let cycle : begin.cycle ≡ 4096 + 2048 * 0 + (begin.cpu.pre - 2) = t.cycle in
-    let most : begin.cpu.pre - 2 ≤ 1 = t.most in
-    let prompt : IsPrompt 0 (begin.cycle - 4096) = record { least = omega arith; most = omega (arith, cycle, most) } in
-    let now : ℕ → Bool = columns_in edges begin.cycle in
-    let up : shown (kb.held kb.start) now ≡ shown (λ p. false) now =
-    same_by_place (shown_at (kb.held kb.start) now) (shown_at (λ p. false) now)
-    (λ p l. ap (λ b. change_at p b (now p)) (none_held layout p)) 96 (omega arith) in
-    let first : length (shown (kb.held kb.start) now) ≤ 4 =
-    subst (λ v. length v ≤ 4) (sym up) (few 0 (begin.cycle - 4096) prompt) in
-    let at : ℕ → Whole LayeredKeyboard = λ stamp. whole_at kb edges events (λ n. stamp) 0 in
-    let model : Whole LayeredKeyboard = at_first kb events begin.cycle in
-    let later : (k : ℕ) → ShowsFew edges (suc (0 + k)) =
-    λ k. let same : k ≡ 0 + k = omega arith in subst (λ j. ShowsFew edges (suc j)) same (few (suc k)) in
-    let start = first_is layout edges events fine ok (switched_on edges events m) 0 begin model run c.goal.0 c.goal.1 first
-    later in
-    goes_as layout edges events fine ok (switched_on edges events m) 0 begin model run c.goal.0 c.goal.1 first
-    later at (ap at (sym start))
+as_shown layout edges events fine ok few m small = in_time layout edges events fine ok m small few
+
+pub any_count : AnyCountLaw
+any_count layout edges events fine ok m small = from_power_on layout edges events fine ok m small

@@ -41,13 +41,7 @@ use Rattle.agreement.proofs.Ran.{Ran}
 use Rattle.agreement.proofs.Lit.{shine, from_lights, from_head}
 use Rattle.agreement.proofs.Pressing.{pressed_at}
 use Rattle.agreement.specs.AnyKeys.{longest_tick, tick_with}
-use Rattle.agreement.specs.Firmware.{Finds, HasWholeCodes, Offers, IsOpen, clock_in, data_in, board_at, least_of}
-
-within_frame : (frame : Frame) → least_of frame ≤ 260 + frame_cycles frame
-within_frame NoFrame = omega arith
-within_frame (SentFrame byte) = omega arith
-within_frame (CutFrame byte look) = omega arith
-within_frame ReceivedFrame = omega arith
+use Rattle.agreement.specs.Firmware.{Finds, HasWholeCodes, Offers, IsOpen, clock_in, data_in, board_at}
 
 module _ (d : Board) (bytes : List ℕ) (hk : HasKernel bytes) (alike : IsSilentAlike bytes) (small : All IsByte bytes)
     (low : (p1 p2 c : ℕ) (s : d.State) → (d.pins p1 p2 c s).bus < 256) (w : World d.State)
@@ -108,20 +102,21 @@ module _ (d : Board) (bytes : List ℕ) (hk : HasKernel bytes) (alike : IsSilent
 
   -- the work of a tick fits: with four edges at most it is in time, and it is never longer than the longest
   record Fits (last_off : ℕ) : Type 0 where
-    few : length (edges_now d w) ≤ 4 → 3 + last_off ≤ 2040
+    few : length (edges_now d w) ≤ 4 → 3 + last_off ≤ 2000
     any : 7 + last_off ≤ longest_tick
     keys : 7 + last_off ≤ tick_with (length (edges_now d w))
 
   -- a tick that came to its end, by the board there
   came_so : (meeting : Meeting) (last_off : ℕ) (G : TimerState → Stage d.State → Type 0) (frame : Frame)
-      (u : World d.State) → Fits last_off → (c : Comes meeting last_off G u) → least_of frame ≤ 3 + c.from.off → c.from.cpu.p2 ≡ v → ((n : ℕ) → u.cycle ≡ start + n → u.board ≡ gone frame n)
+      (u : World d.State) → Fits last_off → (c : Comes meeting last_off G u) → c.from.cpu.p2 ≡ v → ((n : ℕ) → u.cycle ≡ start + n → u.board ≡ gone frame n)
       → So meeting frame u
-  came_so meeting last_off G frame u fits c far p2 is = record {
-    started = c.started;
-    later = (let at : u.cycle ≡ start + (3 + c.from.off) + c.n = c.cycle in omega (arith, at, far));
+  came_so meeting last_off G frame u fits c p2 is = record {
+    started = c.started (let any : 7 + last_off ≤ 8000 = fits.any in omega (arith, any));
+    later = c.long;
     soon = c.within longest_tick (omega arith) fits.any;
     by_keys = c.within (tick_with (length (edges_now d w))) (omega arith) fits.keys;
-    prompt = λ started few. c.prompt started (fits.few few);
+    prompt = λ started few. c.prompt started (let room : 3 + last_off ≤ 2000 = fits.few few in omega (arith, room));
+    settles = λ few. c.settles (fits.few few);
     keyboard = c.keyboard;
     layers = c.layers;
     repeating = c.repeating;
@@ -137,7 +132,7 @@ module _ (d : Board) (bytes : List ℕ) (hk : HasKernel bytes) (alike : IsSilent
   still_came : (meeting : Meeting) (last_off : ℕ) (u : World d.State) → Fits last_off → Comes meeting last_off head u
       → So meeting NoFrame u
   still_came meeting last_off u fits c =
-      came_so meeting last_off head NoFrame u fits c (let off : c.from.off ≡ 231 = c.facts.off in omega (arith, off)) c.facts.p2
+      came_so meeting last_off head NoFrame u fits c c.facts.p2
       (λ j e.
       let off : c.from.off ≡ 231 = c.facts.off in
       let at : u.cycle ≡ start + (3 + c.from.off) + c.n = c.cycle in
@@ -169,7 +164,7 @@ module _ (d : Board) (bytes : List ℕ) (hk : HasKernel bytes) (alike : IsSilent
   frame_came : (meeting : Meeting) (frame : Frame) (last_off : ℕ) (u : World d.State) → Fits last_off
       → Comes meeting last_off (framed frame) u → So meeting frame u
   frame_came meeting frame last_off u fits c =
-      came_so meeting last_off (framed frame) frame u fits c (let off : c.from.off ≡ 257 + frame_cycles frame = c.facts.off in let far : least_of frame ≤ 260 + frame_cycles frame = within_frame frame in omega (arith, off, far)) c.facts.p2
+      came_so meeting last_off (framed frame) frame u fits c c.facts.p2
       (λ j e.
       let n : ℕ = frame_cycles frame in
       let off : c.from.off ≡ 257 + n = c.facts.off in

@@ -11,6 +11,7 @@ use Rattle.byte_time.specs.declared.UnderWay.{UnderWay}
 use Rattle.ctl_link.specs.Link.{is_busy}
 use Rattle.fw_kernel.specs.Places.{HasKernel}
 use Rattle.fw_kernel.specs.declared.labels.TheConstants.{TICK}
+use Rattle.fw_keys.proofs.Begun.{IsAnyStart, any_start}
 use Rattle.fw_keys.proofs.Kept.{Sound}
 use Rattle.fw_keys.proofs.PowerOn.{first_started}
 use Rattle.fw_keys.specs.Edges.{image_keys}
@@ -71,12 +72,12 @@ record AtFirst (events : List HostEvent) (b : Beside) (late : ℕ) : Type 0 wher
   pub shown : b.shown ≡ 0
 
 -- a start is a tick start of the run
-pub is_tick : (edges : List Edge) (events : List HostEvent) (e : World Beside) → IsStarted e.cpu
+pub is_tick : (edges : List Edge) (events : List HostEvent) (e : World Beside) → IsAnyStart e.cpu
     → at_tick (joint_board edges events) TICK e ≡ true
 is_tick edges events e started =
     at_tick_is edges events e
-    ∙ ap (λ p. (p % 2048 == TICK) && not (not e.cpu.svc && e.cpu.tim_on && e.cpu.rq)) started.entered.pc
-    ∙ ap (λ s. not (not s && e.cpu.tim_on && e.cpu.rq)) started.entered.serves
+    ∙ ap (λ p. (p % 2048 == TICK) && not (not e.cpu.svc && e.cpu.tim_on && e.cpu.rq)) started.served.pc
+    ∙ ap (λ s. not (not s && e.cpu.tim_on && e.cpu.rq)) started.served.serves
 
 -- up to the first start the latch is as reset leaves it
 pub begins_let_go : (edges : List Edge) (events : List HostEvent) (bytes : List ℕ) → HasKernel bytes → All IsByte bytes
@@ -93,7 +94,7 @@ begins_let_go edges events bytes hk small m fine =
     drives_by joint latch TICK bytes (switched_on edges events m) (λ e. IsFirst W bytes b e × FromPowerOn bytes e.cpu)
     (λ e. at_tick joint TICK e ≡ true)
     (λ e h. (
-      is_tick edges events (bare e) h.1.started,
+      is_tick edges events (bare e) (any_start e.cpu h.1.started),
       ap (λ (v : World W.State). v.board.good) h.0.is
           ∙ ticks_stay_good joint latch (4096 + h.0.late) 0 255 b (λ c a u. refl) refl,
     ))
@@ -133,15 +134,17 @@ module _ (edges : List Edge) (events : List HostEvent) (noise : AreFlips events)
   -- the first start is on time, and tied to the model there
   tied : (bytes : List ℕ) (layout : KeyLayout) (w : World Beside) → slice_index bytes 864 ≡ layout.rate
       → IsFirst (joint_board edges events) bytes beside_at_start w → FromPowerOn bytes w.cpu
-      → IsOnTime 0 w × Ties bytes (silent_keys layout) w (at_first (keyboard layout) events w.cycle) × (w.cpu.p1 ≡ 255)
+      → IsOnTime 0 w × IsStarted w.cpu × Ties bytes (silent_keys layout) w (at_first (keyboard layout) events w.cycle)
+      × (w.cpu.p1 ≡ 255)
   tied bytes layout w rate i f =
       let cycle : w.cycle ≡ 4096 + i.late = ap (λ (v : World Beside). v.cycle) i.is in
       let pre : w.cpu.pre ≡ i.late + 2 = ap (λ (v : World Beside). v.cpu.pre) i.is in
       let past : i.late ≡ w.cycle - 4096 = omega (arith, cycle) in
       let b = at_first_start i.late w.board (ap (λ (v : World Beside). v.board) i.is) in (
         omega (arith, cycle, pre),
+        f.started,
         record {
-          started = f.started;
+          started = any_start w.cpu f.started;
           keyboard = f.keyboard ∙ ap at_power_on rate;
           layers = f.layers;
           fn = sym (none_held layout (slice_index bytes fn_place_at));
@@ -162,12 +165,12 @@ module _ (edges : List Edge) (events : List HostEvent) (noise : AreFlips events)
     -- the run comes from power-on to a first start that is tied to the model's; no column is selected
     pub begins : (m : Cpu) → IsFine m → (layout : KeyLayout) → slice_index bytes 864 ≡ layout.rate
         → Comes (joint_board edges events) TICK bytes (switched_on edges events m)
-        (λ e. IsOnTime 0 e × Ties bytes (silent_keys layout) e (at_first (keyboard layout) events e.cycle)
+        (λ e. IsOnTime 0 e × IsStarted e.cpu × Ties bytes (silent_keys layout) e (at_first (keyboard layout) events e.cycle)
         × (e.cpu.p1 ≡ 255))
     begins m fine layout rate =
         comes_as (joint_board edges events) TICK bytes
         (λ w. IsFirst (joint_board edges events) bytes beside_at_start w × FromPowerOn bytes w.cpu)
-        (λ e. IsOnTime 0 e × Ties bytes (silent_keys layout) e (at_first (keyboard layout) events e.cycle)
+        (λ e. IsOnTime 0 e × IsStarted e.cpu × Ties bytes (silent_keys layout) e (at_first (keyboard layout) events e.cycle)
         × (e.cpu.p1 ≡ 255)) (switched_on edges events m)
         (λ w g. tied bytes layout w rate g.0 g.1)
         (first_started (joint_board edges events) bytes hk small low m fine beside_at_start)

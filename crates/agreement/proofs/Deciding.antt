@@ -1,7 +1,7 @@
 -- Which way a tick goes: by whether the power-on test runs, the link at the look at the clock, what is offered, the link
 -- at the first edge, and the looks of the frame.
 use Rattle.std.proofs.Common.{◌≡◌, ◌≤◌, ◌<◌, ◌⊎◌, inl, inr, ℕ, suc, ◌+◌, ◌-◌, ◌*◌, ◌==◌, nat_lt, List, All, Bool, true, false, Some}
-use Rattle.std.proofs.Common.{None, length, slice_index, refl, ap, sym, ◌∙◌, subst, arith}
+use Rattle.std.proofs.Common.{None, slice_index, refl, ap, sym, ◌∙◌, subst, arith}
 use Rattle.std.specs.declared.option.Option.{Option}
 use Rattle.std.proofs.lemmas.Bool.Decides.{nat_tests}
 use Rattle.board_terms.specs.Flips.{AreFlips}
@@ -57,9 +57,9 @@ use Rattle.agreement.proofs.Compiled.{silent_keys}
 use Rattle.agreement.proofs.Placed.{IsOfLayout}
 use Rattle.agreement.proofs.FnFollows.{IsFnPlaceOf}
 use Rattle.agreement.proofs.Going.{Went, goes, flip_at_look}
-use Rattle.agreement.proofs.Happened.{Happened, at_look}
-use Rattle.fw_logic.specs.Ticks.{IsOnTime}
+use Rattle.agreement.proofs.Happened.{at_look}
 use Rattle.agreement.proofs.Model.{columns_in}
+use Rattle.agreement.proofs.Ran.{Ran}
 use Rattle.agreement.proofs.Sides.{looks_same}
 use Rattle.agreement.proofs.Ties.{Ties}
 use Rattle.agreement.proofs.Ways.{testing, idle, inhibited, sends, is_cut, gets}
@@ -72,11 +72,10 @@ module _ (edges : List Edge) (events : List HostEvent) (d : Board) (to : d.State
     (layout : KeyLayout) (same : SameKeys (image_keys bytes) (silent_keys layout))
     (codes : NoPrefix (silent_keys layout))
     (own : IsFnPlaceOf layout (slice_index bytes fn_place_at))
-    (n : ℕ) (w : World d.State) (m : Whole LayeredKeyboard) (time : IsOnTime n (under to w))
+    (w : World d.State) (m : Whole LayeredKeyboard)
     (tie : Ties bytes (silent_keys layout) (under to w) m)
     (columns : edges_now d w ≡ shown (is_held m.keys.keyboard) (columns_in edges w.cycle))
     (of_layout : All (IsOfLayout layout) (shown (is_held m.keys.keyboard) (columns_in edges w.cycle)))
-    (few : length (edges_now d w) ≤ 4)
     (released : IsReleased (latch_now d w))
     (lamps : m.keys.keyboard.lights ≡ lights_of (latch_now d w))
     (noise : AreFlips events) (offered : (byte : ℕ) → offer m.keys.keyboard ≡ Some byte → byte < 256)
@@ -92,7 +91,7 @@ module _ (edges : List Edge) (events : List HostEvent) (d : Board) (to : d.State
 
   abbrev Goes : Frame → Type 0
   Goes frame = Tick d TICK bytes w
-      (Went edges events d to over bytes layout same codes own n w m time tie columns of_layout released lamps noise frame)
+      (Went edges events d to over bytes layout same codes own w m tie columns of_layout released lamps noise frame)
 
   abbrev tests : Bool
   tests = m.keys.keyboard.test == 0
@@ -113,9 +112,9 @@ module _ (edges : List Edge) (events : List HostEvent) (d : Board) (to : d.State
   -- ticks in which no byte passes, whatever the wires do
   still : (meeting : Meeting) → ((later : Side UnderWay) → meeting_in tests (offer m.keys.keyboard) now later ≡ meeting)
       → IsNone meeting → IsFrameOf (offer m.keys.keyboard) meeting NoFrame
-      → Tick d TICK bytes w (Happened d bytes (met_as meeting) NoFrame w) → Goes NoFrame
+      → Tick d TICK bytes w (Ran d bytes (met_as meeting) NoFrame w) → Goes NoFrame
   still meeting is none fits t =
-      goes edges events d to over bytes layout same codes own n w m time tie columns of_layout released lamps noise
+      goes edges events d to over bytes layout same codes own w m tie columns of_layout released lamps noise
       (met_as meeting) meeting NoFrame fits refl (λ byte e. elim (subst IsNone e none) [ ])
       (λ rest more k all long.
       still_ticked events v w.cycle released rest k look all tests (offer m.keys.keyboard) meeting idle_look
@@ -165,16 +164,16 @@ module _ (edges : List Edge) (events : List HostEvent) (d : Board) (to : d.State
           subst (λ (k : Keyboard). IsWhole k.queue) (sym tie.keyboard) tie.sound.codes in
           let flip : IsFlip (at_meeting events whole w.cycle look).side.port.flip =
           flips_stay events whole 32 (256 + w.cycle) look noise
-          (flip_at_look edges events d to over bytes layout same codes own n w m time tie columns of_layout released lamps noise) in
+          (flip_at_look edges events d to over bytes layout same codes own w m tie columns of_layout released lamps noise) in
           let there : Free_there = is_there (leaves 46 (inr (inr (0, omega arith, inl refl)))) in
-          goes edges events d to over bytes layout same codes own n w m time tie columns of_layout released lamps noise kbd.Sent
+          goes edges events d to over bytes layout same codes own w m tie columns of_layout released lamps noise kbd.Sent
           (met.Sent byte) (SentFrame byte) refl refl (λ b e. absurd cc)
           (λ rest more k all long.
           at_model whole rest k (Some byte) (met.Sent byte) ended some
           (sent_ticked events v w.cycle released rest k look all byte more (offered byte some) long free there flip
           (λ i l. sym (as_cycle events whole w.cycle look (46 + 32 * i) (32 * i + 18) (omega arith))
           ∙ leaves (46 + 32 * i) (inr (inr (i, l, inl refl))))))
-          (sends edges events d to over bytes hk alike small low w tie.started tie.repeating few tie.lit byte (shown_tests ∙ ended)
+          (sends edges events d to over bytes hk alike small low w tie.started tie.repeating tie.lit byte (shown_tests ∙ ended)
           (shown_offers ∙ some) codes_whole free leaves)
 
       -- what is said of the whole frame's lines holds of those of the frame that is cut
@@ -238,11 +237,11 @@ module _ (edges : List Edge) (events : List HostEvent) (d : Board) (to : d.State
         -- it pulls the clock at a look, the first such: the frame is cut there
         cut : Goes (CutFrame byte first.look)
         cut =
-            goes edges events d to over bytes layout same codes own n w m time tie columns of_layout released lamps noise kbd.Cut met.Cut
+            goes edges events d to over bytes layout same codes own w m tie columns of_layout released lamps noise kbd.Cut met.Cut
             (CutFrame byte first.look)
             (some, first.is) refl (λ b e. absurd cc)
             (λ rest more k all long. at_model here rest k (Some byte) met.Cut ended some (ticked rest k all))
-            (is_cut edges events d to over bytes hk alike small low w tie.started tie.repeating few tie.lit byte first.look first.is
+            (is_cut edges events d to over bytes hk alike small low w tie.started tie.repeating tie.lit byte first.look first.is
             (shown_tests ∙ ended) (shown_offers ∙ some) free first.before first.low)
 
       offers : Goes (frame_offered byte (first_low lets))
@@ -264,7 +263,7 @@ module _ (edges : List Edge) (events : List HostEvent) (d : Board) (to : d.State
       ap (λ t. meeting_by t (offer m.keys.keyboard) now.port.link later.port.link) ended
       ∙ ap (λ o. meeting_of now.port.link o later.port.link) none
       ∙ ap (λ l. meeting_of (link_by without_bits l) None later.port.link) free) tt refl
-      (idle edges events d to over bytes hk alike small low w tie.started tie.repeating few tie.lit (shown_tests ∙ ended) free
+      (idle edges events d to over bytes hk alike small low w tie.started tie.repeating tie.lit (shown_tests ∙ ended) free
       (shown_offers ∙ none))
   when_free (Some byte) ended some free = offers byte ended some free
 
@@ -276,18 +275,18 @@ module _ (edges : List Edge) (events : List HostEvent) (d : Board) (to : d.State
       still met.Inhibited
       (λ later. ap (λ t. meeting_by t (offer m.keys.keyboard) now.port.link later.port.link) ended
       ∙ is (offer m.keys.keyboard) later.port.link) tt refl
-      (inhibited edges events d to over bytes hk alike small low w tie.started tie.repeating few tie.lit (shown_tests ∙ ended) pulls)
+      (inhibited edges events d to over bytes hk alike small low w tie.started tie.repeating tie.lit (shown_tests ∙ ended) pulls)
 
   -- the controller requests to send
   when_asked : (byte : ℕ) → tests ≡ true → look.side.port.link ≡ Request byte → Goes ReceivedFrame
   when_asked byte ended request =
-      goes edges events d to over bytes layout same codes own n w m time tie columns of_layout released lamps noise
+      goes edges events d to over bytes layout same codes own w m tie columns of_layout released lamps noise
       (kbd.Got byte true) (met.Got byte) ReceivedFrame refl refl
       (λ b e. let same : byte ≡ b = cc in request ∙ ap (λ n. Request n) same)
       (λ rest more k all long.
       at_model (over_lines ReceivedFrame) rest k (offer m.keys.keyboard) (met.Got byte) ended refl
       (got_ticked events v w.cycle released rest k look all byte more (offer m.keys.keyboard) long request))
-      (gets edges events d to over bytes hk alike small low w tie.started tie.repeating few tie.lit byte (asked byte request)
+      (gets edges events d to over bytes hk alike small low w tie.started tie.repeating tie.lit byte (asked byte request)
       (shown_tests ∙ ended) request)
 
   when_ended : (l : Link Wire) → look.side.port.link ≡ l → tests ≡ true
@@ -304,7 +303,7 @@ module _ (edges : List Edge) (events : List HostEvent) (d : Board) (to : d.State
       → Goes (frame_tested (frame_ended (frame_free each (offer m.keys.keyboard)) look.side.port.link) t)
   by_test false e =
       still met.Idle (λ later. ap (λ t. meeting_by t (offer m.keys.keyboard) now.port.link later.port.link) e) tt refl
-      (testing edges events d to over bytes hk alike small low w tie.started tie.repeating few tie.lit (shown_tests ∙ e))
+      (testing edges events d to over bytes hk alike small low w tie.started tie.repeating tie.lit (shown_tests ∙ e))
   by_test true e = when_ended look.side.port.link refl e
 
   -- every tick goes one way, and what ties the joint run to the model goes on

@@ -1,11 +1,12 @@
 -- From one law a tick to the run from a start on: each of its tick starts has beside it the model that goes by what the
--- columns show.
+-- columns show, however many keys change. If few do, the starts keep time.
 use Rattle.std.proofs.Common.{◌≡◌, ◌≤◌, ◌<◌, ℕ, suc, zero, ◌+◌, ◌-◌, ◌*◌, Bool, true, List, length, Some}
 use Rattle.std.proofs.Common.{refl, ap, sym, ◌∙◌, subst, arith}
 use Rattle.board_terms.specs.declared.event.Edge.{Edge}
 use Rattle.board_terms.specs.declared.event.HostEvent.{HostEvent}
 use Rattle.byte_time.specs.declared.meeting.Meeting.{Meeting}
 use Rattle.fw_kernel.specs.declared.labels.TheConstants.{TICK}
+use Rattle.fw_keys.specs.Frameless.{IsStarted, edges_now}
 use Rattle.fw_logic.proofs.Numbers as numbers
 use Rattle.fw_logic.proofs.Numbers.{Reached}
 use Rattle.fw_logic.specs.Ticks.{IsOnTime}
@@ -20,6 +21,7 @@ use Rattle.agreement.specs.Agreement.{IsPrompt}
 use Rattle.agreement.specs.AnyStart.{ShowsFew, model_from}
 use Rattle.agreement.proofs.InTime.{InTime, on_time}
 use Rattle.agreement.proofs.Model.{by_columns, columns_in}
+use Rattle.agreement.proofs.Ran.{Lasted}
 
 -- a start that is in time is prompt
 as_prompt : (n : ℕ) (w : World Beside) → InTime n w → IsPrompt n (w.cycle - 4096)
@@ -28,86 +30,52 @@ as_prompt n w t =
     let most : w.cpu.pre - 2 ≤ 1 = t.most in
     record { least = omega (arith, cycle); most = omega (arith, cycle, most) }
 
--- A tick's law, with what it leaves open, as for the run from power-on; and the start from which it is used
+-- A tick's law, with what it leaves open; and the start from which it is used
 module _ (S : Type 0) (bytes : List ℕ) (edges : List Edge) (events : List HostEvent) (kb : KeyboardMachine S)
-    (R : World Beside → Whole S → Type 0) (Fit : S → Type 0)
-    (fits : (w : World Beside) (m : Whole S) → R w m → Fit m.keys)
-    (so : (meeting : Meeting) (k : S) (now : ℕ → Bool) (p : ℕ) → Fit k → p < 96
-    → kb.held (kb.ticked meeting (shown (kb.held k) now) k) p ≡ now p)
-    (goes_on : (n : ℕ) (w : World Beside) (m : Whole S) → IsOnTime n w → R w m
-    → length (shown (kb.held m.keys) (columns_in edges w.cycle)) ≤ 4
-    → Tick (joint_board edges events) TICK bytes w
-    (λ e. IsOnTime (suc n) e × R e (by_columns kb edges events w.cycle e.cycle m)))
-    (late : (w : World Beside) (m : Whole S) → R w m → (2 ≤ w.cpu.pre) × (w.cpu.pre ≤ 3))
-    (from : World Beside) (n : ℕ) (begin : World Beside) (model : Whole S)
-    (comes : Comes (joint_board edges events) TICK bytes from (λ e. e ≡ begin))
-    (begins_on : IsOnTime n begin) (begins_tied : R begin model)
-    (begins_few : length (shown (kb.held model.keys) (columns_in edges begin.cycle)) ≤ 4)
-    (later : (k : ℕ) → ShowsFew edges (suc (n + k))) where
+    (R : World Beside → Whole S → Type 0)
+    (goes_on : (w : World Beside) (m : Whole S) → 4096 ≤ w.cycle → R w m → Tick (joint_board edges events) TICK bytes w
+    (λ e. R e (by_columns kb edges events w.cycle e.cycle m) × Lasted (joint_board edges events) w e))
+    (from begin : World Beside) (model : Whole S) (comes : Comes (joint_board edges events) TICK bytes from (λ e. e ≡ begin))
+    (begins_past : 4096 ≤ begin.cycle) (begins_tied : R begin model) where
   abbrev d : Board
   d = joint_board edges events
 
-  -- a start with the model's state there; its tick shows few
-  pub record Station (k : ℕ) : Type 0 where
+  -- a start with the model's state there
+  pub record Station : Type 0 where
     pub w : World Beside
     pub m : Whole S
-    pub time : IsOnTime (n + k) w
+    pub past : 4096 ≤ w.cycle
     pub ties : R w m
-    pub few : length (shown (kb.held m.keys) (columns_in edges w.cycle)) ≤ 4
-
-  punctual : (k : ℕ) (s : Station k) → InTime (n + k) s.w
-  punctual k s = on_time (n + k) s.w s.time (late s.w s.m s.ties).0 (late s.w s.m s.ties).1
 
   -- the run reaches the next start
-  onward : (k : ℕ) (s : Station k) → Tick d TICK bytes s.w
-      (λ e. IsOnTime (suc (n + k)) e × R e (by_columns kb edges events s.w.cycle e.cycle s.m))
-  onward k s = goes_on (n + k) s.w s.m s.time s.ties s.few
+  onward : (s : Station) → Tick d TICK bytes s.w
+      (λ e. R e (by_columns kb edges events s.w.cycle e.cycle s.m) × Lasted d s.w e)
+  onward s = goes_on s.w s.m s.past s.ties
 
-  first : Station 0
-  first =
-      let t : begin.cycle + 2 ≡ 4096 + 2048 * n + begin.cpu.pre = begins_on in
-      record { w = begin; m = model; time = omega (arith, t); ties = begins_tied; few = begins_few }
+  first : Station
+  first = record { w = begin; m = model; past = begins_past; ties = begins_tied }
 
-  -- a key that is held is one that the tick before showed as down
-  shows_few : (k : ℕ) (s : Station k) (e : World Beside) → IsOnTime (suc (n + k)) e → (m : Whole S) → R e m
-      → ((p : ℕ) → p < 96 → kb.held m.keys p ≡ columns_in edges s.w.cycle p)
-      → length (shown (kb.held m.keys) (columns_in edges e.cycle)) ≤ 4
-  shows_few k s e at m tie held =
-      let now : ℕ → Bool = columns_in edges e.cycle in
-      let before : ℕ → Bool = columns_in edges s.w.cycle in
-      let same : shown (kb.held m.keys) now ≡ shown before now =
-      same_by_place (shown_at (kb.held m.keys) now) (shown_at before now)
-      (λ p l. ap (λ b. change_at p b (now p)) (held p l)) 96 (omega arith) in
-      subst (λ (v : List (ℕ × Bool)). length v ≤ 4) (sym same)
-      (later k (s.w.cycle - 4096) (e.cycle - 4096) (as_prompt (n + k) s.w (punctual k s))
-      (as_prompt (suc (n + k)) e (on_time (suc (n + k)) e at (late e m tie).0 (late e m tie).1)))
-
-  next : (k : ℕ) → Station k → Station (suc k)
-  next k s =
-      let c = (onward k s).rest in
-      let t : c.end.cycle + 2 ≡ 4096 + 2048 * suc (n + k) + c.end.cpu.pre = c.goal.0 in
+  next : Station → Station
+  next s =
+      let c = (onward s).rest in
+      let long : s.w.cycle + 2016 ≤ c.end.cycle = c.goal.1.later in
+      let past : 4096 ≤ s.w.cycle = s.past in
       record {
         w = c.end;
         m = by_columns kb edges events s.w.cycle c.end.cycle s.m;
-        time = omega (arith, t);
-        ties = c.goal.1;
-        few = shows_few k s c.end c.goal.0 (by_columns kb edges events s.w.cycle c.end.cycle s.m) c.goal.1
-            (λ p l. so (meeting_from kb events s.w.cycle s.m) s.m.keys (columns_in edges s.w.cycle) p
-            (fits s.w s.m s.ties) l);
+        past = omega (arith, past, long);
+        ties = c.goal.0;
       }
 
-  pub station : (k : ℕ) → Station k
+  pub station : ℕ → Station
   station zero = first
-  station (suc k) = next k (station k)
+  station (suc k) = next (station k)
 
   abbrev pub starts : ℕ → ℕ
   starts k = (station k).w.cycle - 4096
 
   cycle_is : (k : ℕ) → (station k).w.cycle ≡ 4096 + starts k
-  cycle_is k = (punctual k (station k)).stamp
-
-  pub prompt : (k : ℕ) → IsPrompt (n + k) (starts k)
-  prompt k = as_prompt (n + k) (station k).w (punctual k (station k))
+  cycle_is k = let past : 4096 ≤ (station k).w.cycle = (station k).past in omega (arith, past)
 
   -- the model's state is what the model says from the first start on
   model_first : (station 0).m ≡ model
@@ -123,7 +91,7 @@ module _ (S : Type 0) (bytes : List ℕ) (edges : List Edge) (events : List Host
   unfolding station next
   model_next k = refl
 
-  model_is : (k : ℕ) → (station k).m ≡ model_from kb edges events starts model k
+  pub model_is : (k : ℕ) → (station k).m ≡ model_from kb edges events starts model k
   model_is zero = model_first
   model_is (suc k) =
       let w : World Beside = (station k).w in
@@ -142,10 +110,15 @@ module _ (S : Type 0) (bytes : List ℕ) (edges : List Edge) (events : List Host
   run_next : (k : ℕ) → Tick d TICK bytes (station k).w (λ e. e ≡ (station (suc k)).w)
   unfolding station next
   run_next k =
-      let t = onward k (station k) in
+      let t = onward (station k) in
       let rest : Comes d TICK bytes t.first (λ e. e ≡ t.rest.end) =
       record { steps = t.rest.steps; end = t.rest.end; run = t.rest.run; goal = refl } in
       record { at = t.at; first = t.first; step = t.step; rest = rest }
+
+  -- by a tick that lasts as it should
+  pub lasted : (k : ℕ) → Lasted d (station k).w (station (suc k)).w
+  unfolding station next
+  lasted k = (onward (station k)).rest.goal.1
 
   nth : (k : ℕ) → IsNth d TICK bytes from k (station k).w
   nth zero = record { steps = comes.steps; end = comes.end; run = comes.run; goal = comes.goal ∙ sym begins_there }
@@ -155,7 +128,7 @@ module _ (S : Type 0) (bytes : List ℕ) (edges : List Edge) (events : List Host
   reached k = numbers.nth_reached d TICK bytes from k (station k).w (nth k)
 
   here : (k : ℕ) → at_tick d TICK (station k).w ≡ true
-  here k = (onward k (station k)).at
+  here k = (onward (station k)).at
 
   pub never_stuck : (k : ℕ) → (w : World Beside) × (run_at d bytes from k ≡ Some w)
   never_stuck = numbers.goes_on d TICK bytes from (λ k. ((station k).w, reached k))
@@ -173,14 +146,156 @@ module _ (S : Type 0) (bytes : List ℕ) (edges : List Edge) (events : List Host
       }
 
   -- what holds of each start, with the model there
-  pub at_starts : (P : ℕ → World Beside → Whole S → Type 0)
-      → ((k : ℕ) (w : World Beside) (m : Whole S) → IsOnTime (n + k) w → R w m → P k w m)
+  pub at_each : (P : ℕ → World Beside → Whole S → Type 0) → ((k : ℕ) → P k (station k).w (station k).m)
       → (k stamp : ℕ) (s : IsStart d TICK bytes from k stamp) → P k s.state (model_from kb edges events starts model k)
-  at_starts P law k stamp s =
-      let at : Station k = station k in
+  at_each P law k stamp s =
+      let w : World Beside = (station k).w in
       let r = reached k in
-      let same : at.w ≡ s.state =
-      numbers.same_start d TICK bytes from r.steps s.steps at.w s.state r.run s.reached (here k) s.at
-      (r.count ∙ sym s.number) in
-      subst (λ w. P k w (model_from kb edges events starts model k)) same
-      (subst (λ m. P k at.w m) (model_is k) (law k at.w at.m at.time at.ties))
+      let same : w ≡ s.state =
+      numbers.same_start d TICK bytes from r.steps s.steps w s.state r.run s.reached (here k) s.at (r.count ∙ sym s.number) in
+      subst (λ w. P k w (model_from kb edges events starts model k)) same (subst (λ m. P k w m) (model_is k) (law k))
+
+  pub at_starts : (P : World Beside → Whole S → Type 0) → ((w : World Beside) (m : Whole S) → R w m → P w m)
+      → (k stamp : ℕ) (s : IsStart d TICK bytes from k stamp) → P s.state (model_from kb edges events starts model k)
+  at_starts P law = at_each (λ k w m. P w m) (λ k. law (station k).w (station k).m (station k).ties)
+
+  -- the keys that change in a tick
+  abbrev changes : ℕ → List (ℕ × Bool)
+  changes k = shown (kb.held (station k).m.keys) (columns_in edges (station k).w.cycle)
+
+  module _ (edges_are : (w : World Beside) (m : Whole S) → 4096 ≤ w.cycle → R w m
+      → edges_now d w ≡ shown (kb.held m.keys) (columns_in edges w.cycle)) where
+    counted : (k : ℕ) → edges_now d (station k).w ≡ changes k
+    counted k = edges_are (station k).w (station k).m (station k).past (station k).ties
+
+    few_now : (k : ℕ) → length (changes k) ≤ 4 → length (edges_now d (station k).w) ≤ 4
+    few_now k few = subst (λ v. length v ≤ 4) (sym (counted k)) few
+
+    -- they are those of the model
+    changes_are : (k : ℕ)
+        → changes k ≡ shown (kb.held (model_from kb edges events starts model k).keys) (downs_in starts edges k)
+    changes_are k = ap (λ (m : Whole S). shown (kb.held m.keys) (downs_in starts edges k)) (model_is k)
+
+    abbrev changed : ℕ → List (ℕ × Bool)
+    changed k = shown (kb.held (model_from kb edges events starts model k).keys) (downs_in starts edges k)
+
+    few_of : (k : ℕ) → length (changed k) ≤ 4 → length (edges_now d (station k).w) ≤ 4
+    few_of k few = few_now k (subst (λ v. length v ≤ 4) (sym (changes_are k)) few)
+
+    -- how long a tick lasts
+    pub apart : (k : ℕ) → starts k + 2016 ≤ starts (suc k)
+    apart k =
+        let long : (station k).w.cycle + 2016 ≤ (station (suc k)).w.cycle = (lasted k).later in
+        let past : 4096 ≤ (station k).w.cycle = (station k).past in
+        omega (arith, long, past)
+
+    pub soon : (k : ℕ) → starts (suc k) ≤ starts k + (2054 + 62 * length (changed k))
+    soon k =
+        let by : (station (suc k)).w.cycle ≤ (station k).w.cycle + (2054 + 62 * length (edges_now d (station k).w)) =
+        (lasted k).by_keys in
+        let same : length (edges_now d (station k).w) ≡ length (changed k) =
+        ap (λ v. length v) (counted k ∙ changes_are k) in
+        let past : 4096 ≤ (station k).w.cycle = (station k).past in
+        omega (arith, by, same, past)
+
+    -- once few keys change, the next start is in time, and so are those after it, by a cadence of their own
+    module _ (k : ℕ) (calm : (j : ℕ) → length (changed (k + j)) ≤ 4) where
+      started : (j : ℕ) → IsStarted (station (suc (k + j))).w.cpu
+      started j = (lasted (k + j)).settles (few_of (k + j) (calm j))
+
+      abbrev late : ℕ → ℕ
+      late j = (station (suc (k + j))).w.cpu.pre
+
+      kept : (j : ℕ) → (station (suc (k + j))).w.cycle + late 0 ≡ (station (suc (k + 0))).w.cycle + 2048 * j + late j
+      kept zero = omega arith
+      kept (suc j) =
+          let ih : (station (suc (k + j))).w.cycle + late 0 ≡ (station (suc (k + 0))).w.cycle + 2048 * j + late j = kept j in
+          let z : suc (k + j) ≡ k + suc j = omega arith in
+          let few : length (edges_now d (station (suc (k + j))).w) ≤ 4 =
+          subst (λ i. length (edges_now d (station i).w) ≤ 4) (sym z) (few_of (k + suc j) (calm (suc j))) in
+          let p = (lasted (suc (k + j))).prompt (started j) few in
+          let pass : (station (suc (suc (k + j)))).w.cycle + late j
+          ≡ (station (suc (k + j))).w.cycle + 2048 + (station (suc (suc (k + j)))).w.cpu.pre = p.1 in
+          subst (λ i. (station (suc i)).w.cycle + late 0 ≡ (station (suc (k + 0))).w.cycle + 2048 * suc j + (station (suc i)).w.cpu.pre) z
+          (omega (arith, ih, pass))
+
+      pub steady : (origin : ℕ) × ((j : ℕ) → (origin + 2048 * j ≤ starts (suc (k + j)))
+          × (starts (suc (k + j)) ≤ origin + 2048 * j + 1))
+      steady = (
+        starts (suc (k + 0)) - (late 0 - 2),
+        λ j.
+            let ih : (station (suc (k + j))).w.cycle + late 0 ≡ (station (suc (k + 0))).w.cycle + 2048 * j + late j = kept j in
+            let a : 2 ≤ late 0 = (started 0).entered.early in
+            let b : late 0 ≤ 3 = (started 0).entered.late in
+            let c : 2 ≤ late j = (started j).entered.early in
+            let e : late j ≤ 3 = (started j).entered.late in
+            let past : 4096 ≤ (station (suc (k + 0))).w.cycle = (station (suc (k + 0))).past in
+            let room : (station (k + 0)).w.cycle + 2016 ≤ (station (suc (k + 0))).w.cycle = (lasted (k + 0)).later in
+            let base : 4096 ≤ (station (k + 0)).w.cycle = (station (k + 0)).past in
+            (omega (arith, ih, a, b, c, e, past, room, base), omega (arith, ih, a, b, c, e, past, room, base)),
+      )
+
+    -- from a start in time on, if few keys change, each start keeps the time
+    module _ (Fit : S → Type 0) (fits : (w : World Beside) (m : Whole S) → R w m → Fit m.keys)
+        (so : (meeting : Meeting) (k : S) (now : ℕ → Bool) (p : ℕ) → Fit k → p < 96
+        → kb.held (kb.ticked meeting (shown (kb.held k) now) k) p ≡ now p)
+        (n : ℕ) (begins_on : IsOnTime n begin) (begins_started : IsStarted begin.cpu)
+        (begins_few : length (shown (kb.held model.keys) (columns_in edges begin.cycle)) ≤ 4)
+        (later : (k : ℕ) → ShowsFew edges (suc (n + k))) where
+      record Timed (k : ℕ) : Type 0 where
+        time : IsOnTime (n + k) (station k).w
+        started : IsStarted (station k).w.cpu
+        few : length (changes k) ≤ 4
+
+      punctual : (k : ℕ) → Timed k → InTime (n + k) (station k).w
+      punctual k t = on_time (n + k) (station k).w t.time t.started.entered.early t.started.entered.late
+
+      timed_first : Timed 0
+      unfolding station first
+      timed_first =
+          let t : begin.cycle + 2 ≡ 4096 + 2048 * n + begin.cpu.pre = begins_on in
+          record { time = omega (arith, t); started = begins_started; few = begins_few }
+
+      -- a key that is held is one that the tick before showed as down
+      held_is : (k p : ℕ) → p < 96 → kb.held (station (suc k)).m.keys p ≡ columns_in edges (station k).w.cycle p
+      held_is k p l =
+          ap (λ (m : Whole S). kb.held m.keys p) (model_next k)
+          ∙ so (meeting_from kb events (station k).w.cycle (station k).m) (station k).m.keys
+          (columns_in edges (station k).w.cycle) p (fits (station k).w (station k).m (station k).ties) l
+
+      timed_next : (k : ℕ) → Timed k → Timed (suc k)
+      timed_next k t =
+          let w : World Beside = (station k).w in
+          let e : World Beside = (station (suc k)).w in
+          let p = (lasted k).prompt t.started (few_now k t.few) in
+          let now : w.cycle + 2 ≡ 4096 + 2048 * (n + k) + w.cpu.pre = t.time in
+          let pass : e.cycle + w.cpu.pre ≡ w.cycle + 2048 + e.cpu.pre = p.1 in
+          let time : IsOnTime (n + suc k) e = omega (arith, now, pass) in
+          let next : IsOnTime (suc (n + k)) e = omega (arith, now, pass) in
+          let held : ℕ → Bool = kb.held (station (suc k)).m.keys in
+          let there : ℕ → Bool = columns_in edges e.cycle in
+          let before : ℕ → Bool = columns_in edges w.cycle in
+          let same : shown held there ≡ shown before there =
+          same_by_place (shown_at held there) (shown_at before there)
+          (λ p l. ap (λ b. change_at p b (there p)) (held_is k p l)) 96 (omega arith) in
+          record {
+            time = time;
+            started = p.0;
+            few =
+                subst (λ (v : List (ℕ × Bool)). length v ≤ 4) (sym same)
+                (later k (w.cycle - 4096) (e.cycle - 4096) (as_prompt (n + k) w (punctual k t))
+                (as_prompt (suc (n + k)) e (on_time (suc (n + k)) e next p.0.entered.early p.0.entered.late)));
+          }
+
+      timed : (k : ℕ) → Timed k
+      timed zero = timed_first
+      timed (suc k) = timed_next k (timed k)
+
+      pub prompt : (k : ℕ) → IsPrompt (n + k) (starts k)
+      prompt k = as_prompt (n + k) (station k).w (punctual k (timed k))
+
+      pub in_time : (P : ℕ → World Beside → Whole S → Type 0)
+          → ((k : ℕ) (w : World Beside) (m : Whole S) → IsOnTime (n + k) w → IsStarted w.cpu → R w m → P k w m)
+          → (k stamp : ℕ) (s : IsStart d TICK bytes from k stamp) → P k s.state (model_from kb edges events starts model k)
+      in_time P law =
+          at_each P (λ k. law k (station k).w (station k).m (timed k).time (timed k).started (station k).ties)

@@ -1,5 +1,5 @@
 -- From one tick start to the next, by the tick's meeting: what ties the joint run to the model goes on.
-use Rattle.std.proofs.Common.{◌≡◌, ◌≤◌, ℕ, suc, ◌+◌, ◌-◌, ◌*◌, ◌==◌, not, All, List, Bool, false, length, slice_index, slice_index_or, refl, ap, sym, ◌∙◌, subst, arith}
+use Rattle.std.proofs.Common.{◌≡◌, ◌≤◌, ℕ, ◌+◌, ◌-◌, ◌*◌, ◌==◌, not, All, List, Bool, false, length, slice_index, slice_index_or, refl, ap, sym, ◌∙◌, subst, arith}
 use Rattle.board_terms.specs.declared.event.Edge.{Edge}
 use Rattle.board_terms.specs.declared.event.HostEvent.{HostEvent}
 use Rattle.board_terms.specs.declared.lines.Lines.{Lines}
@@ -18,7 +18,7 @@ use Rattle.fw_keys.proofs.Healing.{healed_same}
 use Rattle.fw_kernel.specs.Tables.{fn_place_at}
 use Rattle.agreement.proofs.FnFollows.{IsFnPlaceOf, fn_follows}
 use Rattle.agreement.proofs.Holding.{ticked_holds}
-use Rattle.fw_logic.specs.Ticks.{IsOnTime, column_read}
+use Rattle.fw_logic.specs.Ticks.{column_read}
 use Rattle.fw_link.proofs.Over.{IsOver, under}
 use Rattle.fw_link.proofs.TickLatch.{lines_by}
 use Rattle.fw_link.proofs.Wired.{IsReleased}
@@ -47,9 +47,10 @@ use Rattle.wires_agree.specs.Without.{seen_in_bytes}
 use Rattle.agreement.specs.Wires.{IsFrameOf}
 use Rattle.agreement.proofs.Compiled.{is_silent, silent_keys}
 use Rattle.agreement.proofs.Placed.{IsOfLayout}
-use Rattle.agreement.proofs.Happened.{Happened, GoesBy, at_lights, at_look}
+use Rattle.agreement.proofs.Happened.{GoesBy, at_lights, at_look}
 use Rattle.agreement.proofs.Model.{columns_in, by_columns}
 use Rattle.agreement.proofs.OnWires.{on_wires}
+use Rattle.agreement.proofs.Ran.{Lasted, Ran, lasted}
 use Rattle.agreement.proofs.Sides.{met_is, side_is}
 use Rattle.agreement.proofs.Ties.{Ties}
 
@@ -79,7 +80,7 @@ module _ (layout : KeyLayout) (es : List (ℕ × Bool)) (of_layout : All (IsOfLa
 module _ (edges : List Edge) (events : List HostEvent) (d : Board) (to : d.State → Beside)
     (over : IsOver edges events d to) (bytes : List ℕ) (layout : KeyLayout)
     (same : SameKeys (image_keys bytes) (silent_keys layout)) (codes : NoPrefix (silent_keys layout))
-    (fn_is : IsFnPlaceOf layout (slice_index bytes fn_place_at)) (n : ℕ) (w : World d.State) (m : Whole LayeredKeyboard) (time : IsOnTime n (under to w))
+    (fn_is : IsFnPlaceOf layout (slice_index bytes fn_place_at)) (w : World d.State) (m : Whole LayeredKeyboard)
     (tie : Ties bytes (silent_keys layout) (under to w) m)
     (columns : edges_now d w ≡ shown (is_held m.keys.keyboard) (columns_in edges w.cycle))
     (of_layout : All (IsOfLayout layout) (shown (is_held m.keys.keyboard) (columns_in edges w.cycle)))
@@ -88,9 +89,9 @@ module _ (edges : List Edge) (events : List HostEvent) (d : Board) (to : d.State
   abbrev u : World Beside
   u = under to w
 
-  -- the next start is on time, and tied to the model
+  -- the next start is tied to the model
   abbrev pub Goal : World Beside → Type 0
-  Goal e = IsOnTime (suc n) e × Ties bytes (silent_keys layout) e (by_columns (keyboard layout) edges events w.cycle e.cycle m)
+  Goal e = Ties bytes (silent_keys layout) e (by_columns (keyboard layout) edges events w.cycle e.cycle m)
 
   abbrev pub lines : Frame → ℕ → Lines
   lines frame = lines_by frame (latch_now d w) w.cycle released
@@ -117,22 +118,17 @@ module _ (edges : List Edge) (events : List HostEvent) (d : Board) (to : d.State
       (lines frame) 15 368 met (wires 15 0 368 refl refl)
 
   ends : (meeting : KeyboardMeeting) (met : Meeting) (frame : Frame) → met_as met ≡ meeting → Wires (lines frame) met
-      → (e : World d.State) → Happened d bytes meeting frame w e → Goal (under to e)
+      → (e : World d.State) → Ran d bytes meeting frame w e → Goal (under to e)
   ends meeting met frame kind wires e h =
       let es : List (ℕ × Bool) = shown (is_held m.keys.keyboard) (columns_in edges w.cycle) in
-      let early : 2 ≤ w.cpu.pre = tie.started.entered.early in
-      let late : w.cpu.pre ≤ 3 = tie.started.entered.late in
-      let early' : 2 ≤ e.cpu.pre = h.started.entered.early in
-      let late' : e.cpu.pre ≤ 3 = h.started.entered.late in
-      let pass : e.cycle + w.cpu.pre ≡ w.cycle + 2048 + e.cpu.pre = h.time in
-      let now : w.cycle + 2 ≡ 4096 + 2048 * n + w.cpu.pre = time in
+      let later : w.cycle + 2016 ≤ e.cycle = h.later in
       let rest : ℕ = e.cycle - w.cycle - 609 in
       let k : ℕ = 353 + rest in
-      let end : e.cycle ≡ 256 + w.cycle + k = omega (arith, pass, late, early') in
-      let long : rest ≡ 15 + (rest - 15) = omega (arith, pass, late, early') in
+      let end : e.cycle ≡ 256 + w.cycle + k = omega (arith, later) in
+      let long : rest ≡ 15 + (rest - 15) = omega (arith, later) in
       let law = wires rest (rest - 15) k refl long in
       let is : meeting_from (keyboard layout) events w.cycle m ≡ met = meets met frame wires in
-      let there = on_wires edges events d to over w tie.lit released frame bytes meeting e late h in
+      let there = on_wires edges events d to over w tie.lit released frame bytes meeting e h in
       let low : low_edges es = subst (λ v. low_edges v) columns (edges_low (changed_now d w) (column_read d w)) in
       let as_met : met_as (meeting_from (keyboard layout) events w.cycle m) ≡ meeting = ap met_as is ∙ kind in
       let l : Layers = m.keys.layers in
@@ -163,73 +159,71 @@ module _ (edges : List Edge) (events : List HostEvent) (d : Board) (to : d.State
       ∙ ap (λ v. ticked (keys_of layout) v (layered (is_fn_place layout) es l) k0) (sym as_met) in
       let own_after = own_layers layout es of_layout l in
       let place : ℕ = slice_index bytes fn_place_at in
-      let pc = there.pc k end in (
-        omega (arith, pass, now),
-        record {
-          started = h.started;
-          keyboard = keys ∙ own_tick;
-          layers = layers ∙ own_after;
-          fn =
-              fn_follows (is_fn_place layout) place fn_is es l k0.held whole low tie.fn
-              ∙ ap (λ v. slice_index_or v place false)
-              (sym (ticked_holds (keys_of layout) (met_as (meeting_from (keyboard layout) events w.cycle m)) (is_fn_place layout)
-              es l k0));
-          repeating = h.repeating;
-          sound =
-              subst (λ v. Sound b v
-              (ticked (keys_of layout) (met_as (meeting_from (keyboard layout) events w.cycle m)) (layered (is_fn_place layout) es l) k0))
-              own_after
-              (subst (λ v. Sound b (all_layers_after b.is_fn es l) v) own_tick (tick_sound b codes meeting es l k0 low wide tie.sound));
-          side = ap (λ (b : Rattle.ctl_wire.specs.Wires.Pc). seen_in_bytes b.side) pc
-              ∙ side_is edges events u tie.released released tie.idle LayeredKeyboard (keyboard layout) m tie.side tie.shown
-              lamps (lines frame) rest k met law;
-          idle =
-              ap (λ (b : Rattle.ctl_wire.specs.Wires.Pc). Rattle.ctl_link.specs.Link.is_busy b.side.port.link) pc
-              ∙ law.idle_again;
-          flip = subst (λ (b : Rattle.ctl_wire.specs.Wires.Pc). IsFlip b.side.port.flip) (sym pc)
-              (flips_stay events (lines frame) k (256 + w.cycle) (at_look edges events u) noise flip_at_look);
-          shown = there.shown ∙ sym lamps;
-          lit = ap lights_of h.latch ∙ sym there.shown;
-          released = subst (λ v. IsReleased v) (sym h.latch) released;
-        },
-      )
+      let pc = there.pc k end in
+      record {
+        started = h.started;
+        keyboard = keys ∙ own_tick;
+        layers = layers ∙ own_after;
+        fn =
+            fn_follows (is_fn_place layout) place fn_is es l k0.held whole low tie.fn
+            ∙ ap (λ v. slice_index_or v place false)
+            (sym (ticked_holds (keys_of layout) (met_as (meeting_from (keyboard layout) events w.cycle m)) (is_fn_place layout)
+            es l k0));
+        repeating = h.repeating;
+        sound =
+            subst (λ v. Sound b v
+            (ticked (keys_of layout) (met_as (meeting_from (keyboard layout) events w.cycle m)) (layered (is_fn_place layout) es l) k0))
+            own_after
+            (subst (λ v. Sound b (all_layers_after b.is_fn es l) v) own_tick (tick_sound b codes meeting es l k0 low wide tie.sound));
+        side = ap (λ (b : Rattle.ctl_wire.specs.Wires.Pc). seen_in_bytes b.side) pc
+            ∙ side_is edges events u tie.released released tie.idle LayeredKeyboard (keyboard layout) m tie.side tie.shown
+            lamps (lines frame) rest k met law;
+        idle =
+            ap (λ (b : Rattle.ctl_wire.specs.Wires.Pc). Rattle.ctl_link.specs.Link.is_busy b.side.port.link) pc
+            ∙ law.idle_again;
+        flip = subst (λ (b : Rattle.ctl_wire.specs.Wires.Pc). IsFlip b.side.port.flip) (sym pc)
+            (flips_stay events (lines frame) k (256 + w.cycle) (at_look edges events u) noise flip_at_look);
+        shown = there.shown ∙ sym lamps;
+        lit = ap lights_of h.latch ∙ sym there.shown;
+        released = subst (λ v. IsReleased v) (sym h.latch) released;
+      }
 
   -- a byte that is received was requested at the look at the clock
   abbrev pub Asks : Meeting → Type 0
   Asks met = (byte : ℕ) → met ≡ Got byte → (at_look edges events u).side.port.link ≡ Request byte
 
-  -- the run comes there by the service's end, and the board has gone on by the tick's latch
+  -- the run comes there by the service's end, and the board has gone on by the tick's latch; and how long the tick was
   abbrev pub Went : Frame → World d.State → Type 0
   Went frame e =
       Goal (under to e) × GoesBy d frame w e
       × IsFrameOf (offer m.keys.keyboard) (meeting_from (keyboard layout) events w.cycle m) frame × Passes d bytes w
-      × Asks (meeting_from (keyboard layout) events w.cycle m)
+      × Asks (meeting_from (keyboard layout) events w.cycle m) × Lasted d w e
 
-  by_frame : (meeting : KeyboardMeeting) (frame : Frame) (e : World d.State) → Happened d bytes meeting frame w e
+  by_frame : (meeting : KeyboardMeeting) (frame : Frame) (e : World d.State) → Ran d bytes meeting frame w e
       → GoesBy d frame w e
   by_frame meeting frame e h =
-      let late : w.cpu.pre ≤ 3 = tie.started.entered.late in
-      let pass : e.cycle + w.cpu.pre ≡ w.cycle + 2048 + e.cpu.pre = h.time in
+      let later : w.cycle + 2016 ≤ e.cycle = h.later in
       let n : ℕ = e.cycle - w.cycle in
-      let cycles : e.cycle ≡ w.cycle + n = omega (arith, pass, late) in
+      let cycles : e.cycle ≡ w.cycle + n = omega (arith, later) in
       record { latch = h.latch; length = n; cycles = cycles; board = h.board n cycles }
 
   pub goes : (meeting : KeyboardMeeting) (met : Meeting) (frame : Frame) → IsFrameOf (offer m.keys.keyboard) met frame
       → met_as met ≡ meeting → Asks met
       → Wires (lines frame) met
-      → Tick d TICK bytes w (Happened d bytes meeting frame w)
+      → Tick d TICK bytes w (Ran d bytes meeting frame w)
       → Tick d TICK bytes w (Went frame)
   goes meeting met frame fits kind asks wires t = record {
     at = t.at;
     first = t.first;
     step = t.step;
-    rest = comes_as d TICK bytes (Happened d bytes meeting frame w) (Went frame) t.first
+    rest = comes_as d TICK bytes (Ran d bytes meeting frame w) (Went frame) t.first
         (λ e h. (
           ends meeting met frame kind wires e h,
           by_frame meeting frame e h,
           subst (λ v. IsFrameOf (offer m.keys.keyboard) v frame) (sym (meets met frame wires)) fits,
           h.passes,
           λ byte is. asks byte (sym (meets met frame wires) ∙ is),
+          lasted d bytes meeting frame w e h,
         ))
         t.rest;
   }

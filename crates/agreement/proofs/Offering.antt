@@ -7,7 +7,8 @@ use Rattle.board_terms.specs.declared.event.Edge.{Edge}
 use Rattle.board_terms.specs.declared.event.HostEvent.{HostEvent}
 use Rattle.fw_kernel.specs.declared.cells.TheConstants.{LIGHTS}
 use Rattle.fw_keys.proofs.Blocks.{ring-get}
-use Rattle.fw_keys.specs.Frameless.{IsStarted, cells_in, shown_by}
+use Rattle.fw_keys.proofs.Begun.{IsAnyStart}
+use Rattle.fw_keys.specs.Frameless.{cells_in, shown_by}
 use Rattle.fw_keys.specs.State.{made}
 use Rattle.fw_link.proofs.Wired.{IsReleased, lights_leave}
 use Rattle.bits.proofs.Every.{by_below}
@@ -71,7 +72,7 @@ module _ (m : Cpu) (fine : IsFine m) where
   pub offers_byte : (byte : ℕ) → offer (shown_by m.ram) ≡ Some byte → byte < 256
   offers_byte byte is = by_state (f 64 == 0) (f 65 == 0) refl refl (f 66 % 128) refl byte is
 
-module _ (edges : List Edge) (events : List HostEvent) (w : World Beside) (s : IsStarted w.cpu) where
+module _ (edges : List Edge) (events : List HostEvent) (w : World Beside) (s : IsAnyStart w.cpu) where
   abbrev lamps : ℕ
   lamps = slice_index w.cpu.ram LIGHTS
 

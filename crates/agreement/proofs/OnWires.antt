@@ -19,7 +19,8 @@ use Rattle.ctl_wire.specs.Wires.{Pc}
 use Rattle.wires_agree.proofs.CellByCell.{cycles_more}
 use Rattle.wires_agree.specs.Cycles.{board_cycles}
 use Rattle.wires_agree.specs.Ticks.{at_meeting}
-use Rattle.agreement.proofs.Happened.{at_lights, at_look, Happened, AtWires}
+use Rattle.agreement.proofs.Happened.{at_lights, at_look, AtWires}
+use Rattle.agreement.proofs.Ran.{Ran}
 
 module _ (edges : List Edge) (events : List HostEvent) (d : Board) (to : d.State → Beside)
     (over : IsOver edges events d to) (w : World d.State) (lit : lights_of w.cpu.p2 ≡ (to w.board).shown)
@@ -102,14 +103,13 @@ module _ (edges : List Edge) (events : List HostEvent) (d : Board) (to : d.State
       ∙ cycles_more events lines 32 (32 * k + 18) (50 + 32 * k) (256 + x) (at_look edges events u) e
       ∙ ap (λ c. board_cycles events lines (32 * k + 18) c first) a
 
-  pub on_wires : (bytes : List ℕ) (meeting : Meeting) (e : World d.State) → w.cpu.pre ≤ 3
-      → Happened d bytes meeting frame w e
+  pub on_wires : (bytes : List ℕ) (meeting : Meeting) (e : World d.State) → Ran d bytes meeting frame w e
       → AtWires edges events (lines_by frame (latch_now d w) w.cycle released) u (under to e)
-  on_wires bytes meeting e late h =
-      let time : e.cycle + w.cpu.pre ≡ w.cycle + 2048 + e.cpu.pre = h.time in
+  on_wires bytes meeting e h =
+      let later : w.cycle + 2016 ≤ e.cycle = h.later in
       let k : ℕ = e.cycle - (256 + x) in
       record {
-        shown = ap (λ (t : Beside). t.shown) (is k (omega (arith, time, late)));
+        shown = ap (λ (t : Beside). t.shown) (is k (omega (arith, later)));
         pc = λ k at. ap (λ (t : Beside). t.pc) (is k at);
       }
     where

@@ -11,17 +11,17 @@ use Rattle.kbd_model.specs.Layers.{layered, all_layers_after}
 use Rattle.kbd_model.specs.Tick.{ticked}
 use Rattle.kbd_model.specs.declared.meeting.Meeting.{Meeting}
 use Rattle.agreement.proofs.Happened.{Happened}
-use Rattle.agreement.specs.AnyKeys.{longest_tick, tick_with}
-use Rattle.agreement.specs.Firmware.{least_of}
+use Rattle.agreement.specs.AnyKeys.{longest_tick, shortest_tick, tick_with}
 
 -- from tick start w to tick start v: as a tick in time, but for its length, if the next start isn't in time
 pub record Ran (d : Board) (bytes : List ℕ) (meeting : Meeting) (frame : Frame) (w v : World d.State) : Type 0 where
   pub started : IsAnyStart v.cpu
-  pub later : w.cycle + least_of frame ≤ v.cycle
+  pub later : w.cycle + shortest_tick ≤ v.cycle
   pub soon : v.cycle ≤ w.cycle + longest_tick
   pub by_keys : v.cycle ≤ w.cycle + tick_with (length (edges_now d w))
   pub prompt : IsStarted w.cpu → length (edges_now d w) ≤ 4
       → IsStarted v.cpu × (v.cycle + w.cpu.pre ≡ w.cycle + 2048 + v.cpu.pre)
+  pub settles : length (edges_now d w) ≤ 4 → IsStarted v.cpu
   pub keyboard : shown_by v.cpu.ram ≡ ticked (image_keys bytes) meeting
       (layered (image_keys bytes).is_fn (edges_now d w) (layers_met bytes meeting w.cpu.ram)) (shown_by w.cpu.ram)
   pub layers : layers_by v.cpu.ram ≡ all_layers_after (image_keys bytes).is_fn (edges_now d w) (layers_met bytes meeting w.cpu.ram)
@@ -30,6 +30,19 @@ pub record Ran (d : Board) (bytes : List ℕ) (meeting : Meeting) (frame : Frame
   pub passes : Passes d bytes w
   pub board : (n : ℕ) → v.cycle ≡ w.cycle + n
       → v.board ≡ driven d w.cycle (tick_latch w.cpu.p2 (latch_now d w) frame) n 0 w.board
+
+-- how long the tick was
+pub record Lasted (d : Board) (w v : World d.State) : Type 0 where
+  pub later : w.cycle + shortest_tick ≤ v.cycle
+  pub by_keys : v.cycle ≤ w.cycle + tick_with (length (edges_now d w))
+  pub prompt : IsStarted w.cpu → length (edges_now d w) ≤ 4
+      → IsStarted v.cpu × (v.cycle + w.cpu.pre ≡ w.cycle + 2048 + v.cpu.pre)
+  pub settles : length (edges_now d w) ≤ 4 → IsStarted v.cpu
+
+pub lasted : (d : Board) (bytes : List ℕ) (meeting : Meeting) (frame : Frame) (w v : World d.State)
+    → Ran d bytes meeting frame w v → Lasted d w v
+lasted d bytes meeting frame w v r =
+    record { later = r.later; by_keys = r.by_keys; prompt = r.prompt; settles = r.settles }
 
 -- one that starts in time, with four edges at most, is in time
 pub in_time : (d : Board) (bytes : List ℕ) (meeting : Meeting) (frame : Frame) (w v : World d.State) → IsStarted w.cpu

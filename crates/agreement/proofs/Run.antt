@@ -28,7 +28,7 @@ use Rattle.agreement.proofs.Holding.{HasPlaces, none_held, holds_now}
 use Rattle.fw_logic.specs.Ticks.{IsOnTime}
 use Rattle.agreement.proofs.Model.{at_first}
 use Rattle.agreement.proofs.ModelAtEachStart.{keeps_time, at_starts, agrees, drives, prompt}
-use Rattle.agreement.proofs.Tied.{Tied, fits, tied_first, tied_next, tick_drives}
+use Rattle.agreement.proofs.Tied.{TiedInTime, drives_in_time, fits_in_time, next_in_time, tied_first}
 
 -- a lawful history is one of the layout's
 bare : (layout : KeyLayout) (history : KeyHistory) → IsLawfulFor layout history → AreFor layout history.edges history.host
@@ -56,9 +56,9 @@ module _ (layout : KeyLayout) (history : KeyHistory) (fine : IsKeyLayout layout)
     comes_first : Comes (joint_board edges events) TICK bytes from (λ e. at_tick (joint_board edges events) TICK e ≡ true)
     comes_first =
         comes_as (joint_board edges events) TICK bytes
-        (λ e. IsOnTime 0 e × Tied layout history fine (bare layout history ok) e (at_first (keyboard layout) events e.cycle))
+        (λ e. IsOnTime 0 e × TiedInTime layout history fine (bare layout history ok) e (at_first (keyboard layout) events e.cycle))
         (λ e. at_tick (joint_board edges events) TICK e ≡ true) from
-        (λ e h. is_tick edges events e h.1.ties.started) (tied_first layout history fine (bare layout history ok) m small)
+        (λ e h. is_tick edges events e h.1.tied.ties.started) (tied_first layout history fine (bare layout history ok) m small)
 
     -- up to it port 1 is as reset leaves it
     stays_dark : (k : ℕ) (one next : World Beside) → calm (joint_board edges events) TICK bytes k from ≡ Some one
@@ -69,15 +69,15 @@ module _ (layout : KeyLayout) (history : KeyHistory) (fine : IsKeyLayout layout)
 pub every_memory : AnyMemoryLaw
 every_memory layout history fine ok m small = (
   keeps_time LayeredKeyboard (switched_on history.edges history.host m) (image_of layout) history ok.lawful (keyboard layout)
-      (Tied layout history fine (bare layout history ok)) (λ k. HasPlaces k.keyboard) (fits layout history fine (bare layout history ok)) (λ p l. none_held layout p)
-      (holds_now layout) (tied_first layout history fine (bare layout history ok) m small) (tied_next layout history fine (bare layout history ok))
-      (λ w m t. ap (λ (s : _). s.log) t.ties.side) (λ w m t. (t.ties.started.entered.serves, t.ties.started.entered.bank))
-      (λ w m t. (t.ties.started.entered.early, t.ties.started.entered.late)),
+      (TiedInTime layout history fine (bare layout history ok)) (λ k. HasPlaces k.keyboard) (fits_in_time layout history fine (bare layout history ok)) (λ p l. none_held layout p)
+      (holds_now layout) (tied_first layout history fine (bare layout history ok) m small) (next_in_time layout history fine (bare layout history ok))
+      (λ w m t. ap (λ (s : _). s.log) t.tied.ties.side) (λ w m t. (t.started.entered.serves, t.started.entered.bank))
+      (λ w m t. (t.started.entered.early, t.started.entered.late)),
   agrees LayeredKeyboard (switched_on history.edges history.host m) (image_of layout) history ok.lawful (keyboard layout)
-      (Tied layout history fine (bare layout history ok)) (λ k. HasPlaces k.keyboard) (fits layout history fine (bare layout history ok)) (λ p l. none_held layout p)
-      (holds_now layout) (tied_first layout history fine (bare layout history ok) m small) (tied_next layout history fine (bare layout history ok))
-      (λ w m t. ap (λ (s : _). s.log) t.ties.side) (λ w m t. (t.ties.started.entered.serves, t.ties.started.entered.bank))
-      (λ w m t. (t.ties.started.entered.early, t.ties.started.entered.late)),
+      (TiedInTime layout history fine (bare layout history ok)) (λ k. HasPlaces k.keyboard) (fits_in_time layout history fine (bare layout history ok)) (λ p l. none_held layout p)
+      (holds_now layout) (tied_first layout history fine (bare layout history ok) m small) (next_in_time layout history fine (bare layout history ok))
+      (λ w m t. ap (λ (s : _). s.log) t.tied.ties.side) (λ w m t. (t.started.entered.serves, t.started.entered.bank))
+      (λ w m t. (t.started.entered.early, t.started.entered.late)),
 )
 
 -- cleared memory is fine
@@ -103,22 +103,22 @@ every_run layout history fine ok = every_memory layout history fine ok reset_cpu
 pub every_start : PromptLaw
 every_start layout history fine ok m small =
     prompt LayeredKeyboard (switched_on history.edges history.host m) (image_of layout) history ok.lawful (keyboard layout)
-    (Tied layout history fine (bare layout history ok)) (λ k. HasPlaces k.keyboard) (fits layout history fine (bare layout history ok)) (λ p l. none_held layout p)
-    (holds_now layout) (tied_first layout history fine (bare layout history ok) m small) (tied_next layout history fine (bare layout history ok))
-    (λ w m t. ap (λ (s : _). s.log) t.ties.side) (λ w m t. (t.ties.started.entered.serves, t.ties.started.entered.bank))
-    (λ w m t. (t.ties.started.entered.early, t.ties.started.entered.late))
+    (TiedInTime layout history fine (bare layout history ok)) (λ k. HasPlaces k.keyboard) (fits_in_time layout history fine (bare layout history ok)) (λ p l. none_held layout p)
+    (holds_now layout) (tied_first layout history fine (bare layout history ok) m small) (next_in_time layout history fine (bare layout history ok))
+    (λ w m t. ap (λ (s : _). s.log) t.tied.ties.side) (λ w m t. (t.started.entered.serves, t.started.entered.bank))
+    (λ w m t. (t.started.entered.early, t.started.entered.late))
 
 -- and the wires are as their law says
 pub every_wire : WiresLaw
 every_wire layout history fine ok m small =
     drives LayeredKeyboard (switched_on history.edges history.host m) (image_of layout) history ok.lawful (keyboard layout)
-    (Tied layout history fine (bare layout history ok)) (λ k. HasPlaces k.keyboard) (fits layout history fine (bare layout history ok)) (λ p l. none_held layout p)
-    (holds_now layout) (tied_first layout history fine (bare layout history ok) m small) (tied_next layout history fine (bare layout history ok))
-    (λ w m t. ap (λ (s : _). s.log) t.ties.side) (λ w m t. (t.ties.started.entered.serves, t.ties.started.entered.bank))
-    (λ w m t. (t.ties.started.entered.early, t.ties.started.entered.late))
+    (TiedInTime layout history fine (bare layout history ok)) (λ k. HasPlaces k.keyboard) (fits_in_time layout history fine (bare layout history ok)) (λ p l. none_held layout p)
+    (holds_now layout) (tied_first layout history fine (bare layout history ok) m small) (next_in_time layout history fine (bare layout history ok))
+    (λ w m t. ap (λ (s : _). s.log) t.tied.ties.side) (λ w m t. (t.started.entered.serves, t.started.entered.bank))
+    (λ w m t. (t.started.entered.early, t.started.entered.late))
     (begins_let_go history.edges history.host (image_of layout) (has_kernel layout) (are_bytes layout fine) m small)
     (stays_dark layout history fine ok m small)
-    (tick_drives layout history fine (bare layout history ok))
+    (drives_in_time layout history fine (bare layout history ok))
 
 -- and data memory shows the model's keyboard
 pub every_holding : MemoryLaw
@@ -126,10 +126,10 @@ every_holding layout history fine ok m small =
     let a =
     at_starts LayeredKeyboard (switched_on history.edges history.host m) (image_of layout) history ok.lawful
     (keyboard layout)
-    (Tied layout history fine (bare layout history ok)) (λ k. HasPlaces k.keyboard) (fits layout history fine (bare layout history ok)) (λ p l. none_held layout p)
-    (holds_now layout) (tied_first layout history fine (bare layout history ok) m small) (tied_next layout history fine (bare layout history ok))
-    (λ w m t. ap (λ (s : _). s.log) t.ties.side)
-    (λ w m t. (t.ties.started.entered.serves, t.ties.started.entered.bank))
-    (λ w m t. (t.ties.started.entered.early, t.ties.started.entered.late)) (λ w m. Holds w m.keys)
-    (λ n w m time t few. (t.ties.keyboard, t.ties.layers)) in
+    (TiedInTime layout history fine (bare layout history ok)) (λ k. HasPlaces k.keyboard) (fits_in_time layout history fine (bare layout history ok)) (λ p l. none_held layout p)
+    (holds_now layout) (tied_first layout history fine (bare layout history ok) m small) (next_in_time layout history fine (bare layout history ok))
+    (λ w m t. ap (λ (s : _). s.log) t.tied.ties.side)
+    (λ w m t. (t.started.entered.serves, t.started.entered.bank))
+    (λ w m t. (t.started.entered.early, t.started.entered.late)) (λ w m. Holds w m.keys)
+    (λ n w m time t few. (t.tied.ties.keyboard, t.tied.ties.layers)) in
     record { starts = a.0; each = a.1; holds = a.2 }

@@ -1,12 +1,12 @@
--- For every layout, whatever its keys and the host do, what ties the joint run to the model goes on from tick to tick, if
--- the tick shows few edges.
+-- For every layout, whatever its keys and the host do, what ties the joint run to the model goes on from tick to tick; and
+-- a tick in time that shows few edges is followed by one in time.
 use Rattle.std.proofs.Common.{◌≡◌, ◌≤◌, ◌<◌, ℕ, suc, ◌+◌, ◌-◌, ◌*◌, ◌/◌, ◌%◌, ◌==◌, true, false, nat_le}
 use Rattle.std.proofs.Common.{slice_index, if◌then◌else◌, All, List, length, refl, ap, sym, ◌∙◌, subst, arith}
 use Rattle.std.proofs.lemmas.Bool.Decides.{nat_tests}
 use Rattle.fw_compile.specs.Image.{image_of}
 use Rattle.fw_kernel.specs.declared.cells.TheConstants.{LIGHTS}
 use Rattle.fw_kernel.specs.declared.labels.TheConstants.{TICK}
-use Rattle.fw_keys.specs.Frameless.{edges_now}
+use Rattle.fw_keys.specs.Frameless.{IsStarted, edges_now}
 use Rattle.fw_link.proofs.Over.{IsOver, itself, under}
 use Rattle.fw_link.proofs.Watching.{watching, watched, driven_good, drives_tick}
 use Rattle.fw_link.proofs.Wired.{IsReleased}
@@ -14,7 +14,6 @@ use Rattle.fw_link.specs.Latch.{Frame, tick_latch}
 use Rattle.fw_link.proofs.TickLatch.{lines_by}
 use Rattle.fw_logic.proofs.Laws.{comes_as}
 use Rattle.fw_logic.proofs.Passing.{Passes}
-use Rattle.fw_logic.proofs.Entered.{entered_served}
 use Rattle.fw_logic.proofs.Sweep.{selects_from, column_from}
 use Rattle.ctl_link.specs.declared.link.Link.TheVariants.{Request}
 use Rattle.board_terms.specs.declared.event.Edge.{Edge}
@@ -49,6 +48,7 @@ use Rattle.agreement.proofs.InBytes.{look_in_bytes, tick_in_bytes, first_in_byte
 use Rattle.fw_logic.specs.Ticks.{IsOnTime}
 use Rattle.agreement.proofs.Model.{at_first, by_columns, columns_in}
 use Rattle.agreement.proofs.Offering.{offers_byte, lit_released, lit_shows}
+use Rattle.agreement.proofs.Ran.{Lasted}
 use Rattle.agreement.proofs.Sides.{model_looks}
 use Rattle.agreement.proofs.Placed.{IsOfLayout, down_placed, shown_placed}
 use Rattle.agreement.proofs.Ties.{Ties}
@@ -73,42 +73,51 @@ module _ (layout : KeyLayout) (history : KeyHistory) (fine : IsKeyLayout layout)
     pub placed : (p : ℕ) → p < 96 → is_held m.keys.keyboard p ≡ true → HasEntry layout p
     pub column : w.cpu.p1 ≡ (if nat_le w.cycle 4097 then 255 else 44)
 
+  -- and the start is in time
+  pub record TiedInTime (w : World Beside) (m : Whole LayeredKeyboard) : Type 0 where
+    pub tied : Tied w m
+    pub started : IsStarted w.cpu
+
   pub fits : (w : World Beside) (m : Whole LayeredKeyboard) → Tied w m → HasPlaces m.keys.keyboard
   fits w m t = subst (λ k. HasPlaces k) t.ties.keyboard (places_shown w.cpu.ram)
 
+  pub fits_in_time : (w : World Beside) (m : Whole LayeredKeyboard) → TiedInTime w m → HasPlaces m.keys.keyboard
+  fits_in_time w m t = fits w m t.tied
+
   pub tied_first : (m : Cpu) → IsFine m → Comes (joint_board edges events) TICK bytes (switched_on edges events m)
-      (λ e. IsOnTime 0 e × Tied e (at_first (keyboard layout) events e.cycle))
+      (λ e. IsOnTime 0 e × TiedInTime e (at_first (keyboard layout) events e.cycle))
   tied_first m small =
       comes_as (joint_board edges events) TICK bytes
-      (λ e. IsOnTime 0 e × Ties bytes (silent_keys layout) e (at_first (keyboard layout) events e.cycle)
+      (λ e. IsOnTime 0 e × IsStarted e.cpu × Ties bytes (silent_keys layout) e (at_first (keyboard layout) events e.cycle)
       × (e.cpu.p1 ≡ 255))
-      (λ e. IsOnTime 0 e × Tied e (at_first (keyboard layout) events e.cycle)) (switched_on edges events m)
+      (λ e. IsOnTime 0 e × TiedInTime e (at_first (keyboard layout) events e.cycle)) (switched_on edges events m)
       (λ e h. (
         h.0,
         record {
-          ties = h.1;
+          started = h.1;
+          tied = record {
+          ties = h.2;
           in_bytes = first_in_bytes events ok.written LayeredKeyboard (keyboard layout) e.cycle;
           placed = λ p l held. absurd (let off : false ≡ true = sym (none_held layout p) ∙ held in cc);
           column =
-              let pre : e.cpu.pre ≤ 3 = h.1.started.entered.late in
+              let pre : e.cpu.pre ≤ 3 = h.1.entered.late in
               let time : e.cycle + 2 ≡ 4096 + 2048 * 0 + e.cpu.pre = h.0 in
               let low : e.cycle ≤ 4097 = omega (arith, pre, time) in
               let first : nat_le e.cycle 4097 ≡ true = grind (arith, nat_tests, low) in
-              h.2 ∙ sym (ap (λ b. if b then 255 else 44) first);
+              h.3 ∙ sym (ap (λ b. if b then 255 else 44) first);
+          };
         },
       ))
       (begins edges events ok.flips bytes (has_kernel layout) (are_bytes layout fine) (bus_low edges events) m small
       layout (has_rate layout))
 
-  module _ (n : ℕ) (w : World Beside) (m : Whole LayeredKeyboard) (time : IsOnTime n w) (tied : Tied w m)
-      (four : length (shown (is_held m.keys.keyboard) (columns_in edges w.cycle)) ≤ 4) where
+  module _ (w : World Beside) (m : Whole LayeredKeyboard) (past : 4096 ≤ w.cycle) (tied : Tied w m) where
     abbrev tie : Ties bytes (silent_keys layout) w m
     tie = tied.ties
 
-    columns : edges_now (joint_board edges events) w ≡ shown (is_held m.keys.keyboard) (columns_in edges w.cycle)
+    pub columns : edges_now (joint_board edges events) w ≡ shown (is_held m.keys.keyboard) (columns_in edges w.cycle)
     columns =
-        let early : 2 ≤ w.cpu.pre = tie.started.entered.early in
-        board_edges edges events w (omega (arith, time, early))
+        board_edges edges events w past
         ∙ ap (λ k. shown (is_held k) (columns_in edges w.cycle)) tie.keyboard
 
     lamps : m.keys.keyboard.lights ≡ Rattle.joint_run.specs.Joint.lights_of (lit_latch edges events w)
@@ -150,12 +159,12 @@ module _ (layout : KeyLayout) (history : KeyHistory) (fine : IsKeyLayout layout)
     joint = joint_board edges events
 
     went : Tick joint TICK bytes w
-        (Went edges events joint (λ b. b) (itself edges events) bytes layout (same_keys layout) (no_prefix layout fine) (image_fn layout) n w m
-        time tie columns of_layout released lamps ok.flips frame)
+        (Went edges events joint (λ b. b) (itself edges events) bytes layout (same_keys layout) (no_prefix layout fine) (image_fn layout) w m
+        tie columns of_layout released lamps ok.flips frame)
     went =
         every_tick edges events joint (λ b. b) (itself edges events) bytes (has_kernel layout)
         (is_alike layout fine) (are_bytes layout fine) (bus_low edges events) layout (same_keys layout)
-        (no_prefix layout fine) (image_fn layout) n w m time tie columns of_layout (subst (λ v. length v ≤ 4) (sym columns) four)
+        (no_prefix layout fine) (image_fn layout) w m tie columns of_layout
         released lamps ok.flips
         (λ byte is. offers_byte w.cpu tie.started.fine byte (ap offer tie.keyboard ∙ is)) asked
 
@@ -168,21 +177,21 @@ module _ (layout : KeyLayout) (history : KeyHistory) (fine : IsKeyLayout layout)
 
     column_next : next.cpu.p1 ≡ 44
     column_next =
-        column_from joint bytes (has_kernel layout) w (entered_served w.cpu tie.started.entered) passes went.rest.steps went.first next went.step
-        went.rest.run (is_tick edges events next went.rest.goal.0.1.started)
+        column_from joint bytes (has_kernel layout) w tie.started.served passes went.rest.steps went.first next went.step
+        went.rest.run (is_tick edges events next went.rest.goal.0.started)
 
     pub tied_next : Tick joint TICK bytes w
-        (λ e. IsOnTime (suc n) e × Tied e (by_columns (keyboard layout) edges events w.cycle e.cycle m))
+        (λ e. Tied e (by_columns (keyboard layout) edges events w.cycle e.cycle m) × Lasted joint w e)
     tied_next = record {
       at = went.at;
       first = went.first;
       step = went.step;
-      rest = record { steps = went.rest.steps; end = next; run = went.rest.run; goal = (went.rest.goal.0.0, there) };
+      rest = record { steps = went.rest.steps; end = next; run = went.rest.run; goal = (there, went.rest.goal.5) };
     }
       where
         there : Tied next (by_columns (keyboard layout) edges events w.cycle next.cycle m)
         there = record {
-          ties = went.rest.goal.0.1;
+          ties = went.rest.goal.0;
           in_bytes = tick_in_bytes events ok.written LayeredKeyboard (keyboard layout)
               (shown (is_held m.keys.keyboard) (columns_in edges w.cycle)) w.cycle (next.cycle - w.cycle - 609) m
               tied.in_bytes;
@@ -191,9 +200,8 @@ module _ (layout : KeyLayout) (history : KeyHistory) (fine : IsKeyLayout layout)
               (sym (holds_now layout (meeting_from (keyboard layout) events w.cycle m) m.keys (columns_in edges w.cycle) p
               (fits w m tied) l) ∙ held);
           column =
-              let pre : 2 ≤ next.cpu.pre = went.rest.goal.0.1.started.entered.early in
-              let at : next.cycle + 2 ≡ 4096 + 2048 * suc n + next.cpu.pre = went.rest.goal.0.0 in
-              let high : 4097 < next.cycle = omega (arith, pre, at) in
+              let long : w.cycle + 2016 ≤ next.cycle = went.rest.goal.5.later in
+              let high : 4097 < next.cycle = omega (arith, past, long) in
               let later : nat_le next.cycle 4097 ≡ false = grind (arith, nat_tests, high) in
               column_next ∙ sym (ap (λ b. if b then 255 else 44) later);
         }
@@ -215,8 +223,8 @@ module _ (layout : KeyLayout) (history : KeyHistory) (fine : IsKeyLayout layout)
         let t =
         every_tick edges events W beneath above bytes (has_kernel layout) (is_alike layout fine)
         (are_bytes layout fine) (low_over edges events W beneath above) layout (same_keys layout)
-        (no_prefix layout fine) (image_fn layout) n (watched w) m time
-        tie columns_above of_layout (subst (λ v. length v ≤ 4) (sym columns_above) four) released lamps ok.flips
+        (no_prefix layout fine) (image_fn layout) (watched w) m
+        tie columns_above of_layout released lamps ok.flips
         (λ byte is. offers_byte w.cpu tie.started.fine byte (ap offer tie.keyboard ∙ is)) asked in
         record {
           frame = frame;
@@ -236,16 +244,16 @@ module _ (layout : KeyLayout) (history : KeyHistory) (fine : IsKeyLayout layout)
           asked = asks_for edges events w tie.lit released (offer m.keys.keyboard)
               (meeting_from (keyboard layout) events w.cycle m) frame t.rest.goal.2 went.rest.goal.4;
           none = tied.column;
-          columns = selects_from joint bytes (has_kernel layout) w (entered_served w.cpu tie.started.entered) passes;
+          columns = selects_from joint bytes (has_kernel layout) w tie.started.served passes;
           cut = is_cut_by edges events w tie.lit released frame
               (cut_since events lit w.cycle released (at_look edges events w) (m.keys.keyboard.test == 0)
               (offer m.keys.keyboard));
           drives = drives_tick joint latch TICK bytes w
-              (Went edges events W beneath above bytes layout (same_keys layout) (no_prefix layout fine) (image_fn layout) n (watched w) m
-              time tie columns_above of_layout released lamps ok.flips frame)
+              (Went edges events W beneath above bytes layout (same_keys layout) (no_prefix layout fine) (image_fn layout) (watched w) m
+              tie columns_above of_layout released lamps ok.flips frame)
               (λ e. (at_tick joint TICK e ≡ true) × (e.cpu.p2 ≡ lit))
               (λ e g. (
-                (is_tick edges events (under beneath e) g.0.1.started, g.1.latch),
+                (is_tick edges events (under beneath e) g.0.started, g.1.latch),
                 ap (λ (s : W.State). s.good) g.1.board
                     ∙ driven_good joint latch w.cycle (tick_latch w.cpu.p2 lit frame) g.1.length 0 (watched w).board
                     (λ o a u. let p : o ≡ w.cycle + o - w.cycle = omega arith in ap (tick_latch w.cpu.p2 lit frame) p)
@@ -253,3 +261,35 @@ module _ (layout : KeyLayout) (history : KeyHistory) (fine : IsKeyLayout layout)
               ))
               t;
         }
+
+  -- and a tick in time, with four edges at most, comes to one in time
+  module _ (n : ℕ) (w : World Beside) (m : Whole LayeredKeyboard) (time : IsOnTime n w) (t : TiedInTime w m)
+      (four : length (shown (is_held m.keys.keyboard) (columns_in edges w.cycle)) ≤ 4) where
+    past : 4096 ≤ w.cycle
+    past = let early : 2 ≤ w.cpu.pre = t.started.entered.early in omega (arith, time, early)
+
+    few : length (edges_now (joint_board edges events) w) ≤ 4
+    few = subst (λ v. length v ≤ 4) (sym (columns w m past t.tied)) four
+
+    pub next_in_time : Tick (joint_board edges events) TICK bytes w
+        (λ e. IsOnTime (suc n) e × TiedInTime e (by_columns (keyboard layout) edges events w.cycle e.cycle m))
+    next_in_time =
+        let next = tied_next w m past t.tied in
+        record {
+          at = next.at;
+          first = next.first;
+          step = next.step;
+          rest = comes_as (joint_board edges events) TICK bytes
+              (λ e. Tied e (by_columns (keyboard layout) edges events w.cycle e.cycle m)
+              × Lasted (joint_board edges events) w e)
+              (λ e. IsOnTime (suc n) e × TiedInTime e (by_columns (keyboard layout) edges events w.cycle e.cycle m)) next.first
+              (λ e h.
+              let p = h.1.prompt t.started few in
+              let now : w.cycle + 2 ≡ 4096 + 2048 * n + w.cpu.pre = time in
+              let pass : e.cycle + w.cpu.pre ≡ w.cycle + 2048 + e.cpu.pre = p.1 in
+              (omega (arith, now, pass), record { tied = h.0; started = p.0 }))
+              next.rest;
+        }
+
+    pub drives_in_time : DrivesFrame edges events bytes (offer m.keys.keyboard) (meeting_from (keyboard layout) events w.cycle m) w
+    drives_in_time = tick_drives w m past t.tied

@@ -2,7 +2,8 @@
 use Rattle.std.specs.Prelude.{◌≡◌, ℕ, List, false}
 use Rattle.ctl_link.specs.Link.{is_busy}
 use Rattle.fw_keys.proofs.Kept.{Sound}
-use Rattle.fw_keys.specs.Frameless.{IsStarted, IsRepeating, shown_by, layers_by}
+use Rattle.fw_keys.proofs.Begun.{IsAnyStart}
+use Rattle.fw_keys.specs.Frameless.{IsRepeating, shown_by, layers_by}
 use Rattle.fw_keys.specs.Healing.{is_fn_held}
 use Rattle.fw_link.proofs.Wired.{IsReleased}
 use Rattle.joint_run.specs.Joint.{Beside, lights_of}
@@ -17,7 +18,7 @@ use Rattle.wires_agree.specs.Without.{seen_in_bytes}
 -- PC's side is the model's, no byte is under way, what noise is to turn round is a data bit or the parity, and the latch of port 2 pulls no wire and shows
 -- the lights that were shown last
 pub record Ties (bytes : List ℕ) (keys : Keys) (w : World Beside) (m : Whole LayeredKeyboard) : Type 0 where
-  pub started : IsStarted w.cpu
+  pub started : IsAnyStart w.cpu
   pub keyboard : shown_by w.cpu.ram ≡ m.keys.keyboard
   pub layers : layers_by w.cpu.ram ≡ m.keys.layers
   pub fn : m.keys.layers.fn_down ≡ is_fn_held bytes m.keys.keyboard

@@ -1,6 +1,6 @@
 -- The ways that a tick goes on any board above the joint board, by the PC's side at the look at the clock: what it
 -- drives is what the looks find.
-use Rattle.std.proofs.Common.{◌≡◌, ◌≤◌, ◌<◌, ℕ, ◌+◌, ◌*◌, ◌&&◌, ◌==◌, List, All, true, false, length}
+use Rattle.std.proofs.Common.{◌≡◌, ◌≤◌, ◌<◌, ℕ, ◌+◌, ◌*◌, ◌&&◌, ◌==◌, List, All, true, false}
 use Rattle.std.proofs.Common.{Some, None, refl, ap, ◌∙◌, inl, inr, arith}
 use Rattle.board_terms.specs.declared.event.Edge.{Edge}
 use Rattle.board_terms.specs.declared.event.HostEvent.{HostEvent}
@@ -10,7 +10,8 @@ use Rattle.ctl_wire.specs.Wire.{drive}
 use Rattle.fw_kernel.specs.Places.{HasKernel}
 use Rattle.fw_kernel.specs.declared.labels.TheConstants.{TICK}
 use Rattle.fw_keys.specs.Edges.{IsSilentAlike}
-use Rattle.fw_keys.specs.Frameless.{shown_by, IsStarted, IsRepeating, edges_now, latch_now, clock_now, data_now, data_again}
+use Rattle.fw_keys.proofs.Begun.{IsAnyStart}
+use Rattle.fw_keys.specs.Frameless.{shown_by, IsRepeating, latch_now, clock_now, data_now, data_again}
 use Rattle.fw_link.proofs.Board.{clock_is, data_is}
 use Rattle.fw_link.proofs.Got.{frame_value, frame_parity}
 use Rattle.fw_link.proofs.Outside.{received_lines}
@@ -37,11 +38,12 @@ use Rattle.wires_agree.proofs.Meetings.{request_at, requests}
 use Rattle.wires_agree.proofs.Spans.{IsAt}
 use Rattle.wires_agree.specs.Cycles.{board_cycles}
 use Rattle.wires_agree.specs.Ticks.{at_meeting}
-use Rattle.agreement.proofs.Timely.{released, quiet, sent, cut, got}
+use Rattle.agreement.proofs.AnyTick.{released, quiet, sent, cut, got}
 use Rattle.agreement.proofs.AtLook.{one_byte, sent_at, received_at}
-use Rattle.agreement.proofs.Happened.{at_look, Happened}
+use Rattle.agreement.proofs.Happened.{at_look}
 use Rattle.agreement.proofs.Lit.{at_clock, after_look}
 use Rattle.agreement.proofs.OnWires.{at_cell, at_clock_look}
+use Rattle.agreement.proofs.Ran.{Ran}
 use Rattle.agreement.proofs.Seen.{at_data, free_shows, request_shows}
 use Rattle.agreement.specs.Firmware.{Offers, clock_in, data_in, board_at}
 
@@ -49,7 +51,7 @@ module _ (edges : List Edge) (events : List HostEvent) (d : Board) (to : d.State
     (over : IsOver edges events d to) (bytes : List ℕ) (hk : HasKernel bytes) (alike : IsSilentAlike bytes)
     (small : All IsByte bytes)
     (low : (p1 p2 c : ℕ) (s : d.State) → (d.pins p1 p2 c s).bus < 256) (w : World d.State)
-    (s : IsStarted w.cpu) (repeats : IsRepeating bytes w.cpu.ram) (few : length (edges_now d w) ≤ 4)
+    (s : IsAnyStart w.cpu) (repeats : IsRepeating bytes w.cpu.ram)
     (lit : lights_of w.cpu.p2 ≡ (to w.board).shown) where
   -- the latch from the lights on, the tick's start, the PC's side at the look at the clock, and the keyboard
   abbrev v : ℕ
@@ -65,10 +67,10 @@ module _ (edges : List Edge) (events : List HostEvent) (d : Board) (to : d.State
   kbd = shown_by w.cpu.ram
 
   abbrev free_latch : IsReleased v
-  free_latch = released d bytes hk alike small low w s repeats few
+  free_latch = released d bytes hk alike small low w s repeats
 
   abbrev So : Meeting → Frame → World d.State → Type 0
-  So meeting frame u = Happened d bytes meeting frame w u
+  So meeting frame u = Ran d bytes meeting frame w u
 
   -- the look at the clock, and that at data two cycles later
   sees_clock : clock_now d w ≡ (drive b.side.port.link).clk
@@ -101,13 +103,13 @@ module _ (edges : List Edge) (events : List HostEvent) (d : Board) (to : d.State
 
   -- the power-on test runs
   pub testing : (kbd.test == 0) ≡ false → Tick d TICK bytes w (So Idle NoFrame)
-  testing runs = quiet d bytes hk alike small low w s repeats few Idle (inl runs)
+  testing runs = quiet d bytes hk alike small low w s repeats Idle (inl runs)
 
   -- the link is free, and nothing is offered
   pub idle : (kbd.test == 0) ≡ true → b.side.port.link ≡ Free → offer kbd ≡ None
       → Tick d TICK bytes w (So Idle NoFrame)
   idle no_test free none =
-      quiet d bytes hk alike small low w s repeats few Idle (inr (inl (
+      quiet d bytes hk alike small low w s repeats Idle (inr (inl (
         no_test,
         sees_clock ∙ ap (λ q. (drive q).clk) free,
         sees_data ∙ free_shows events v start free_latch b free,
@@ -117,7 +119,7 @@ module _ (edges : List Edge) (events : List HostEvent) (d : Board) (to : d.State
   -- the controller holds the clock
   pub inhibited : (kbd.test == 0) ≡ true → (drive b.side.port.link).clk ≡ false
       → Tick d TICK bytes w (So Inhibited NoFrame)
-  inhibited no_test holds = quiet d bytes hk alike small low w s repeats few Inhibited (no_test, sees_clock ∙ holds)
+  inhibited no_test holds = quiet d bytes hk alike small low w s repeats Inhibited (no_test, sees_clock ∙ holds)
 
   -- the lines of a tick with a frame; and what is beside the processor at a look of it
   abbrev lines : Frame → ℕ → Lines
@@ -156,7 +158,7 @@ module _ (edges : List Edge) (events : List HostEvent) (d : Board) (to : d.State
           → ((look : ℕ) → IsLook look → lets_at events (lines (SentFrame byte)) start b look ≡ true)
           → Tick d TICK bytes w (So Sent (SentFrame byte))
       sends_so codes high =
-          sent d bytes hk alike small low w s repeats few byte codes offers (λ look is. sees_look byte look is ∙ high look is)
+          sent d bytes hk alike small low w s repeats byte codes offers (λ look is. sees_look byte look is ∙ high look is)
 
       -- the controller pulls the clock at a look, and at none before: the frame is cut there
       cut_so : (look : ℕ) → IsLook look
@@ -164,7 +166,7 @@ module _ (edges : List Edge) (events : List HostEvent) (d : Board) (to : d.State
           → lets_at events (lines (SentFrame byte)) start b look ≡ false
           → Tick d TICK bytes w (So Cut (CutFrame byte look))
       cut_so look is high pulls =
-          cut d bytes hk alike small low w s repeats few byte look offers is
+          cut d bytes hk alike small low w s repeats byte look offers is
           (λ earlier at l. sees_look byte earlier at ∙ high earlier at l) (sees_look byte look is ∙ pulls)
 
   pub sends : (byte : ℕ) → (kbd.test == 0) ≡ true → offer kbd ≡ Some byte → IsWhole kbd.queue → b.side.port.link ≡ Free
@@ -205,7 +207,7 @@ module _ (edges : List Edge) (events : List HostEvent) (d : Board) (to : d.State
     gets_so : (kbd.test == 0) ≡ true → Tick d TICK bytes w (So (Got byte true) ReceivedFrame)
     gets_so no_test =
         let same = one_byte (data_in d w) (λ k. frame_bit byte (k + 1)) (λ k u. sees_bit k (omega (arith, u))) in
-        got d bytes hk alike small low w s repeats few byte true (same.0 ∙ frame_value byte less)
+        got d bytes hk alike small low w s repeats byte true (same.0 ∙ frame_value byte less)
         (same.1 ∙ ap (λ n. is_parity (frame_bit byte 9) n) (frame_value byte less) ∙ frame_parity byte less)
         (no_test, sees_clock ∙ ap (λ q. (drive q).clk) asks)
         (sees_data ∙ request_shows events v start free_latch b byte asks) (asks_again byte asks)

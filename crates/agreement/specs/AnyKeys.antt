@@ -18,6 +18,10 @@ use Rattle.agreement.specs.Agreement.{switched_on}
 abbrev pub longest_tick : ℕ
 longest_tick = 8000
 
+-- and at least so many, 5.04 milliseconds, however late the first of them is
+abbrev pub shortest_tick : ℕ
+shortest_tick = 2016
+
 -- and if so many keys changed, at most these
 abbrev pub tick_with : ℕ → ℕ
 tick_with keys = 2054 + 62 * keys
@@ -30,6 +34,8 @@ pub record NeverStops (from : World Beside) (bytes : List ℕ) (edges : List Edg
   pub first : (stamp : ℕ) → IsStart (joint_board edges events) TICK bytes from 0 stamp → stamp ≤ 1
   pub soon : (n stamp next : ℕ) → IsStart (joint_board edges events) TICK bytes from n stamp
       → IsStart (joint_board edges events) TICK bytes from (suc n) next → next ≤ stamp + longest_tick
+  pub apart : (n stamp next : ℕ) → IsStart (joint_board edges events) TICK bytes from n stamp
+      → IsStart (joint_board edges events) TICK bytes from (suc n) next → stamp + shortest_tick ≤ next
   pub by_keys : (n stamp next : ℕ) (s : IsStart (joint_board edges events) TICK bytes from n stamp)
       → IsStart (joint_board edges events) TICK bytes from (suc n) next
       → next ≤ stamp + tick_with (length (edges_now (joint_board edges events) s.state))

@@ -32,7 +32,8 @@ LateLaw =
     → joint_step (joint_board edges events) (image_of layout) w ≡ Some next
     → LooksLate (image_of layout) w.cpu next.cpu
 
--- and after a look at the clock wire the next comes within 24 cycles, 60 microseconds, while a byte is being sent
+-- and after a look at the clock wire the next comes within 24 cycles, 60 microseconds, while a byte is being sent, up to the
+-- look after the tenth rise of the clock
 abbrev pub SoonLaw : Type 0
 SoonLaw =
     (layout : KeyLayout) (edges : List Edge) (events : List HostEvent) → IsKeyLayout layout → (m : Cpu) → IsFine m

@@ -59,13 +59,6 @@ Finds d w ReceivedFrame meeting =
     (meeting ≡ Got (byte_in (data_in d w)) (right_in (data_in d w))) × IsOpen d w × (data_now d w ≡ false)
     × (data_again d w ≡ false)
 
--- the cycles that such a tick lasts at least, by its frame: up to the frame's end
-abbrev pub least_of : Frame → ℕ
-least_of NoFrame = 234
-least_of (SentFrame byte) = 628
-least_of (CutFrame byte look) = 266 + look
-least_of ReceivedFrame = 626
-
 -- in the queue that data memory shows no code is broken: after F0 is its code
 abbrev pub HasWholeCodes : List ℕ → Type 0
 HasWholeCodes ram = whole (shown_by ram).queue.break_started (shown_by ram).queue.bytes ≡ true

@@ -6,3 +6,4 @@ pub mod Executed
 pub mod Bytes
 pub mod AnyStart
 pub mod AnyKeys
+pub mod AnyCount

@@ -8,6 +8,7 @@
 #![tactic(auto)]
 
 ghost use Rattle.agreement.specs.Agreement.{AgreementLaw, AnyMemoryLaw, PromptLaw};
+ghost use Rattle.agreement.specs.AnyCount.{AnyCountLaw};
 ghost use Rattle.agreement.specs.AnyKeys.{AnyKeysLaw};
 ghost use Rattle.agreement.specs.AnyStart.{AsShown, FromAnyStart, ThinShowsFew};
 ghost use Rattle.agreement.specs.Executed.{ExecutedLaw, LateLaw, SoonLaw};
@@ -63,8 +64,9 @@ pub fn every_tick()
 /// interrupt, or calls: of the stack's eight entries the service takes one, and power-on, whose RETR ends a service that
 /// is marked. And if a look at the clock wire comes
 /// next after a row that puts port 2, a chip samples the wire at least 7 fifths of a cycle, 3.5 microseconds, after it
-/// has put the port. While a byte is being sent, the next look at the clock comes at most 24 cycles after each: no pull of
-/// 60 microseconds is missed. Nothing is done when it is called; the laws are its contract.
+/// has put the port. While a byte is being sent, up to the look after the tenth rise of the clock, the next look at the
+/// clock comes at most 24 cycles after each: no pull of 60 microseconds is missed. Nothing is done when it is called; the
+/// laws are its contract.
 pub fn keeps_to_the_board()
     ensures executed { ExecutedLaw }
     ensures late { LateLaw }
@@ -80,6 +82,16 @@ pub fn goes_on_from_any_start()
     ensures from_any_start { FromAnyStart }
     ensures as_shown { AsShown }
     ensures thin { ThinShowsFew }
+{}
+
+/// Whatever the layout's keys do, any number at once, bouncing or not, in any order, whatever bytes the host writes, whatever
+/// data bits and parities noise inverts, and whatever a part holds when it is switched on: the run goes on as the model does
+/// whose ticks get what the columns show, however long they last. At each tick start data memory shows the model's keyboard,
+/// and what was said is what the model says. A tick lasts at least 2,016 cycles (5.04 milliseconds), and at most 2,054 and 62
+/// for each key that changed. Once at most four change in each, the ticks are 2,048 cycles apart again, give or take one.
+/// Nothing is done when it is called; the law is its contract.
+pub fn goes_by_its_columns()
+    ensures any_count { AnyCountLaw }
 {}
 
 /// Whatever the keys and the PC do: for every layout, under any edges at any places, any number at once, bouncing or not,

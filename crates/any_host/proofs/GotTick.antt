@@ -57,7 +57,7 @@ module _ (w : Wiring) (wires : AreWires w) (rules : IsRuleful w) where
   all_small zero = tt
   all_small (suc c) = next_small c (all_small c) (w.host c).clk refl
 
-  module _ (x y : ℕ) (long : x + 626 ≤ y)
+  module _ (x y : ℕ) (long : x + 2016 ≤ y)
       (drives : (o : ℕ) → x + o < y → w.keyboard (x + o) ≡ frame_lines ReceivedFrame o)
       (at_clock : (w.pins (x + 256)).clk ≡ true) (at_data : (w.pins (x + 258)).dat ≡ false) (first : Ear)
       (rests : Kept 0 first (ear_to w x)) where

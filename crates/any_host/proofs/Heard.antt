@@ -21,7 +21,6 @@ use Rattle.any_host.specs.Hearing.{HearsEach, IsRight, RulefulLaw, got_before, g
 use Rattle.any_host.specs.Rules.{Ends, IsRuleful}
 use Rattle.any_host.specs.Ticks.{AreTicks, IsFound, frame_lines}
 use Rattle.any_host.specs.Wires.{AreWires, Wiring}
-use Rattle.agreement.specs.Firmware.{least_of}
 
 -- what is taken by either host, if both take the same
 either : (counts : Counting) (w : Wiring) (x y : ℕ) → taken_by Eleventh w y ≡ taken_by Eleventh w x
@@ -36,7 +35,7 @@ cut_by Tenth w ends x y eleven ten = ten ends
 cut_by Eleventh w ends x y eleven ten = eleven
 
 -- one that is sent
-module _ (w : Wiring) (wires : AreWires w) (rules : IsRuleful w) (x y : ℕ) (long : x + 628 ≤ y) (byte : ℕ) (small : byte < 256)
+module _ (w : Wiring) (wires : AreWires w) (rules : IsRuleful w) (x y : ℕ) (long : x + 2016 ≤ y) (byte : ℕ) (small : byte < 256)
     (drives : (o : ℕ) → x + o < y → w.keyboard (x + o) ≡ frame_lines (SentFrame byte) o)
     (looks : (look : ℕ) → IsLook look → (w.pins (x + (260 + look))).clk ≡ true)
     (at_clock : (w.pins (x + 256)).clk ≡ true) (at_data : (w.pins (x + 258)).dat ≡ true) (first : Ear)
@@ -105,7 +104,7 @@ module _ (counts : Counting) (w : Wiring) (wires : AreWires w) (rules : IsRulefu
           (λ ends. tenth.cut w wires (starts n) (starts (suc n)) (frames n) (ticks.long n) (ticks.drives n) byte look is h.1
           (look_within look h.1) h.2 (e n) rests ends))
       by (SentFrame byte) is h =
-          let k = took w wires rules (starts n) (starts (suc n)) (subst (λ f. starts n + least_of f ≤ starts (suc n)) is (ticks.long n)) byte h.1
+          let k = took w wires rules (starts n) (starts (suc n)) (ticks.long n) byte h.1
           (λ o l. ticks.drives n o l ∙ ap (λ f. frame_lines f o) is) h.4 h.3 h.2 (e n) rests refl counts ends in
           record {
             most = k.most;
@@ -116,11 +115,11 @@ module _ (counts : Counting) (w : Wiring) (wires : AreWires w) (rules : IsRulefu
       by ReceivedFrame is h =
           let drives : (o : ℕ) → starts n + o < starts (suc n) → w.keyboard (starts n + o) ≡ frame_lines ReceivedFrame o =
           λ o l. ticks.drives n o l ∙ ap (λ f. frame_lines f o) is in
-          let k = got.given_there w wires rules (starts n) (starts (suc n)) (subst (λ f. starts n + least_of f ≤ starts (suc n)) is (ticks.long n)) drives h.1 h.2 (e n) rests in
-          let r = got.received w wires rules (starts n) (starts (suc n)) (subst (λ f. starts n + least_of f ≤ starts (suc n)) is (ticks.long n)) drives h.1 h.2 (e n) rests in
+          let k = got.given_there w wires rules (starts n) (starts (suc n)) (ticks.long n) drives h.1 h.2 (e n) rests in
+          let r = got.received w wires rules (starts n) (starts (suc n)) (ticks.long n) drives h.1 h.2 (e n) rests in
           let none : t (suc n) ≡ t n =
           either counts w (starts n) (starts (suc n)) k.taken
-          (got_tenth.received w wires rules (starts n) (starts (suc n)) (subst (λ f. starts n + least_of f ≤ starts (suc n)) is (ticks.long n)) drives h.1 h.2 (e n) rests) in
+          (got_tenth.received w wires rules (starts n) (starts (suc n)) (ticks.long n) drives h.1 h.2 (e n) rests) in
           let byte : ℕ = byte_in (λ k. (w.pins (starts n + (306 + 32 * k))).dat) in
           let good : Bool = right_in (λ k. (w.pins (starts n + (306 + 32 * k))).dat) in
           let met : meetings n ≡ Got byte good = h.0 in

@@ -37,7 +37,6 @@ use Rattle.any_host.specs.Hearing.{HearsEach, sent_before, sent_by}
 use Rattle.any_host.specs.Rules.{Ends, IsRuleful}
 use Rattle.any_host.specs.Ticks.{AreTicks, IsFound}
 use Rattle.any_host.specs.Wires.{AreWires, Wiring}
-use Rattle.agreement.specs.Firmware.{least_of}
 
 -- the levels at the first looks, by the latch of the tick
 module _ (d : Board) (w : World d.State) (frame : Frame) where
@@ -155,9 +154,9 @@ module _ (layout : KeyLayout) (d : Board) (from : World d.State) (a : WorksAlone
         let q : (at n).state.cycle + i ≡ starts n + i = omega (arith, here) in
         ap of_run.latch q ∙ latch_is n i (omega (arith, l, m))))
 
-    far : (n o : ℕ) → o < least_of (a.frames n) → starts n + o < starts (suc n)
+    far : (n o : ℕ) → o < 2016 → starts n + o < starts (suc n)
     far n o l =
-        let room : a.starts n + least_of (a.frames n) ≤ a.starts (suc n) = a.apart n in
+        let room : a.starts n + 2016 ≤ a.starts (suc n) = a.apart n in
         omega (arith, room, l)
 
     released : (v : ℕ) → IsLetGo v → IsReleased v
@@ -175,8 +174,8 @@ module _ (layout : KeyLayout) (d : Board) (from : World d.State) (a : WorksAlone
         (λ o l. of_run.data_wire (starts n + o) ∙ ap (λ (p : Pins). p.t1) (shows n o (far n o l)))
       where
         by : (f : Frame) → Finds d (at n).state f (a.meetings n)
-            → ((o : ℕ) → o < least_of f → (w.pins (starts n + o)).clk ≡ (levels_at d (at n).state f o).t0)
-            → ((o : ℕ) → o < least_of f → (w.pins (starts n + o)).dat ≡ (levels_at d (at n).state f o).t1)
+            → ((o : ℕ) → o < 2016 → (w.pins (starts n + o)).clk ≡ (levels_at d (at n).state f o).t0)
+            → ((o : ℕ) → o < 2016 → (w.pins (starts n + o)).dat ≡ (levels_at d (at n).state f o).t1)
             → IsFound w.pins (starts n) f (a.meetings n)
         by NoFrame h c s = no_frame d (at n).state (a.meetings n) h
         by (SentFrame byte) h c s = (
@@ -211,7 +210,7 @@ module _ (layout : KeyLayout) (d : Board) (from : World d.State) (a : WorksAlone
           (up_to_first d (image_of layout) from begins of_run.latch of_run.of_run (a.starts 0) (at 0) (λ c. 255)
           (λ e. at_tick d TICK e ≡ true) (λ e q. q) a.first c l);
       long = λ n.
-          let room : a.starts n + least_of (a.frames n) ≤ a.starts (suc n) = a.apart n in omega (arith, room);
+          let room : a.starts n + 2016 ≤ a.starts (suc n) = a.apart n in omega (arith, room);
       drives = λ n o l.
           of_run.keyboard (starts n + o) ∙ ap latch_of (latch_is n o l)
           ∙ same_lines (latch_now d (at n).state) (released (latch_now d (at n).state) (tick n).afterwards)

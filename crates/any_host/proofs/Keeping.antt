@@ -45,7 +45,7 @@ use Rattle.agreement.proofs.Placed.{IsOfLayout}
 use Rattle.agreement.proofs.AnyTick.{every}
 use Rattle.agreement.proofs.Ran.{Ran}
 use Rattle.fw_logic.proofs.Sweep.{selects_from}
-use Rattle.agreement.specs.Firmware.{Finds, HasNoPrefix, least_of}
+use Rattle.agreement.specs.Firmware.{Finds, HasNoPrefix}
 use Rattle.any_host.proofs.Above.{finds_same}
 use Rattle.any_host.proofs.OwnKeys.{edges_placed, next_placed}
 use Rattle.any_host.specs.AnyPins.{ShowsOwnKeys, TicksBy, keyboard_tick}
@@ -185,7 +185,7 @@ module _ (layout : KeyLayout) (fine : IsKeyLayout layout) (d : Board)
         drives_tick d latch TICK bytes w (Ran W bytes meeting frame (watched w))
         (λ e. (at_tick d TICK e ≡ true) × (e.cpu.p2 ≡ lit))
         (λ e h.
-        let later : w.cycle + least_of frame ≤ e.cycle = h.later in
+        let later : w.cycle + 2016 ≤ e.cycle = h.later in
         let n : ℕ = e.cycle - w.cycle in
         let cycles : e.cycle ≡ w.cycle + n = omega (arith, later) in (
           (starts_tick d (bare e) h.started.served, h.latch),

@@ -5,7 +5,6 @@ use Rattle.std.proofs.lemmas.Bool.Decides.{nat_tests}
 use Rattle.std.specs.declared.option.Option.{Option}
 use Rattle.bits.proofs.Every.{and-left, and-right}
 use Rattle.fw_compile.specs.Image.{image_of}
-use Rattle.fw_link.specs.Latch.{Frame, NoFrame, SentFrame, CutFrame, ReceivedFrame}
 use Rattle.fw_logic.specs.Boards.{numbered, power_on}
 use Rattle.joint_run.specs.Joint.{latch_of}
 use Rattle.joint_run.specs.Run.{Board, World, after_cycles, after_step, joint_step, run_at, seen, step_on}
@@ -14,7 +13,6 @@ use Rattle.mcs48_core.specs.Step.{Stepped, stepped}
 use Rattle.any_host.proofs.Run.{works_alone}
 use Rattle.any_host.specs.AnyHost.{LatchLaw, driven_to}
 use Rattle.any_host.specs.AnyPins.{WorksAlone}
-use Rattle.agreement.specs.Firmware.{least_of}
 
 some_same : {A : Type 0} (a b : A) → Some a ≡ Some b → a ≡ b
 some_same a b e = cc
@@ -51,19 +49,12 @@ module _ (layout : KeyLayout) (d : Board) (from : World d.State) (a : WorksAlone
       later_by d (r (j + m)) (r (suc (j + m))) (stepped (image_of layout) (seen d (r (j + m))) (r (j + m)).cpu) (step (j + m)) in
       subst (λ i. (r j).cycle ≤ (r i).cycle) z (omega (arith, before, next))
 
-  some_least : (f : Frame) → 234 ≤ least_of f
-  some_least NoFrame = omega arith
-  some_least (SentFrame byte) = omega arith
-  some_least (CutFrame byte look) = omega arith
-  some_least ReceivedFrame = omega arith
-
   count : (c : ℕ) → c ≤ a.starts c
   count zero = omega arith
   count (suc c) =
       let l : c ≤ a.starts c = count c in
-      let m : a.starts c + least_of (a.frames c) ≤ a.starts (suc c) = a.apart c in
-      let n : 234 ≤ least_of (a.frames c) = some_least (a.frames c) in
-      omega (arith, l, m, n)
+      let m : a.starts c + 2016 ≤ a.starts (suc c) = a.apart c in
+      omega (arith, l, m)
 
   -- whether a cycle is one of a step
   abbrev in_step : ℕ → ℕ → Bool

@@ -32,7 +32,6 @@ use Rattle.agreement.specs.Agreement.{IsPrompt}
 use Rattle.agreement.specs.AnyKeys.{tick_with}
 use Rattle.any_host.proofs.Keeping.{Keeps, kept, starts_tick, tick, ticks_by}
 use Rattle.any_host.specs.AnyPins.{AnyPinsLaw, ShowsOwnKeys, TicksBy, WorksAlone, keyboard_after, keyboard_tick}
-use Rattle.agreement.specs.Firmware.{least_of}
 
 module _ (layout : KeyLayout) (fine : IsKeyLayout layout) (d : Board)
     (low : (p1 p2 c : ℕ) (s : d.State) → (d.pins p1 p2 c s).bus < 256) (m : Cpu) (small : IsFine m) (board : d.State) where
@@ -130,7 +129,7 @@ module _ (layout : KeyLayout) (fine : IsKeyLayout layout) (d : Board)
           w = c.end;
           k = keyboard_tick layout f.meeting (edges_now d s.w) s.k;
           nth = (s.w, s.nth, record { at = t.at; first = t.first; step = t.step; rest = rest });
-          past = (let l : s.w.cycle + least_of f.frame ≤ c.end.cycle = c.goal.later in let p : 4096 ≤ s.w.cycle = s.past in omega (arith, l, p));
+          past = (let l : s.w.cycle + 2016 ≤ c.end.cycle = c.goal.later in let p : 4096 ≤ s.w.cycle = s.past in omega (arith, l, p));
           keeps = kept layout fine d low s.w s.k s.keeps (shows n s) f.frame f.meeting f.finds c.end c.goal;
         }
 
@@ -179,9 +178,9 @@ module _ (layout : KeyLayout) (fine : IsKeyLayout layout) (d : Board)
         (tick layout fine d low (station n).w (station n).k (station n).keeps (shows n (station n)) (frames n) (meetings n)
         (at n).finds).rest.goal
 
-    apart : (n : ℕ) → (station n).w.cycle - 4096 + least_of (frames n) ≤ (station (suc n)).w.cycle - 4096
+    apart : (n : ℕ) → (station n).w.cycle - 4096 + 2016 ≤ (station (suc n)).w.cycle - 4096
     apart n =
-        let l : (station n).w.cycle + least_of (frames n) ≤ (station (suc n)).w.cycle = (ran_on n).later in
+        let l : (station n).w.cycle + 2016 ≤ (station (suc n)).w.cycle = (ran_on n).later in
         let p : 4096 ≤ (station n).w.cycle = (station n).past in
         omega (arith, l, p)
 

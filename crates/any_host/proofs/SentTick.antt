@@ -53,7 +53,7 @@ data_level byte k i few l = by k few (nat_lt i 2) refl
         ∙ sent_data byte k (i - 2) (omega (arith, l)) (omega (arith, l, few))
         ∙ ap (λ b. frame_bit byte (if b then k else suc k)) soon
 
-module _ (w : Wiring) (wires : AreWires w) (rules : IsRuleful w) (x y : ℕ) (long : x + 628 ≤ y) (byte : ℕ) (small : byte < 256)
+module _ (w : Wiring) (wires : AreWires w) (rules : IsRuleful w) (x y : ℕ) (long : x + 2016 ≤ y) (byte : ℕ) (small : byte < 256)
     (drives : (o : ℕ) → x + o < y → w.keyboard (x + o) ≡ frame_lines (SentFrame byte) o)
     (looks : (look : ℕ) → IsLook look → (w.pins (x + (260 + look))).clk ≡ true)
     (at_clock : (w.pins (x + 256)).clk ≡ true) (at_data : (w.pins (x + 258)).dat ≡ true) (first : Ear)

@@ -9,9 +9,8 @@ use Rattle.any_host.proofs.Offsets.{after, pulled_by}
 use Rattle.any_host.specs.Ears.{Ear, ear_to}
 use Rattle.any_host.specs.Ticks.{frame_lines}
 use Rattle.any_host.specs.Wires.{AreWires, Wiring}
-use Rattle.agreement.specs.Firmware.{least_of}
 
-module _ (w : Wiring) (wires : AreWires w) (x y : ℕ) (frame : Frame) (long : x + least_of frame ≤ y)
+module _ (w : Wiring) (wires : AreWires w) (x y : ℕ) (frame : Frame) (long : x + 2016 ≤ y)
     (drives : (o : ℕ) → x + o < y → w.keyboard (x + o) ≡ frame_lines frame o) where
   abbrev e : ℕ → Ear
   e = ear_to w
@@ -38,7 +37,7 @@ module _ (w : Wiring) (wires : AreWires w) (x y : ℕ) (frame : Frame) (long : x
   module _ (byte look : ℕ) (is : frame ≡ CutFrame byte look) (at : IsLook look) (far : look ≤ 334)
       (low : (w.pins (x + (260 + look))).clk ≡ false) (first : Ear) (rests : Kept 0 first (e x)) where
     pub room : x + (266 + look) ≤ y
-    room = subst (λ f. x + least_of f ≤ y) is long
+    room = omega (arith, long, far)
 
     clk : (o : ℕ) → o < 266 + look → (w.keyboard (x + o)).clk ≡ (frame_lines (CutFrame byte look) o).clk
     clk o l = ap (λ l. l.clk) (drives o (omega (arith, room, l))) ∙ ap (λ f. (frame_lines f o).clk) is

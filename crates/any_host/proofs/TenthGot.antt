@@ -13,7 +13,7 @@ use Rattle.any_host.specs.Rules.{IsRuleful}
 use Rattle.any_host.specs.Ticks.{frame_lines}
 use Rattle.any_host.specs.Wires.{AreWires, Wiring}
 
-module _ (w : Wiring) (wires : AreWires w) (rules : IsRuleful w) (x y : ℕ) (long : x + 626 ≤ y)
+module _ (w : Wiring) (wires : AreWires w) (rules : IsRuleful w) (x y : ℕ) (long : x + 2016 ≤ y)
     (drives : (o : ℕ) → x + o < y → w.keyboard (x + o) ≡ frame_lines ReceivedFrame o)
     (at_clock : (w.pins (x + 256)).clk ≡ true) (at_data : (w.pins (x + 258)).dat ≡ false) (first : Ear)
     (rests : Kept 0 first (ear_to w x)) where

@@ -17,7 +17,7 @@ use Rattle.any_host.specs.Rules.{IsRuleful}
 use Rattle.any_host.specs.Ticks.{frame_lines}
 use Rattle.any_host.specs.Wires.{AreWires, Wiring}
 
-module _ (w : Wiring) (wires : AreWires w) (rules : IsRuleful w) (x y : ℕ) (long : x + 628 ≤ y) (byte : ℕ) (small : byte < 256)
+module _ (w : Wiring) (wires : AreWires w) (rules : IsRuleful w) (x y : ℕ) (long : x + 2016 ≤ y) (byte : ℕ) (small : byte < 256)
     (drives : (o : ℕ) → x + o < y → w.keyboard (x + o) ≡ frame_lines (SentFrame byte) o)
     (looks : (look : ℕ) → IsLook look → (w.pins (x + (260 + look))).clk ≡ true)
     (at_clock : (w.pins (x + 256)).clk ≡ true) (at_data : (w.pins (x + 258)).dat ≡ true) (first : Ear)

@@ -13,9 +13,8 @@ use Rattle.any_host.specs.Ears.{Ear, Gives, Mode, Takes, Tenth, ear_to, fell, ta
 use Rattle.any_host.specs.Rules.{Ends}
 use Rattle.any_host.specs.Ticks.{frame_lines}
 use Rattle.any_host.specs.Wires.{AreWires, Wiring}
-use Rattle.agreement.specs.Firmware.{least_of}
 
-module _ (w : Wiring) (wires : AreWires w) (x y : ℕ) (frame : Frame) (long : x + least_of frame ≤ y)
+module _ (w : Wiring) (wires : AreWires w) (x y : ℕ) (frame : Frame) (long : x + 2016 ≤ y)
     (drives : (o : ℕ) → x + o < y → w.keyboard (x + o) ≡ frame_lines frame o) where
   abbrev t : ℕ → List (Option ℕ)
   t = taken_at_tenth w

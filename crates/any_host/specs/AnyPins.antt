@@ -23,8 +23,8 @@ use Rattle.mcs48_core.specs.Cpu.{Cpu}
 use Rattle.mcs48_core.specs.declared.levels.Pins.{Pins}
 use Rattle.mcs48_ranges.specs.Sizes.{IsFine}
 use Rattle.agreement.specs.Agreement.{IsPrompt}
-use Rattle.agreement.specs.AnyKeys.{tick_with}
-use Rattle.agreement.specs.Firmware.{Finds, least_of}
+use Rattle.agreement.specs.AnyKeys.{shortest_tick, tick_with}
+use Rattle.agreement.specs.Firmware.{Finds}
 use Rattle.agreement.specs.Wires.{IsLetGo}
 
 -- whether a tick's columns show a key as down: each column is read in its own cycle
@@ -65,9 +65,10 @@ pub record TicksBy (layout : KeyLayout) (d : Board) (k : LayeredKeyboard) (frame
       (λ e. (at_tick d TICK e ≡ true) × (e.cpu.p2 ≡ latch_now d w))
   pub columns : Selects d TICK (image_of layout) w (λ c. column_latch w.cpu.p1 (c - w.cycle))
 
--- the run from a state is never stuck; up to its first tick start port 2 pulls no wire and lights no light; each
--- start comes at most 2,054 cycles, and 62 more for each changed key, after the one before; if no tick shows more than
--- four, start n is at its multiple of 2,048 or one cycle past it; and at each start is the model's keyboard, after the ticks before
+-- the run from a state is never stuck; up to its first tick start port 2 pulls no wire and lights no light; each start
+-- comes at least 2,016 cycles after the one before, and at most 2,054, and 62 more for each changed key; if no tick shows
+-- more than four, start n is at its multiple of 2,048 or one cycle past it; and at each start is the model's keyboard,
+-- after the ticks before
 pub record WorksAlone (layout : KeyLayout) (d : Board) (from : World d.State) : Type 0 where
   pub goes_on : (k : ℕ) → (w : World d.State) × (run_at d (image_of layout) from k ≡ Some w)
   pub first : Drives d TICK (image_of layout) from (λ c. 255) (λ e. at_tick d TICK e ≡ true)
@@ -76,7 +77,7 @@ pub record WorksAlone (layout : KeyLayout) (d : Board) (from : World d.State) : 
   pub frames : ℕ → Frame
   pub meetings : ℕ → Meeting
   pub edges : ℕ → List (ℕ × Bool)
-  pub apart : (n : ℕ) → starts n + least_of (frames n) ≤ starts (suc n)
+  pub apart : (n : ℕ) → starts n + shortest_tick ≤ starts (suc n)
   pub soon : (n : ℕ) → starts (suc n) ≤ starts n + tick_with (length (edges n))
   pub prompt : ((n : ℕ) → length (edges n) ≤ 4) → (n : ℕ) → IsPrompt n (starts n)
   pub ticks : (n stamp : ℕ) (s : IsStart d TICK (image_of layout) from n stamp)

@@ -1,6 +1,6 @@
 -- The ticks of the keyboard on the wires: what it drives in each, and what its looks find.
 use Rattle.std.specs.Prelude.{◌≡◌, ◌≤◌, ◌<◌, ◌⊎◌, ℕ, suc, ◌+◌, ◌*◌, true, false}
-use Rattle.agreement.specs.Firmware.{least_of}
+use Rattle.agreement.specs.AnyKeys.{shortest_tick}
 use Rattle.board_terms.specs.declared.lines.Lines.{Lines}
 use Rattle.fw_link.specs.Latch.{Frame, NoFrame, SentFrame, CutFrame, ReceivedFrame, IsLook, tick_latch}
 use Rattle.fw_link.specs.Reading.{byte_in, right_in}
@@ -29,6 +29,6 @@ IsFound pins start ReceivedFrame meeting =
 -- what its looks find
 pub record AreTicks (w : Wiring) (starts : ℕ → ℕ) (frames : ℕ → Frame) (meetings : ℕ → Meeting) : Type 0 where
   pub before : (c : ℕ) → c < starts 0 → (w.keyboard c).clk ≡ true
-  pub long : (n : ℕ) → starts n + least_of (frames n) ≤ starts (suc n)
+  pub long : (n : ℕ) → starts n + shortest_tick ≤ starts (suc n)
   pub drives : (n o : ℕ) → starts n + o < starts (suc n) → w.keyboard (starts n + o) ≡ frame_lines (frames n) o
   pub found : (n : ℕ) → IsFound w.pins (starts n) (frames n) (meetings n)

@@ -7,7 +7,7 @@ use Rattle.mcs48_core.specs.Status.{digit}
 use Rattle.mcs48_ranges.specs.Sizes.{IsFine}
 use Rattle.fw_logic.proofs.Entered.{IsServed, entered_is, entered_served, entering_is, served_is}
 use Rattle.fw_logic.proofs.Service.{begun, entering}
-use Rattle.fw_logic.proofs.Timers.{TimerState, timer_of}
+use Rattle.fw_logic.proofs.Timers.{IsRested, TimerState, timer_of}
 use Rattle.fw_keys.proofs.Patch.{still}
 use Rattle.fw_keys.specs.State.{Inv}
 use Rattle.fw_keys.specs.Edges.{row_edges, column_edges}
@@ -55,14 +55,23 @@ columns_count ch dn c (suc n) =
     ∙ ap (λ k. k + length (column_edges (suc c) n ch dn)) (rows_count (8 * c) 0 8 (ch c) (dn c))
     ∙ ap (λ k. marks 0 8 (ch c) + k) (columns_count ch dn (suc c) n)
 
--- a tick start at which data memory holds a keyboard, however late it is
+-- a tick start at which data memory holds a keyboard, however late it is, if the timer isn't about to overflow again
 pub record IsAnyStart (m : Cpu) : Type 0 where
   pub served : IsServed m
   pub fine : IsFine m
   pub inv : Inv (cells_in m.ram)
+  pub rested : IsRested (timer_of m)
 
 pub any_start : (m : Cpu) → IsStarted m → IsAnyStart m
-any_start m s = record { served = entered_served m s.entered; fine = s.fine; inv = s.inv }
+any_start m s = record {
+  served = entered_served m s.entered;
+  fine = s.fine;
+  inv = s.inv;
+  rested = record {
+    clear = s.entered.clear;
+    low = (let t : m.t ≡ 0 = s.entered.t in let late : m.pre ≤ 3 = s.entered.late in omega (arith, t, late));
+  };
+}
 
 -- its processor is one that enters the service
 pub start_entering : (m : Cpu) → IsAnyStart m → m ≡ entering (timer_of m) (cells_in m.ram) (drop 112 m.ram) m
@@ -70,11 +79,12 @@ start_entering m s = entering_is m s.served
 
 -- and the other way round
 pub entering_start : (b : TimerState) (now : ℕ → ℕ) (ring : List ℕ) (m : Cpu) → IsFine (entering b now ring m) → Inv now
-    → IsAnyStart (entering b now ring m)
-entering_start b now ring m fine inv = record {
+    → IsRested b → IsAnyStart (entering b now ring m)
+entering_start b now ring m fine inv rested = record {
   served = served_is b now ring m fine.long;
   fine = fine;
   inv = still (refl, refl, refl, refl, refl) inv;
+  rested = rested;
 }
 
 -- one that begins in time is started

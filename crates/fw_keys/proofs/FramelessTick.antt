@@ -191,7 +191,9 @@ module _ (d : Board) (bytes : List ℕ) (hk : HasKernel bytes) (alike : IsSilent
   -- of which G is known
   pub record Came (meeting : Meeting) (last_off : ℕ) (G : TimerState → Stage d.State → Type 0) (v : World d.State)
       : Type 0 where
-    pub started : IsAnyStart v.cpu
+    pub started : 3 + last_off ≤ 8000 → IsAnyStart v.cpu
+    pub long : w.cycle + 2016 ≤ v.cycle
+    pub settles : 3 + last_off ≤ 2000 → IsStarted v.cpu
     pub within : (n : ℕ) → 2054 ≤ n → 7 + last_off ≤ n → v.cycle ≤ w.cycle + n
     pub prompt : IsStarted m → 3 + last_off ≤ 2040
         → IsStarted v.cpu × (v.cycle + m.pre ≡ w.cycle + 2048 + v.cpu.pre)
@@ -239,8 +241,19 @@ module _ (d : Board) (bytes : List ℕ) (hk : HasKernel bytes) (alike : IsSilent
       let at : x + 3 + g.from.off ≡ x + (3 + g.from.off) = omega arith in
       let step : ℕ → d.State → d.State = d.cycle g.from.cpu.p2 in
       record {
-        started = subst (λ c. IsAnyStart c) (sym vcpu)
-            (entering_start n.timer n.now n.ring e.cpu fineB (still (refl, refl, refl, refl, refl) g.inv));
+        started = λ room.
+            subst (λ c. IsAnyStart c) (sym vcpu)
+            (entering_start n.timer n.now n.ring e.cpu fineB (still (refl, refl, refl, refl, refl) g.inv)
+            (n.rested s.rested room));
+        long = (let passed : 2016 ≤ e.off + n.waited = n.long s.rested in omega (arith, cycle, passed));
+        settles = λ room.
+            let p = n.settles s.rested room in
+            let there : v.cpu ≡ begun p.0 n.timer.tf n.timer.last n.now n.ring e.cpu =
+            vcpu ∙ ap (λ b. entering b n.now n.ring e.cpu) p.2 in
+            subst (λ c. IsStarted c) (sym there)
+            (started_is p.0 p.1 n.timer.tf n.timer.last n.now n.ring e.cpu
+            (subst (λ b. IsFine (entering b n.now n.ring e.cpu)) p.2 fineB)
+            (still (refl, refl, refl, refl, refl) g.inv));
         within = λ k least most.
             let short : e.off + n.waited ≤ k = n.within k least (omega (arith, most)) in omega (arith, cycle, short);
         prompt = λ started room.

@@ -1,5 +1,5 @@
 -- Blocks one after another.
-use Rattle.std.proofs.Common.{◌≡◌, ◌≤◌, ℕ, suc, zero, ◌+◌, List, true, nat_le, Some, refl, ap, sym, ◌∙◌, subst}
+use Rattle.std.proofs.Common.{◌≡◌, ◌*◌, ◌≤◌, ℕ, suc, zero, ◌+◌, List, true, nat_le, Some, refl, ap, sym, ◌∙◌, subst}
 use Rattle.std.proofs.Common.{arith, zero-add, add-zero}
 use Rattle.std.proofs.lemmas.Bool.Decides.{nat_tests}
 use Rattle.mcs48_core.specs.Cpu.{Cpu}
@@ -52,7 +52,15 @@ module _ (d : Board) (code : Code) (has : HasRows code) where
             record { count = omega (arith, c); timing = k.timing; tf = k.tf; rq = k.rq; tim_on = k.tim_on };
         over = λ timed timing on.
             let k = h.over timed timing on in
-            record { timing = k.timing; tim_on = k.tim_on; keeps = k.keeps; asks = λ room. k.asks (omega (arith, room)) };
+            let n : ℕ = k.counts.0 in
+            let c : total (timer_parts h.end.cpu) + s.off + 8192 * n ≡ total (timer_parts s.cpu) + h.end.off = k.counts.1 in
+            record {
+              timing = k.timing;
+              tim_on = k.tim_on;
+              keeps = k.keeps;
+              asks = λ room. k.asks (omega (arith, room));
+              counts = (n, omega (arith, c));
+            };
       }
 
   -- a law of a block, from a stage at which the block begins

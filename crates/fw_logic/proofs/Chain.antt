@@ -142,6 +142,7 @@ module _ (d : Board) (code : Code) (has : HasRows code) (x : ℕ) where
               tim_on = on;
               keeps = λ q. q;
               asks = λ room. absurd (omega (arith, room, pre, t));
+              counts = (0, omega arith);
             };
       }
 

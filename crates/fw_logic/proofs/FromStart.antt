@@ -204,6 +204,14 @@ module _ (d : Board) (bytes : List ℕ) (has : HasKernel bytes) (w : World d.Sta
           punctual = λ l few is room.
               let pre : w.cpu.pre - 2 + 2 ≡ l + 2 = ap (λ (b : TimerState). b.pre) is in
               (done.clear, omega (arith, counted, early, afterwards, pre));
+          counted = λ rest. record {
+            first = 6147 + w.cpu.pre;
+            least = omega arith;
+            most = (let late : w.cpu.pre ≤ 3 = s.late in omega (arith, late));
+            overflows = 0;
+            count = omega (arith, counted, afterwards);
+            none = λ e. done.clear;
+          };
         } in
         let same : world_at x end ≡ e = ap (λ c. record { cpu = e.cpu; board = e.board; cycle = c }) there in
         subst (λ u. Comes d TICK bytes u (IsNext d w e)) same

@@ -1,5 +1,5 @@
 -- From the end of a tick's work to the next tick start, however long the work took.
-use Rattle.std.proofs.Common.{◌≡◌, ◌≤◌, ◌<◌, ℕ, ◌+◌, ◌*◌, List, Bool, true, false}
+use Rattle.std.proofs.Common.{◌≡◌, ◌≤◌, ◌<◌, ℕ, zero, suc, ◌+◌, ◌*◌, List, Bool, true, false}
 use Rattle.std.proofs.Common.{refl, ap, sym, ◌∙◌, subst, arith, inl, inr, ◌⊎◌}
 use Rattle.mcs48_core.specs.declared.processor.Count.TheVariants.{Timer}
 use Rattle.mcs48_core.specs.Cpu.{Cpu}
@@ -14,7 +14,7 @@ use Rattle.fw_logic.proofs.Blocks.{ticks_add}
 use Rattle.fw_logic.proofs.Laws.{comes_by, comes_here, comes_as}
 use Rattle.fw_logic.proofs.Service.{waiting, plain, serving, entering, later}
 use Rattle.fw_logic.proofs.Frame.{IsBegun, begins, entered_by, enters, given_back, back}
-use Rattle.fw_logic.proofs.Timers.{TimerState, IsInRange, RunOn, timer_of, on_time, run_on, runs_on}
+use Rattle.fw_logic.proofs.Timers.{TimerState, IsInRange, IsRested, RunOn, timer_of, on_time, run_on, runs_on}
 
 -- the work has come to the service's end, with the way back on the stack as it was, by an offset
 pub record IsOver (d : Board) (last_off : ℕ) (R : (ℕ → ℕ) → List ℕ → Stage d.State → Type 0)
@@ -50,6 +50,19 @@ pub record Next (d : Board) (x : ℕ) (b : TimerState) (last_off : ℕ) (R : (�
   pub within : (n : ℕ) → 2054 ≤ n → last_off + 4 ≤ n → end.off + waited ≤ n
   pub prompt : (late : ℕ) → late ≤ 1 → b ≡ on_time late b.tf b.last → last_off ≤ 2040
       → IsPrompt late timer (end.off + waited)
+  pub long : IsRested b → 2016 ≤ end.off + waited
+  pub rested : IsRested b → last_off ≤ 8000 → IsRested timer
+  pub settles : IsRested b → last_off ≤ 2000
+      → (late : ℕ) × (late ≤ 1) × (timer ≡ on_time late timer.tf timer.last)
+
+-- what the timer counts from 6,144 on, or from up to 32 more, overflows and goes on from 0
+pub record IsCounted (off : ℕ) (k : Cpu) : Type 0 where
+  pub first : ℕ
+  pub least : 6144 ≤ first
+  pub most : first ≤ 6176
+  pub overflows : ℕ
+  pub count : total (timer_parts k) + 3 + 8192 * overflows ≡ first + off
+  pub none : overflows ≡ 0 → k.rq ≡ false
 
 -- where the work's end finds the timer: an overflow asks, or it hasn't come; and it hasn't if start and work are in time
 pub record IsTimed (b : TimerState) (last_off off : ℕ) (k : Cpu) : Type 0 where
@@ -57,6 +70,7 @@ pub record IsTimed (b : TimerState) (last_off off : ℕ) (k : Cpu) : Type 0 wher
   pub asks : (k.rq ≡ true) ⊎ ((k.rq ≡ false) × (6144 + off ≤ total (timer_parts k) + 3))
   pub punctual : (late : ℕ) → late ≤ 1 → b ≡ on_time late b.tf b.last → last_off ≤ 2040
       → (k.rq ≡ false) × (total (timer_parts k) + 3 ≡ 6149 + late + off)
+  pub counted : IsRested b → IsCounted off k
 
 module _ (d : Board) (bytes : List ℕ) (has : HasKernel bytes) where
   module _ (x : ℕ) (b : TimerState) (last_off : ℕ) (R : (ℕ → ℕ) → List ℕ → Stage d.State → Type 0)
@@ -87,6 +101,31 @@ module _ (d : Board) (bytes : List ℕ) (has : HasKernel bytes) where
 
     runs : (t1 : Bool) → RunOn 2 (timer_of k) (back_timer t1)
     runs t1 = runs_on 2 t1 (timer_of k) (record { t = timed.timing.t; pre = timed.timing.pre }) (omega arith)
+
+    -- it is due since an overflow
+    overflown : (t1 : Bool) → (back_timer t1).rq ≡ true → (c : IsCounted off k)
+        → 32 * (back_timer t1).t + (back_timer t1).pre + 8193 ≤ c.first + off
+    overflown t1 due c = by c.overflows refl (runs t1).counts.0 refl
+      where
+        by : (n : ℕ) → c.overflows ≡ n → (m : ℕ) → (runs t1).counts.0 ≡ m
+            → 32 * (back_timer t1).t + (back_timer t1).pre + 8193 ≤ c.first + off
+        by zero e zero g =
+            let count : 32 * (back_timer t1).t + (back_timer t1).pre + 8192 * (runs t1).counts.0 ≡ 32 * k.t + k.pre + 2 =
+            (runs t1).counts.1 in
+            let low : (back_timer t1).pre < 32 = (runs t1).range.pre in
+            let high : (back_timer t1).t < 256 = (runs t1).range.t in
+            let still : (back_timer t1).rq ≡ k.rq = (runs t1).still (omega (arith, count, g, low, high)) in
+            absurd (let both : true ≡ false = sym due ∙ still ∙ c.none e in cc)
+        by (suc n) e m g =
+            let count : 32 * (back_timer t1).t + (back_timer t1).pre + 8192 * (runs t1).counts.0 ≡ 32 * k.t + k.pre + 2 =
+            (runs t1).counts.1 in
+            let before : 32 * k.t + k.pre + 3 + 8192 * c.overflows ≡ c.first + off = c.count in
+            omega (arith, count, before, e, g)
+        by zero e (suc m) g =
+            let count : 32 * (back_timer t1).t + (back_timer t1).pre + 8192 * (runs t1).counts.0 ≡ 32 * k.t + k.pre + 2 =
+            (runs t1).counts.1 in
+            let before : 32 * k.t + k.pre + 3 + 8192 * c.overflows ≡ c.first + off = c.count in
+            omega (arith, count, before, e, g)
 
     -- where the interrupt is due, the entry comes next
     at_once : (t1 : Bool) → (back_timer t1).rq ≡ true → Comes d TICK bytes (back_at t1) (Next d x b last_off R)
@@ -128,6 +167,25 @@ module _ (d : Board) (bytes : List ℕ) (has : HasKernel bytes) where
               let count : 32 * k.t + k.pre + 3 ≡ 6149 + late + off = p.1 in
               let still : (back_timer t1).rq ≡ k.rq = (runs t1).still (omega (arith, count, few, room, short)) in
               let both : true ≡ false = sym due ∙ still ∙ p.0 in cc);
+          long = λ rest.
+              let o : 32 * r.t + r.pre + 8193 ≤ (timed.counted rest).first + off = overflown t1 due (timed.counted rest) in
+              let most : (timed.counted rest).first ≤ 6176 = (timed.counted rest).most in
+              omega (arith, o, most);
+          rested = λ rest room.
+              let o : 32 * r.t + r.pre + 8193 ≤ (timed.counted rest).first + off = overflown t1 due (timed.counted rest) in
+              let most : (timed.counted rest).first ≤ 6176 = (timed.counted rest).most in
+              let on = runs_on 2 t2 (record { t = r.t; pre = r.pre; tf = r.tf; rq = false; last = r.last })
+              (record { t = (runs t1).range.t; pre = (runs t1).range.pre }) (omega arith) in
+              let n : ℕ = on.counts.0 in
+              let count : 32 * timer.t + timer.pre + 8192 * n ≡ 32 * r.t + r.pre + 2 = on.counts.1 in
+              record {
+                clear = on.still (omega (arith, o, most, short, room));
+                low = omega (arith, o, most, short, room, count);
+              };
+          settles = λ rest room.
+              let o : 32 * r.t + r.pre + 8193 ≤ (timed.counted rest).first + off = overflown t1 due (timed.counted rest) in
+              let most : (timed.counted rest).first ≤ 6176 = (timed.counted rest).most in
+              absurd (omega (arith, o, most, short, room));
         })))
 
     -- else it comes with the next overflow
@@ -175,6 +233,13 @@ module _ (d : Board) (bytes : List ℕ) (has : HasKernel bytes) where
               let p = timed.punctual late few is room in
               let from : 32 * k.t + k.pre + 3 ≡ 6149 + late + off = p.1 in
               record { late' = i.late; most = i.most; timer' = refl; time = omega (arith, time, count, from) };
+          long = λ rest.
+              let c = timed.counted rest in
+              let from : 32 * k.t + k.pre + 3 + 8192 * c.overflows ≡ c.first + off = c.count in
+              let upto : c.first ≤ 6176 = c.most in
+              omega (arith, time, count, from, upto);
+          rested = λ rest room. record { clear = refl; low = omega (arith, most) };
+          settles = λ rest room. (i.late, i.most, refl);
         })
         (begins d bytes has over.now over.ring k two (x + off + 2) r.t r.pre r.tf r.last low high))
 

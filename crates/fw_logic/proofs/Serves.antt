@@ -1,5 +1,5 @@
 -- A tick, however long its work takes: from a tick start to the next one.
-use Rattle.std.proofs.Common.{◌≡◌, ◌≤◌, ℕ, ◌+◌, ◌*◌, List, [], ◌∷◌, Bool, true, false, Some, leb}
+use Rattle.std.proofs.Common.{◌≡◌, ◌≤◌, ◌<◌, ℕ, ◌+◌, ◌*◌, List, [], ◌∷◌, Bool, true, false, Some, leb}
 use Rattle.std.proofs.Common.{refl, ap, sym, ◌∙◌, subst, arith, inl, inr, ◌⊎◌}
 use Rattle.std.proofs.lemmas.Bool.Decides.{nat_tests}
 use Rattle.mcs48_isa.specs.declared.operation.Op.TheVariants.{Moves}
@@ -85,6 +85,20 @@ module _ (d : Board) (bytes : List ℕ) (has : HasKernel bytes) where
             let timer_later = does.timer_later refl timing (omega (arith, sum, few, short, room)) in
             let count : total (timer_parts end.cpu) + 3 ≡ 32 * l.t + l.pre + end.off = timer_later.count in
             (timer_later.rq ∙ p.1, omega (arith, count, sum));
+        counted = λ rest.
+            let n : ℕ = over.counts.0 in
+            let count : total (timer_parts end.cpu) + 3 + 8192 * n ≡ 32 * l.t + l.pre + end.off = over.counts.1 in
+            record {
+              first = 32 * l.t + l.pre;
+              least = head.least;
+              most = head.most;
+              overflows = n;
+              count = count;
+              none = λ is.
+                  let pre : end.cpu.pre < 32 = over.timing.pre in
+                  let t : end.cpu.t < 256 = over.timing.t in
+                  (does.timer_later refl timing (omega (arith, count, is, pre, t))).rq ∙ head.rested rest;
+            };
       }
     where
       by : (q : Bool) → does.end.cpu.rq ≡ q

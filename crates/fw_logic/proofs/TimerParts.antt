@@ -69,3 +69,4 @@ pub record IsAsking (k e : TimerParts) (start stop : ℕ) : Type 0 where
   pub tim_on : e.tim_on ≡ true
   pub keeps : k.rq ≡ true → e.rq ≡ true
   pub asks : 8192 + start ≤ total k + stop → e.rq ≡ true
+  pub counts : (overflows : ℕ) × (total e + start + 8192 * overflows ≡ total k + stop)

@@ -24,6 +24,11 @@ timer_of m = record { t = m.t; pre = m.pre; tf = m.tf; rq = m.rq; last = m.last_
 abbrev pub timed : TimerState → Cpu → Cpu
 timed b m = record m { run = Timer; t = b.t; pre = b.pre; tf = b.tf; rq = b.rq; last_t1 = b.last }
 
+-- no overflow asks, and none comes in the next two cycles
+pub record IsRested (b : TimerState) : Type 0 where
+  pub clear : b.rq ≡ false
+  pub low : 32 * b.t + b.pre + 2 < 8192
+
 -- at a tick start so many cycles past the overflow
 abbrev pub on_time : ℕ → Bool → Bool → TimerState
 on_time late tf last = record { t = 0; pre = late + 2; tf = tf; rq = false; last = last }
@@ -44,6 +49,7 @@ pub record RunOn (c : ℕ) (b e : TimerState) : Type 0 where
   pub keeps : b.rq ≡ true → e.rq ≡ true
   pub clear : e.rq ≡ false → (b.rq ≡ false) × (32 * e.t + e.pre ≡ 32 * b.t + b.pre + c)
   pub still : 32 * b.t + b.pre + c < 8192 → e.rq ≡ b.rq
+  pub counts : (overflows : ℕ) × (32 * e.t + e.pre + 8192 * overflows ≡ 32 * b.t + b.pre + c)
 
 run_on_by : (c : ℕ) (t1 : Bool) (b : TimerState) → IsInRange b → c ≤ 2 → (x y : Bool) → nat_le 32 (b.pre + c) ≡ x
     → (b.t == 255) ≡ y → RunOn c b (run_on c t1 b)
@@ -58,6 +64,7 @@ run_on_by c t1 b r few false y ex ey =
       keeps = λ h. same ∙ h;
       clear = λ h. (sym same ∙ h, omega (arith, t, pre));
       still = λ h. same;
+      counts = (0, omega (arith, t, pre));
     }
 run_on_by c t1 b r few true false ex ey =
     let more : 32 ≤ b.pre + c = grind (arith, nat_tests, ex) in
@@ -72,6 +79,7 @@ run_on_by c t1 b r few true false ex ey =
       keeps = λ h. same ∙ h;
       clear = λ h. (sym same ∙ h, omega (arith, t, pre, less, more));
       still = λ h. same;
+      counts = (0, omega (arith, t, pre, less, more));
     }
 run_on_by c t1 b r few true true ex ey =
     let more : 32 ≤ b.pre + c = grind (arith, nat_tests, ex) in
@@ -80,11 +88,14 @@ run_on_by c t1 b r few true true ex ey =
     let asks : (run_on c t1 b).rq ≡ true = rw (ex, ey) refl in
     let t : (run_on c t1 b).t ≡ (b.t + 1) % 256 = rw ex refl in
     let pre : (run_on c t1 b).pre ≡ b.pre + c - 32 = rw ex refl in
+    let t : (run_on c t1 b).t ≡ (b.t + 1) % 256 = rw ex refl in
+    let pre : (run_on c t1 b).pre ≡ b.pre + c - 32 = rw ex refl in
     record {
       range = record { t = omega (arith, t); pre = omega (arith, pre, least, few) };
       keeps = λ h. asks;
       clear = λ h. absurd (let both : true ≡ false = sym asks ∙ h in cc);
       still = λ h. absurd (omega (arith, high, more, h));
+      counts = (1, omega (arith, t, pre, high, more));
     }
 
 pub runs_on : (c : ℕ) (t1 : Bool) (b : TimerState) → IsInRange b → c ≤ 2 → RunOn c b (run_on c t1 b)
@@ -105,6 +116,8 @@ headed t1 before b = run_on 1 t1 (record (run_on 2 before b) { t = 192 })
 pub record Headed (b e : TimerState) : Type 0 where
   pub range : IsInRange e
   pub least : 6144 ≤ 32 * e.t + e.pre
+  pub most : 32 * e.t + e.pre ≤ 6176
+  pub rested : IsRested b → e.rq ≡ false
   pub prompt : (late : ℕ) → late ≤ 1 → b ≡ on_time late b.tf b.last
       → (32 * e.t + e.pre ≡ 6149 + late) × (e.rq ≡ false)
 
@@ -123,6 +136,17 @@ head_least t1 before b low false e =
 head_least t1 before b low true e =
     let t : (headed t1 before b).t ≡ 193 = rw e refl in omega (arith, t)
 
+head_most : (t1 before : Bool) (b : TimerState) → (run_on 2 before b).pre < 32 → (x : Bool)
+    → nat_le 32 ((run_on 2 before b).pre + 1) ≡ x
+    → 32 * (headed t1 before b).t + (headed t1 before b).pre ≤ 6176
+head_most t1 before b low false e =
+    let t : (headed t1 before b).t ≡ 192 = rw e refl in
+    let pre : (headed t1 before b).pre ≡ (run_on 2 before b).pre + 1 = rw e refl in
+    let less : (run_on 2 before b).pre + 1 < 32 = grind (arith, nat_tests, e) in omega (arith, t, pre, less)
+head_most t1 before b low true e =
+    let t : (headed t1 before b).t ≡ 193 = rw e refl in
+    let pre : (headed t1 before b).pre ≡ (run_on 2 before b).pre + 1 - 32 = rw e refl in omega (arith, t, pre, low)
+
 pub heads_timer : (t1 before : Bool) (b : TimerState) → IsInRange b → Headed b (headed t1 before b)
 heads_timer t1 before b r =
     let two = runs_on 2 before b r (omega arith) in
@@ -131,6 +155,11 @@ heads_timer t1 before b r =
     record {
       range = one.range;
       least = head_least t1 before b two.range.pre (nat_le 32 ((run_on 2 before b).pre + 1)) refl;
+      most = head_most t1 before b two.range.pre (nat_le 32 ((run_on 2 before b).pre + 1)) refl;
+      rested = λ rest.
+          let low : (run_on 2 before b).pre < 32 = two.range.pre in
+          let later : (run_on 1 t1 set).rq ≡ set.rq = one.still (omega (arith, low)) in
+          later ∙ two.still rest.low ∙ rest.clear;
       prompt = λ late few is.
           subst (λ c. (32 * (headed t1 before c).t + (headed t1 before c).pre ≡ 6149 + late)
           × ((headed t1 before c).rq ≡ false)) (sym is) (on_time_headed late few b.tf b.last t1 before);

@@ -1,5 +1,5 @@
 -- The timer over a step.
-use Rattle.std.proofs.Common.{◌≡◌, ◌≤◌, ◌<◌, ℕ, ◌+◌, ◌-◌, ◌%◌, Bool, true, false, ◌&&◌, ◌==◌, nat_le, leb, if◌then◌else◌}
+use Rattle.std.proofs.Common.{◌≡◌, ◌*◌, ◌≤◌, ◌<◌, ℕ, ◌+◌, ◌-◌, ◌%◌, Bool, true, false, ◌&&◌, ◌==◌, nat_le, leb, if◌then◌else◌}
 use Rattle.std.proofs.Common.{refl, ap, sym, ◌∙◌, subst, arith}
 use Rattle.std.proofs.lemmas.Bool.Decides.{nat_tests}
 use Rattle.mcs48_core.specs.declared.levels.Pins.{Pins}
@@ -85,6 +85,7 @@ counted_asks k c h on few false is =
       tim_on = on;
       keeps = λ q. q;
       asks = λ room. absurd (omega (arith, less, low, room));
+      counts = (0, omega arith);
     }
 counted_asks k c h on few true is =
     let l : k.pre < 32 = h.pre in
@@ -96,7 +97,18 @@ counted_asks k c h on few true is =
       asks = λ room.
           let high : k.t ≡ 255 = omega (arith, room, l, low, few) in
           let full : (k.t == 255) ≡ true = grind (arith, nat_tests, high) in rw (full, on) refl;
+      counts = by (k.t == 255) refl;
     }
+  where
+    by : (full : Bool) → (k.t == 255) ≡ full
+        → (overflows : ℕ) × (32 * ((k.t + 1) % 256) + (k.pre + c - 32) + 0 + 8192 * overflows ≡ 32 * k.t + k.pre + c)
+    by true e =
+        let more : 32 ≤ k.pre + c = grind (arith, nat_tests, is) in
+        let high : k.t ≡ 255 = grind (arith, nat_tests, e) in (1, omega (arith, more, high))
+    by false e =
+        let more : 32 ≤ k.pre + c = grind (arith, nat_tests, is) in
+        let low : k.t < 256 = h.t in
+        let less : k.t < 255 = grind (arith, nat_tests, e, low) in (0, omega (arith, more, less))
 
 pub step_asks : (k : TimerParts) (m : Cpu) (c : ℕ) (pins : Pins) (start : ℕ) → timer_parts m ≡ k → IsTiming k
     → k.tim_on ≡ true → c ≤ 2 → IsAsking k (timer_parts (after_timer m.run c pins m)) start (start + c)
@@ -107,13 +119,34 @@ step_asks k m c pins start e h on few =
     let run : m.run ≡ Timer = h.run in
     let a = counted_asks (timer_parts m) c h on few (nat_le 32 (m.pre + c)) refl in
     subst (λ j. IsAsking (timer_parts m) j start (start + c)) (sym (timer_state m c pins run))
-    (record { timing = a.timing; tim_on = a.tim_on; keeps = a.keeps; asks = λ room. a.asks (omega (arith, room)) }))
+    (record {
+      timing = a.timing;
+      tim_on = a.tim_on;
+      keeps = a.keeps;
+      asks = λ room. a.asks (omega (arith, room));
+      counts =
+          let n : ℕ = a.counts.0 in
+          let count : total (counted (nat_le 32 (m.pre + c)) c (timer_parts m)) + 0 + 8192 * n ≡ total (timer_parts m) + c =
+          a.counts.1 in
+          (n, omega (arith, count));
+    }))
     h on
 
 pub asking_then : (k e f : TimerParts) (a b c : ℕ) → (total k + b < 8192 + a → IsLater k e a b) → IsAsking k e a b
     → IsAsking e f b c → IsAsking k f a c
 asking_then k e f a b c later h g =
-    record { timing = g.timing; tim_on = g.tim_on; keeps = λ q. g.keeps (h.keeps q); asks = λ room. by room (leb (8192 + a) (total k + b)) refl }
+    record {
+      timing = g.timing;
+      tim_on = g.tim_on;
+      keeps = λ q. g.keeps (h.keeps q);
+      asks = λ room. by room (leb (8192 + a) (total k + b)) refl;
+      counts =
+          let m : ℕ = h.counts.0 in
+          let n : ℕ = g.counts.0 in
+          let one : total e + a + 8192 * m ≡ total k + b = h.counts.1 in
+          let two : total f + b + 8192 * n ≡ total e + c = g.counts.1 in
+          (m + n, omega (arith, one, two));
+    }
   where
     by : 8192 + a ≤ total k + c → (x : Bool) → leb (8192 + a) (total k + b) ≡ x → f.rq ≡ true
     by room true x = g.keeps (h.asks (grind (arith, nat_tests, x)))

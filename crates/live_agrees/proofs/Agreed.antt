@@ -1,13 +1,13 @@
 -- The log so far is the beginning of what the model says.
-use Rattle.std.proofs.Common.{◌≡◌, ◌≤◌, ◌<◌, ℕ, ◌+◌, ◌-◌, true, false, List, [], ◌++◌}
+use Rattle.std.proofs.Common.{◌≡◌, ◌≤◌, ◌<◌, ℕ, zero, suc, ◌+◌, ◌-◌, true, false, List, [], ◌++◌}
 use Rattle.std.proofs.Common.{length, drop, leb, Some, refl, ap, sym, subst, ◌∙◌, arith}
 use Rattle.std.proofs.Math.Seq.{drop-append_seam}
 use Rattle.std.proofs.lemmas.Bool.Decides.{nat_tests}
 use Rattle.std.specs.declared.option.Option.{Option}
 use Rattle.std.proofs.lemmas.List.Elements.{All-replicate}
 use Rattle.agreement.specs.Agreement.{AnyMemoryLaw}
+use Rattle.agreement.specs.AnyCount.{AnyCountLaw}
 use Rattle.agreement.specs.AnyKeys.{AnyKeysLaw}
-use Rattle.agreement.specs.AnyStart.{AsShown}
 use Rattle.fw_kernel.specs.declared.labels.TheConstants.{TICK}
 use Rattle.joint_run.specs.Starts.{IsStart}
 use Rattle.mcs48_ranges.specs.Sizes.{IsByte}
@@ -140,14 +140,21 @@ fills_are_fine fill l = record {
   sp = omega arith;
 }
 
-pub logs_are_shown : AsShown → LogsAreShown
-logs_are_shown law layout p k s is bytes fine ok few =
-    let goes = law layout p.edges p.events is ok few (unserved p.held) fine in
+-- a start is no sooner than its number
+numbered : (starts : ℕ → ℕ) → ((k : ℕ) → starts k + 2016 ≤ starts (suc k)) → (n : ℕ) → n ≤ starts n
+numbered starts apart zero = omega arith
+numbered starts apart (suc n) =
+    let before : n ≤ starts n = numbered starts apart n in
+    let next : starts n + 2016 ≤ starts (suc n) = apart n in
+    omega (arith, before, next)
+
+pub logs_are_shown : AnyCountLaw → LogsAreShown
+logs_are_shown law layout p k s is bytes fine ok =
+    let goes = law layout p.edges p.events is ok (unserved p.held) fine in
     let n : ℕ = s.world.cycle in
     let start = goes.each n in
     let stamp : ℕ = goes.starts n in
-    let low : n ≤ stamp = let l = (goes.prompt n).least in omega (arith, l) in
-    let on = log_begins layout p k s bytes stamp start low in
+    let on = log_begins layout p k s bytes stamp start (numbered goes.starts goes.apart n) in
     record {
       starts = goes.starts;
       each = goes.each;

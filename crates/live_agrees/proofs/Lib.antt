@@ -5,3 +5,4 @@ pub mod Keys
 pub mod Stops
 pub mod Queued
 pub mod Saved
+pub mod Opened

@@ -2,7 +2,7 @@
 use Rattle.std.specs.Prelude.{◌≡◌, ◌<◌, ◌^◌, ℕ, Bool, List, [], ◌++◌, Some}
 use Rattle.std.specs.declared.option.Option.{Option}
 use Rattle.std.specs.declared.result.Result.{Result}
-use Rattle.agreement.specs.AnyStart.{AreFor, ShowsFew, model_from}
+use Rattle.agreement.specs.AnyStart.{AreFor, model_from}
 use Rattle.board_terms.specs.declared.event.HostAct.{HostAct}
 use Rattle.fw_compile.specs.Image.{image_of}
 use Rattle.fw_kernel.specs.declared.labels.TheConstants.{TICK}
@@ -103,13 +103,12 @@ pub record BeginsShown (layout : KeyLayout) (p : Past) (log : List Stamped) : Ty
   pub beginning : (model_from (keyboard layout) p.edges p.events starts
       (whole_at (keyboard layout) p.edges p.events starts 0) tick).side.log ≡ log ++ rest
 
--- so is what was said so far, whether or not keys bounced, if no tick shows more than four keys that changed, whatever the
--- part held when it was switched on
+-- so is what was said so far, whether or not keys bounced, however many changed at once, whatever the part held when it was
+-- switched on
 abbrev pub LogsAreShown : Type 0
 LogsAreShown =
     (layout : KeyLayout) (p : Past) (k : Keyboard) (s : HasPast p k) → IsKeyLayout layout → p.bytes ≡ image_of layout
-    → IsFine p.held → AreFor layout p.edges p.events → ((n : ℕ) → ShowsFew p.edges n)
-    → BeginsShown layout p (log_of s.world.board)
+    → IsFine p.held → AreFor layout p.edges p.events → BeginsShown layout p (log_of s.world.board)
 
 -- of a layout's image each past has a state, whatever keys, host events and number of steps it has, and whatever the
 -- part held when it was switched on. So no call is refused, and no run ends, because the processor is stuck

@@ -6,11 +6,12 @@
 
 ghost use Rattle.live_agrees.specs.Law.{AnswersAreAlike, AnyUseIsLawful, CallsAreAlike, FillsAreFine, KeysAreAlike, LogsAgree};
 ghost use Rattle.live_agrees.specs.Law.{LogsAreShown, NeverStuck, RunsEndAlike, RunsStopAlike, StatesAreAlike, WordsAreAlike};
+ghost use Rattle.live_agrees.specs.Opened.{OpenedIsMasked, ReadyIsMasked};
 ghost use Rattle.live_agrees.specs.Queued.{QueuedLogsAgree, StaysQueued};
 ghost use Rattle.live_agrees.specs.Saved.{CallsKeepAlike, HandsKeepAlike, KeysKeepAlike, LoadedAreAlike, RunsKeepAlike, SavesAreAlike};
 ghost use Rattle.live_agrees.specs.Saved.{StopsKeepAlike};
 
-use agreement::{any_keys, goes_on_from_any_start, run_and_model_agree};
+use agreement::{any_keys, goes_by_its_columns, run_and_model_agree};
 use edge_queue::edges_are_lawful;
 
 /// Whatever calls were made, in whatever order, however many and for however long: let a keyboard be in a past that
@@ -36,14 +37,14 @@ pub fn calls_agree()
     run_and_model_agree();
 }
 
-/// Whatever calls were made, whatever the part held when it was switched on, and whether or not keys bounced: let the edges
-/// be at places of the layout, what is written be bytes, and let no tick show more than four keys that changed. Then what
-/// was said so far is the beginning of what the model says, whose ticks get what the columns show, before a bounce and after
-/// it. Nothing is done when it is called; the law is its contract.
+/// Whatever calls were made, whatever the part held when it was switched on, whether or not keys bounced, and however many
+/// changed at once: let the edges be at places of the layout, and what is written be bytes. Then what was said so far is the
+/// beginning of what the model says, whose ticks get what the columns show, before a bounce and after it. Nothing is done
+/// when it is called; the law is its contract.
 pub fn bounces_agree()
     ensures shown { LogsAreShown }
 {
-    goes_on_from_any_start();
+    goes_by_its_columns();
 }
 
 /// Whatever calls were made, in whatever order, with any keys and host events, and whatever the part held when it was
@@ -52,6 +53,19 @@ pub fn bounces_agree()
 pub fn never_stuck()
     ensures goes_on { NeverStuck }
 {
+    any_keys();
+}
+
+/// A keyboard that was opened with a layout's image, or switched off and on again, from memory of any byte, is in one past:
+/// no key has moved, and INT 09h was masked at stamp 0 or 1. So is one that was run on until its interrupt line rose. That past
+/// is lawful for the layout, and what was said so far is the beginning of what the model says of it. The calls that follow
+/// add to this past, so the laws of calls need no premise on how the keyboard was opened. Nothing is done when it is called;
+/// the laws are its contract.
+pub fn opened_is_lawful()
+    ensures opened { OpenedIsMasked }
+    ensures ready { ReadyIsMasked }
+{
+    run_and_model_agree();
     any_keys();
 }
 

@@ -2,7 +2,6 @@
 use Rattle.std.specs.Prelude.{◌≡◌, ℕ, true, false, List, []}
 use Rattle.std.specs.declared.result.Result.{Result}
 use Rattle.board_terms.specs.declared.event.HostAct.TheVariants.{Mask}
-use Rattle.joint_run.specs.Filled.{filled}
 use Rattle.live_board.specs.Calls.{IsActed}
 use Rattle.live_board.specs.Heard.{HasKeptAll, IsKeptLog}
 use Rattle.live_board.specs.Pasts.{Past, untouched}
@@ -33,11 +32,6 @@ pub record IsOpened (fill : ℕ) (bytes : List ℕ) (k : Keyboard) : Type 0 wher
 pub record IsReady (bytes : List ℕ) (k : Keyboard) : Type 0 where
   pub opened : Keyboard
   pub is_opened : IsOpened 0 bytes opened
-  pub past : Past
-  pub program : past.bytes ≡ bytes
-  pub memory : past.held ≡ filled 0
-  pub no_edges : past.edges ≡ []
-  pub at : HasPast past opened
   pub end : RunEnd
-  pub ran : HasRun past opened 400000 true end k
-  pub log_kept : HasKeptAll past opened k
+  pub ran : (p : Past) → HasPast p opened → HasRun p opened 400000 true end k
+  pub log_kept : (p : Past) → HasPast p opened → HasKeptAll p opened k
