@@ -48,43 +48,51 @@ export async function typing(browser, shot) {
 }
 
 // ms until a picture has what was done, with what a timer of the browser may be late.
-const LATEST = { down: 60, letter: 100, up: 130, log: 270 }, UP_AFTER_FAST = 180;
+const LATEST = { down: 60, letter: 100, up: 130, log: 270 }, UP_AFTER_FAST = 180, TRIES = 5;
 
 /** A key is drawn down at once; its letter, and the key that is up again, within a tenth of a second; the log within a quarter.
     That holds for strokes that are far apart, and for fast ones. One key that is pressed time and again changes its look at once
     with each stroke, and is drawn up 150 ms after the last. Of each the best of several strokes counts, because other work delays
-    any. */
+    any; on a busy machine there are more of them. */
 export async function prompt(browser) {
   for (const [keys, gaps] of [['jkl', [450]], ['jkl', [97]], ['j', [97, 97, 450]]]) {
-    const best = await browser.evaluate(`(async () => {
-      const of = id => document.getElementById(id), keyOf = name => document.querySelector('[data-key=' + name + ']');
-      const isDown = name => keyOf(name).classList.contains('down'), look = name => getComputedStyle(keyOf(name)).backgroundColor;
-      const wait = ms => new Promise(yes => setTimeout(yes, ms)), best = { down: Infinity, letter: Infinity, up: Infinity, log: Infinity };
-      const measure = async (what, is) => {
-        const from = performance.now();
-        while (!is() && performance.now() - from < 2000) await wait(2);
-        best[what] = Math.min(best[what], performance.now() - from);
-      };
-      const lines = () => of('log').textContent.split('\\n').length, all = [], keys = ${JSON.stringify(keys)}, gaps = ${JSON.stringify(gaps)};
-      for (let n = 0; n < 12; n++) {
-        const name = keys[n % keys.length], gap = gaps[n % gaps.length], letters = of('screen').textContent.length, was = look(name);
-        const down = measure('down', () => isDown(name) && look(name) !== was);
-        lab.keys.hold(name, true, 'test');
-        all.push(down, measure('letter', () => of('screen').textContent.length > letters));
-        await wait(70);
-        const had = lines();
-        lab.keys.hold(name, false, 'test');
-        // Its next stroke is measured by the look.
-        if (keys.length > 1 || gap > 97) all.push(measure('up', () => !isDown(name)));
-        all.push(measure('log', () => lines() > had));
-        await wait(gap);
-      }
-      await Promise.all(all);
-      return best;
-    })()`), most = keys.length > 1 ? LATEST : { ...LATEST, up: UP_AFTER_FAST };
-    for (const [what, ms] of Object.entries(most)) assert.ok(best[what] <= ms, `${keys} after ${gaps} ms, ${what}: ${Math.round(best[what])} ms`);
+    const most = Object.entries(keys.length > 1 ? LATEST : { ...LATEST, up: UP_AFTER_FAST });
+    let best = await bestOf(browser, keys, gaps);
+    for (let tries = 1; tries < TRIES && most.some(([what, ms]) => best[what] > ms); tries++) {
+      const again = await bestOf(browser, keys, gaps);
+      best = Object.fromEntries(most.map(([what]) => [what, Math.min(best[what], again[what])]));
+    }
+    for (const [what, ms] of most) assert.ok(best[what] <= ms, `${keys} after ${gaps} ms, ${what}: ${Math.round(best[what])} ms`);
   }
 }
+
+// The shortest times of twelve strokes of these keys, with these gaps, until a picture has each.
+const bestOf = (browser, keys, gaps) => browser.evaluate(`(async () => {
+  const of = id => document.getElementById(id), keyOf = name => document.querySelector('[data-key=' + name + ']');
+  const isDown = name => keyOf(name).classList.contains('down'), look = name => getComputedStyle(keyOf(name)).backgroundColor;
+  const wait = ms => new Promise(yes => setTimeout(yes, ms)), best = { down: Infinity, letter: Infinity, up: Infinity, log: Infinity };
+  const measure = async (what, is) => {
+    const from = performance.now();
+    while (!is() && performance.now() - from < 2000) await wait(2);
+    best[what] = Math.min(best[what], performance.now() - from);
+  };
+  const lines = () => of('log').textContent.split('\\n').length, all = [], keys = ${JSON.stringify(keys)}, gaps = ${JSON.stringify(gaps)};
+  for (let n = 0; n < 12; n++) {
+    const name = keys[n % keys.length], gap = gaps[n % gaps.length], letters = of('screen').textContent.length, was = look(name);
+    const down = measure('down', () => isDown(name) && look(name) !== was);
+    lab.keys.hold(name, true, 'test');
+    all.push(down, measure('letter', () => of('screen').textContent.length > letters));
+    await wait(70);
+    const had = lines();
+    lab.keys.hold(name, false, 'test');
+    // Its next stroke is measured by the look.
+    if (keys.length > 1 || gap > 97) all.push(measure('up', () => !isDown(name)));
+    all.push(measure('log', () => lines() > had));
+    await wait(gap);
+  }
+  await Promise.all(all);
+  return best;
+})()`);
 
 /** A keyboard that is out of sight isn't drawn, and is drawn when it comes into sight. */
 export async function outOfSight(browser) {
