@@ -1,12 +1,22 @@
 // The lessons: each has a file to change, a task, two hints, and what it asks of the file (`judges`). `begin` says which texts of
 // an example are replaced for the first form of the file, or `start` is that form. `command` runs what one has made, in which OWN
 // is the file and IMAGE its image.
-import { certifies, columnOf, columnsOf, doesInTrials, saysOfBytes, sendsOnPress, writesBeforeRead } from './course/asked.js';
-import { MAKES, SILENT, TAKES } from './course/programs.js';
-import { answers, atPowerOn, makeTrials, silences, strokesOf, withBreaks } from './course/trials.js';
+import { certifies, columnOf, columnsOf, doesInTrials, doesOnTheAt, saysOfBytes, sendsOnPress, writesBeforeRead } from './course/asked.js';
+import { ALL_COLUMNS, ANSWERS, BREAKS, MAKES, ONE_COLUMN, QUEUED, QUEUED_COLUMNS, SILENT, TAKES } from './course/programs.js';
+import {
+  answers, atPowerOn, chosen, conversations, eachKey, likeTheModel, lightings, makeTrials, noisy, repeating, repeatTrials, silences, strokesInHold, strokesOf, waitingTrials,
+  withBreaks, writesAround,
+} from './course/trials.js';
 
 const FOUR_KEYS = ['a', 'b', 'c', 'd'], FOUR_CODES = ['1C', '32', '21', '23'];
 const MATRIX = [FOUR_KEYS, ['e', 'f', 'g', 'h']], EIGHT_KEYS = MATRIX.flat(), EIGHT_CODES = [...FOUR_CODES, '24', '2B', '34', '33'];
+const FOUR_BREAKS = withBreaks(makeTrials(FOUR_KEYS, FOUR_CODES), FOUR_KEYS, FOUR_CODES);
+const BY_A = { name: 'a', code: '1C', as: trial => ({ ...trial, bytes: ['1C', 'F0', '1C'] }) };
+const SOME = [0, 19, 44, 66]; // keys of the AT in different columns and rows
+const ASKED_AGAIN = [
+  [['EE', ['EE']], ['FE', ['EE']]], [['F4', ['FA']], ['FE', ['FA']], ['FE', ['FA']], ['EE', ['EE']], ['FE', ['EE']]],
+  [['FF', ['FA', 'AA']], ['FE', ['AA']], ['00', ['FA']], ['FE', ['FA']]], [['EE', ['EE']], ['EE', ['EE']], ['FE', ['EE']], ['FE', ['EE']], ['F4', ['FA']]],
+];
 const ASKED = [['EE', ['EE']], ['ED', ['FA']], ['F4', ['FA']], ['FF', ['FA', 'AA']], ['00', ['FA']]];
 
 export const LESSONS = [
@@ -122,8 +132,7 @@ export const LESSONS = [
     file: 'lesson10.asm',
     start: MAKES,
     command: 'board IMAGE four_keys.toml four_keys.keys',
-    judges: doesInTrials(columnOf(FOUR_KEYS), [...withBreaks(makeTrials(FOUR_KEYS, FOUR_CODES), FOUR_KEYS, FOUR_CODES), ...silences(FOUR_KEYS)],
-      { name: 'a', code: '1C', as: trial => ({ ...trial, bytes: ['1C', 'F0', '1C'] }) }),
+    judges: doesInTrials(columnOf(FOUR_KEYS), [...FOUR_BREAKS, ...silences(FOUR_KEYS)], BY_A),
   },
   {
     title: 'Scan a matrix',
@@ -149,7 +158,109 @@ export const LESSONS = [
     command: 'board IMAGE four_keys.toml asked.keys',
     judges: doesInTrials(columnOf(FOUR_KEYS), [...answers(ASKED), { says: 'nobody writes', keys: '50ms end\n', bytes: [], calm: true }]),
   },
+  {
+    title: 'The lights: ED',
+    text: ['The lights are the PC\'s: after Caps Lock it writes ED and then a byte whose bits 0, 1 and 2 are Scroll Lock, Num Lock and Caps Lock. The keyboard answers FA to each.',
+      'P2.4, P2.5 and P2.6 drive the three lamps, and a 0 lights one. P2.0 and P2.1 are the wires, and stay 1 meanwhile.'],
+    task: 'Let the byte after ED set the lights, and answer it with FA. All else stays as it is.',
+    hints: ['CPL A makes ones of zeros, and SWAP A brings bits 0 to 2 to bits 4 to 6.', 'Set all of P2 at once: ORL A,#8FH keeps the other pins at 1, and OUTL P2,A writes it.'],
+    file: 'lesson13.asm',
+    start: ANSWERS,
+    extra: { 'lights.keys': '10ms write60 ED\n30ms write60 05\n60ms end\n' },
+    command: 'board IMAGE four_keys.toml lights.keys',
+    judges: doesInTrials(columnOf(FOUR_KEYS), [...lightings, ...conversations(ASKED.filter(([asked]) => asked !== 'ED').map(pair => [pair]))]),
+  },
+  {
+    title: 'Send it again: FE',
+    text: ['A bit may be wrong when it arrives. The controller then finds a wrong parity, and writes FE: the keyboard must send its last byte again, and nothing else.',
+      'The line "flip 3" of a key file turns bit 3 of the keyboard\'s next byte. Run the command, and see that the PC never reads EE.'],
+    task: 'Let the program answer FE with the byte that it sent last. The rest stays as it is.',
+    hints: ['A register that nothing else changes can keep the byte. R6 is free.', 'Each byte is sent by a CALL of send. Put one subroutine before it, which keeps the byte and then jumps to send.'],
+    file: 'lesson14.asm',
+    start: ANSWERS,
+    extra: { 'noisy.keys': '8ms flip 3\n10ms write60 EE\n60ms end\n' },
+    command: 'board IMAGE four_keys.toml noisy.keys',
+    judges: doesInTrials(columnOf(FOUR_KEYS), [...conversations([...ASKED_AGAIN, ...ASKED.map(pair => [pair])]), ...answers([['EE', ['EE']], ['F4', ['FA']]]).slice(0, 2).flatMap(noisy)]),
+  },
+  {
+    title: 'A queue',
+    text: ['While the PC doesn\'t read, send waits, and the keys aren\'t read: a short stroke is lost. The AT\'s keyboard keeps what its keys say in a queue of sixteen bytes, and goes on reading the keys.',
+      'A queue is a ring: the place after its last is its first. Cells 20 to 2F have room for it.'],
+    task: 'Let up to sixteen bytes wait in a queue, in their order, while the keys are still read. Each goes when the wires are free.',
+    hints: ['Three numbers are needed: the place for the next byte, the place of the first one, and how many wait. SEL RB1 gives eight more registers.',
+      'send must not wait: look at both wires before it is called. A byte that was broken off, which R4 says, stays the first of the queue.'],
+    file: 'lesson15.asm',
+    start: BREAKS,
+    extra: { 'waiting.keys': '5ms mask\n10ms press a\n40ms release a\n60ms press b\n90ms release b\n110ms press c\n140ms release c\n200ms unmask\n260ms end\n' },
+    command: 'board IMAGE four_keys.toml waiting.keys',
+    judges: doesInTrials(columnOf(FOUR_KEYS), [...FOUR_BREAKS, ...withBreaks([...waitingTrials(FOUR_KEYS, FOUR_CODES), ...strokesInHold(FOUR_KEYS, FOUR_CODES)], FOUR_KEYS, FOUR_CODES), ...silences(FOUR_KEYS)], BY_A),
+  },
+  {
+    title: 'A key that is held',
+    text: ['A key that is held repeats: after half a second its code comes again, and then ten times a second. The last key that went down repeats, until it goes up or another goes down.',
+      'STRT T starts the timer. It counts once in 32 cycles, and overflows each 8,192 cycles, which are 20.48 ms. JTF jumps if it has overflowed since the last JTF.'],
+    task: 'Let the last key repeat after 500 ms, and then each 100 ms. Each of these times may be a fifth shorter or longer.',
+    hints: ['Half a second is 25 overflows, and a tenth is 5. DJNZ counts a register down, and DEC A a cell.', 'A key that goes up ends the repeats only if it is the one that repeats. So keep which one it is.'],
+    file: 'lesson16.asm',
+    start: BREAKS,
+    extra: { 'held.keys': '10ms press a\n1200ms release a\n1300ms end\n' },
+    command: 'board IMAGE four_keys.toml held.keys',
+    judges: doesInTrials(columnOf(FOUR_KEYS), [...repeating([...FOUR_BREAKS, ...withBreaks(repeatTrials(FOUR_KEYS, FOUR_CODES), FOUR_KEYS, FOUR_CODES)]), ...atPowerOn([], '6000ms end\n'), ...silences(FOUR_KEYS)], BY_A),
+  },
+  {
+    title: 'A whole keyboard of four keys',
+    text: ['The queue of exercise 15 and the answers of 12, 13 and 14 make a whole keyboard. Between two looks at the keys it looks at the wires: does the PC ask it to take a byte, or are they free for a byte of its own?',
+      'An answer goes before all that waits, because the controller takes the next byte for the answer. The program has the queue and the subroutine take.'],
+    task: 'Let it answer each byte of the PC\'s: EE with EE, FE with its last byte, ED and the byte after it with FA each and the lights, FF with FA and AA, all others with FA.',
+    hints: ['Where the clock is high and data is low, call take, and send the answer at once: not by the queue. AA after FF may go by the queue, after what waits there is dropped.',
+      'FE asks for the last byte, whether a key\'s or an answer. Keep it where R4 says that a byte has passed.'],
+    file: 'lesson17.asm',
+    start: QUEUED,
+    extra: { 'both.keys': '10ms press a\n30ms write60 EE\n60ms release a\n80ms write60 ED\n100ms write60 04\n120ms write60 FE\n160ms end\n' },
+    command: 'board IMAGE four_keys.toml both.keys',
+    judges: doesInTrials(columnOf(FOUR_KEYS), [
+      ...FOUR_BREAKS, ...withBreaks([...waitingTrials(FOUR_KEYS, FOUR_CODES), ...strokesInHold(FOUR_KEYS, FOUR_CODES)], FOUR_KEYS, FOUR_CODES),
+      ...lightings, ...conversations([...ASKED_AGAIN, ...ASKED.map(pair => [pair])]), ...withBreaks(eachKey(FOUR_KEYS, FOUR_CODES), FOUR_KEYS, FOUR_CODES).flatMap(noisy),
+      ...answers([['EE', ['EE']], ['F4', ['FA']], ['FF', ['FA', 'AA']]]).slice(0, 3).flatMap(noisy), ...writesAround('a', '1C', 'EE', 'EE'),
+    ], BY_A),
+  },
+  {
+    title: 'The real matrix',
+    text: ['The AT\'s keyboard has 84 keys in a matrix of 12 columns and 8 rows: of column 11 none, of column 10 four. This program reads column 0.',
+      'Cells 20 to 2B have the keys that were down, a cell for each column. MOVP3 A,@A reads page 3, which has eight codes for each column.'],
+    task: 'Let the program read all columns in turn, and send the code of each key that goes down.',
+    hints: ['R1 is the place of the column\'s cell, and its low four bits are the column. INC R1 goes on to the next.', 'All twelve cells must be 00 at the start: memory holds anything when a part is switched on.'],
+    file: 'lesson18.asm',
+    start: ONE_COLUMN,
+    extra: { 'columns.keys': '10ms press grave\n60ms release grave\n80ms press a\n130ms release a\n150ms press prtsc\n200ms release prtsc\n250ms end\n' },
+    command: 'board IMAGE us84.toml columns.keys',
+    judges: doesOnTheAt((names, codes) => [...eachKey(names, codes), ...makeTrials(chosen(names, SOME), chosen(codes, SOME)), ...silences(chosen(names, SOME))], { name: 'a', code: '1C' }),
+  },
+  {
+    title: 'All keys, down and up',
+    text: ['A keyboard for real: 84 keys, each with a break code, and a queue. You have built each part: exercise 10 has the break codes, 15 the queue.',
+      'Sixteen conditional jumps or more don\'t all reach the same page: ORG 100H begins page 1. CALL and JMP reach any place.'],
+    task: 'Let each key send its code when it goes down, and F0 and its code when it goes up. Up to sixteen bytes wait in a queue while the PC doesn\'t read.',
+    hints: ['Cells 20 to 2B are taken, so the queue may have the cells 30 to 3F.', 'Offer a byte after each round of the columns, and not within one: R1, R5, R6 and R7 are needed there.'],
+    file: 'lesson19.asm',
+    start: ALL_COLUMNS,
+    extra: { 'rolling.keys': '5ms mask\n10ms press lshift\n40ms press h\n70ms release h\n100ms release lshift\n130ms press i\n160ms release i\n200ms unmask\n300ms end\n' },
+    command: 'board IMAGE us84.toml rolling.keys',
+    judges: doesOnTheAt((names, codes) => {
+      const some = chosen(names, SOME), theirs = chosen(codes, SOME);
+      return [...withBreaks([...eachKey(names, codes), ...makeTrials(some, theirs), ...waitingTrials(chosen(names, SOME.map(at => at + 1)), chosen(codes, SOME.map(at => at + 1))), ...strokesInHold(some, theirs)], names, codes), ...silences(some)];
+    }, BY_A),
+  },
+  {
+    title: 'The AT\'s keyboard',
+    text: ['This is the last exercise, and the keyboard of this page is its model. expect prints what the PC must see of a right keyboard, whatever its program is. The check runs your program and the model on the same keys and the same bytes of the PC.',
+      'The program that you begin with has the keys, the queue and the subroutine take.'],
+    task: 'Let it say AA after power-on, repeat the last key after 500 ms and then each 100 ms, and answer EE, ED, FE, FF and F4 as in exercise 17. FF drops what waits, ends the repeats and puts the lights out.',
+    hints: ['Look at the timer once in each round of the columns, as in exercise 16. The repeats go by the queue.', 'Cells 2C to 2F are free: which code repeats, how long until then, and the byte that was sent last.'],
+    file: 'lesson20.asm',
+    start: QUEUED_COLUMNS,
+    extra: { 'whole.keys': '450ms press lshift\n500ms press h\n1300ms release h\n1350ms release lshift\n1400ms write60 ED\n1430ms write60 04\n1500ms write60 EE\n1600ms end\n' },
+    command: 'board IMAGE us84.toml whole.keys',
+    judges: doesOnTheAt(likeTheModel),
+  },
 ];
-
-/** A text with these replacements. */
-export const replaced = (text, pairs) => pairs.reduce((now, [from, to]) => now.replace(from, () => to), text);
