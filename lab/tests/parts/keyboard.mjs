@@ -205,6 +205,41 @@ export async function boardFiles(browser, shot, boards) {
   await browser.says('answer', /^key +column,row +switch/);
 }
 
+/** A board's own legends are drawn, with what the PC makes of a key; turned keys are drawn turned, and within the board. */
+export async function asTheBoardHasThem(browser, shot, boards) {
+  const textOfKey = name => browser.evaluate(`document.querySelector('[data-key=${name}]').textContent`);
+  await browser.only('keyboard');
+  await browser.choose('#open-board', [join(boards, 'editor/german.json')]);
+  await browser.says('board-told', /german\.toml is made of german\.json/);
+  assert.deepEqual([await textOfKey('y'), await textOfKey('a'), await textOfKey('lshift'), await textOfKey('semicolon')], ['Z\n→ Y', 'A', 'Umschalt', 'Ö\n→ : ;']);
+  assert.ok(await browser.evaluate('document.getElementById("legends-note").checkVisibility()'));
+  await browser.until('lab.live.stamp > 200000');
+  await browser.click('[data-key=y]');
+  await browser.says('screen', /^y▁$/);
+  await shot('own_legends');
+  await browser.click('#own-legends');
+  assert.equal(await textOfKey('y'), 'Y');
+  assert.ok(await browser.evaluate('document.getElementById("legends-note").hidden'));
+  await browser.click('#own-legends');
+  await browser.choose('#open-board', [join(boards, 'editor/ergodox.json')]);
+  await browser.says('board-told', /ergodox\.toml is made of ergodox\.json/);
+  const keys = await browser.evaluate(`(() => {
+    const board = document.getElementById('board').getBoundingClientRect();
+    return [...document.querySelectorAll('#board > div')].map(it => {
+      const box = it.getBoundingClientRect(), [cos, sin] = (/matrix\\((.*)\\)/.exec(getComputedStyle(it).transform)?.[1] ?? '1, 0').split(',').map(Number);
+      return { name: it.dataset.key, degrees: Math.round(Math.atan2(sin, cos) * 180 / Math.PI), isIn: box.left > board.left - 2 && box.right < board.right + 2 && box.top > board.top - 2 && box.bottom < board.bottom + 2, x: box.x + box.width / 2 - board.x - board.width / 2 };
+    });
+  })()`);
+  assert.deepEqual(keys.filter(it => !it.isIn), [], 'each key is within the board');
+  const turned = keys.filter(it => it.degrees !== 0);
+  assert.ok(turned.length >= 10 && turned.every(it => it.degrees === (it.x < 0 ? 30 : -30)), JSON.stringify(turned));
+  assert.equal(keys.find(it => it.name === 'q').degrees, 0);
+  await shot('turned_keys');
+  await browser.put('layout', 'us84.toml');
+  assert.equal(await textOfKey('y'), 'Y');
+  assert.ok(await browser.evaluate('!document.getElementById("own-legends").checkVisibility()'));
+}
+
 /** What macOS doesn't report: a release under Command, and the two edges of Caps Lock, of which it reports one each time. */
 export async function macintosh(browser, url) {
   await browser.before('Object.defineProperty(Navigator.prototype, "platform", { get: () => "MacIntel" })');
