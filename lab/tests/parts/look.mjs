@@ -99,7 +99,7 @@ export async function phones(browser, shot) {
     await browser.click('#restart');
     await browser.until('lab.live.stamp > 200000');
     for (const key of ['lshift', 't', 'o', 'kp5']) await browser.tap(`[data-key=${key}]`);
-    await browser.says('screen', /^To5?▁$/);
+    await browser.says('screen', /^T+o+5*▁$/);
     await drawnDown(browser, '');
   }
   await browser.size(null);
