@@ -1,4 +1,5 @@
-; Four keys in column 0. A key that goes down sends its code, and one that goes up F0 and its code. The bytes wait in a queue. The PC's bytes are answered.
+; Four keys in column 0. A key that goes down sends its code, and one that goes up F0 and its code.
+; The bytes wait in a queue. The PC's bytes are answered.
 ;
 ; R5 the rows that changed, R6 the place of the row's code, R7 the keys that are down; R1 as R7,
 ; turned with R5.

@@ -1,5 +1,5 @@
-; The keys of the AT. A key that goes down sends its code, and one that goes up F0 and its code. The bytes wait in a queue. The last key repeats
-; while it is held. The PC's bytes are answered.
+; The keys of the AT. A key that goes down sends its code, and one that goes up F0 and its code.
+; The bytes wait in a queue. The last key repeats while it is held. The PC's bytes are answered.
 ;
 ; R1 the cell of the column, R5 the rows that changed, R6 the place of the row's code, R7 the keys that
 ; are down, turned with R5. The cells 20 to 2B have the keys that were down, a cell for each column.

@@ -1,6 +1,6 @@
 // The lessons: each has a file to change, a task, two hints, and what it asks of the file (`judges`). `begin` says which texts of
-// an example are replaced for the first form of the file, or `start` is that form. `command` runs what one has made, in which OWN
-// is the file and IMAGE its image.
+// an example are replaced for the first form of the file, or `start` is that form. `section` is that of docs/OWN-FIRMWARE.md which
+// says more. `command` runs what one has made, in which OWN is the file and IMAGE its image.
 import { certifies, columnOf, columnsOf, doesInTrials, doesOnTheAt, saysOfBytes, sendsOnPress, writesBeforeRead } from './course/asked.js';
 import { ALL_COLUMNS, ANSWERS, BREAKS, MAKES, ONE_COLUMN, QUEUED, QUEUED_COLUMNS, SILENT, TAKES } from './course/programs.js';
 import {
@@ -22,6 +22,7 @@ const ASKED = [['EE', ['EE']], ['ED', ['FA']], ['F4', ['FA']], ['FF', ['FA', 'AA
 export const LESSONS = [
   {
     title: 'A program that runs',
+    section: 'A program that runs',
     text: ['This is the firmware of a keyboard with four keys, for the 8049 in the keyboard. It watches column 0 of the key matrix. When a key goes down, it sends one byte to the PC over two wires.',
       'The last line has the bytes of the keys a, b, c and d. The space bar has the code 29, and the PC makes the scan code 39 of it.'],
     task: 'Let the first key be the space bar: the keyboard must send the space bar\'s code, and not its scan code. All else stays as it is.',
@@ -33,6 +34,7 @@ export const LESSONS = [
   },
   {
     title: 'Pins: the matrix',
+    section: 'Pins',
     text: ['Port P1 selects a column of the matrix, and INS A,BUS reads its rows. A key that is down reads 0, so CPL A makes it a 1. ANL A,#0FH keeps the four rows that have keys.',
       'The board now has a fifth key e, in row 4 of column 0. Its code is 24.'],
     task: 'Let the program read five rows and send 24 for the fifth. The other four keys send what they sent.',
@@ -48,6 +50,7 @@ export const LESSONS = [
   },
   {
     title: 'A byte on the wires',
+    section: 'A byte',
     text: ['A byte is eleven bits: a start bit 0, eight bits with the lowest first, parity and a stop bit 1. The PC takes a bit when the clock falls. The falls must be 32 cycles apart, 16 low and 16 high. Data changes only while the clock is high.',
       'Here four NOPs are missing before the clock rises. The PC still takes the byte, but a logic analyser that looks for falls 32 cycles apart hears nothing.'],
     task: 'Put the four cycles back, so that the clock is low for 16 cycles in each bit, and the trace names each byte that passes.',
@@ -59,6 +62,7 @@ export const LESSONS = [
   },
   {
     title: 'What becomes of a byte',
+    section: 'When a byte may go, and when it must wait',
     text: ['The keyboard sends its own codes: 1C when A goes down, F0 and 1C when it goes up. The controller in the PC turns them into scan codes, and INT 09h makes words of those. The left shift key has the code 12.',
       'The file is the list of bytes that a keyboard sends.'],
     task: 'Let the PC get a capital A: shift goes down, A goes down and up, shift goes up.',
@@ -70,6 +74,7 @@ export const LESSONS = [
   },
   {
     title: 'When a byte may go',
+    section: 'When a byte may go, and when it must wait',
     text: ['Before it sends, the keyboard looks at both wires. If the clock is low, the controller holds the keyboard off, and the byte must wait. The pins T0 and T1 show the clock and the data wire.',
       'In this program the look at the clock within a frame is missing. When the PC writes something while a byte is under way, it breaks the byte off, and the byte is lost. That may be at any time: the file broken_off.keys has one of them.'],
     task: 'Put the look back: where the clock is low after it was let go, jump to freed. Falls stay 32 cycles apart.',
@@ -82,6 +87,7 @@ export const LESSONS = [
   },
   {
     title: 'Nothing comes: finding a fault',
+    section: 'Nothing comes: finding a fault',
     text: ['This program sends bytes, and the PC reads nothing. A byte with a wrong bit isn\'t taken.',
       'Open it in the processor, and run it up to the label freed, with the breakpoint "byte on the wires" at keyboard 1C: that isn\'t met. R2 and R3 hold the frame: the byte, then its parity and the stop bit.'],
     task: 'Find the wrong bit, and put it right. The number of ones in byte and parity must be odd, whatever the byte is.',
@@ -93,6 +99,7 @@ export const LESSONS = [
   },
   {
     title: 'What was never written',
+    section: 'What was never written',
     text: ['At power-on the memory of a real part holds anything. This program reads a cell that it never wrote: the lamp that it lights depends on the part. With --fill the memory holds a byte of your choice at power-on.'],
     task: 'Write 00 to the cell 20 before the program reads it, so that it lights Num Lock\'s lamp whatever memory holds.',
     hints: ['R0 is 20, so @R0 is the cell. MOV A,#0 writes to A, not to the cell.', 'MOV @R0,#0 writes to the cell that R0 names. It must come before MOV A,@R0.'],
@@ -103,6 +110,7 @@ export const LESSONS = [
   },
   {
     title: 'How long it can take',
+    section: 'How long it can take',
     text: ['A certificate bounds the time from a place to a target, whatever registers, memory and pins hold. Each line is a place and a bound in cycles. A bound may count a register: 04F 0 32 4 is 32 cycles for each turn that R4 has left.',
       'Place 01D is the first after the wires were found free, and the target 057 is where the byte has passed. In this certificate one bound is too small.'],
     task: 'Let the program say that the certificate is right, with a bound of at most 400 cycles, a millisecond, for place 01D. Begin with the line that it names.',
@@ -114,6 +122,7 @@ export const LESSONS = [
   },
   {
     title: 'Send one byte',
+    section: 'A byte',
     text: ['A keyboard that was switched on tests itself and says so with the byte AA. This program has a subroutine that sends the byte in R0, and doesn\'t call it.',
       'CALL goes to a subroutine, whose RET comes back to the instruction after the CALL.'],
     task: 'Let the program send AA once after power-on, and nothing else.',
@@ -125,6 +134,7 @@ export const LESSONS = [
   },
   {
     title: 'A key that goes up',
+    section: 'A byte',
     text: ['The PC must know how long a key is held: with Shift it makes capitals. A key that goes up sends two bytes, F0 and its code.',
       'In this program R5 has a 1 for each row that changed, and R1 a 1 for each key that is down. Both are turned together, so bit 0 is the row whose code R6 names.'],
     task: 'Let a key that goes up send F0, and then its code.',
@@ -136,6 +146,7 @@ export const LESSONS = [
   },
   {
     title: 'Scan a matrix',
+    section: 'Pins',
     text: ['Eight keys need eight rows, or two columns of four rows. A matrix of 12 columns and 8 rows has room for 96 keys, and needs 12 steps to read them all.',
       'The keys e to h are in column 1, rows 0 to 3. Their codes are 24, 2B, 34 and 33. A key sends its code when it goes down.'],
     task: 'Let the program read both columns in turn, and send the codes of all eight keys.',
@@ -148,6 +159,7 @@ export const LESSONS = [
   },
   {
     title: 'Answer the PC: EE and FF',
+    section: 'A byte from the PC',
     text: ['The PC writes bytes to the keyboard: EE asks for an echo, FF for a reset. If the clock is high and data is low, the keyboard must give eleven clocks, and pull data for the last one. The subroutine take does that.',
       'The keyboard answers each byte: EE with EE, any other with FA. After FF it sends FA, begins anew, and says AA as after power-on.'],
     task: 'Let the program answer EE with EE, FF with FA and AA, and each other byte with FA. After power-on it sends nothing.',
@@ -160,6 +172,7 @@ export const LESSONS = [
   },
   {
     title: 'The lights: ED',
+    section: 'A byte from the PC',
     text: ['The lights are the PC\'s: after Caps Lock it writes ED and then a byte whose bits 0, 1 and 2 are Scroll Lock, Num Lock and Caps Lock. The keyboard answers FA to each.',
       'P2.4, P2.5 and P2.6 drive the three lamps, and a 0 lights one. P2.0 and P2.1 are the wires, and stay 1 meanwhile.'],
     task: 'Let the byte after ED set the lights, and answer it with FA. All else stays as it is.',
@@ -172,6 +185,7 @@ export const LESSONS = [
   },
   {
     title: 'Send it again: FE',
+    section: 'When a byte may go, and when it must wait',
     text: ['A bit may be wrong when it arrives. The controller then finds a wrong parity, and writes FE: the keyboard must send its last byte again, and nothing else.',
       'The line "flip 3" of a key file turns bit 3 of the keyboard\'s next byte. Run the command, and see that the PC never reads EE.'],
     task: 'Let the program answer FE with the byte that it sent last. The rest stays as it is.',
@@ -184,6 +198,7 @@ export const LESSONS = [
   },
   {
     title: 'A queue',
+    section: 'When a byte may go, and when it must wait',
     text: ['While the PC doesn\'t read, send waits, and the keys aren\'t read: a short stroke is lost. The AT\'s keyboard keeps what its keys say in a queue of sixteen bytes, and goes on reading the keys.',
       'A queue is a ring: the place after its last is its first. Cells 20 to 2F have room for it.'],
     task: 'Let up to sixteen bytes wait in a queue, in their order, while the keys are still read. Each goes when the wires are free.',
@@ -197,6 +212,7 @@ export const LESSONS = [
   },
   {
     title: 'A key that is held',
+    section: 'A whole keyboard',
     text: ['A key that is held repeats: after half a second its code comes again, and then ten times a second. The last key that went down repeats, until it goes up or another goes down.',
       'STRT T starts the timer. It counts once in 32 cycles, and overflows each 8,192 cycles, which are 20.48 ms. JTF jumps if it has overflowed since the last JTF.'],
     task: 'Let the last key repeat after 500 ms, and then each 100 ms. Each of these times may be a fifth shorter or longer.',
@@ -209,6 +225,7 @@ export const LESSONS = [
   },
   {
     title: 'A whole keyboard of four keys',
+    section: 'A whole keyboard',
     text: ['The queue of exercise 15 and the answers of 12, 13 and 14 make a whole keyboard. Between two looks at the keys it looks at the wires: does the PC ask it to take a byte, or are they free for a byte of its own?',
       'An answer goes before all that waits, because the controller takes the next byte for the answer. The program has the queue and the subroutine take.'],
     task: 'Let it answer each byte of the PC\'s: EE with EE, FE with its last byte, ED and the byte after it with FA each and the lights, FF with FA and AA, all others with FA.',
@@ -226,6 +243,7 @@ export const LESSONS = [
   },
   {
     title: 'The real matrix',
+    section: 'A whole keyboard',
     text: ['The AT\'s keyboard has 84 keys in a matrix of 12 columns and 8 rows: of column 11 none, of column 10 four. This program reads column 0.',
       'Cells 20 to 2B have the keys that were down, a cell for each column. MOVP3 A,@A reads page 3, which has eight codes for each column.'],
     task: 'Let the program read all columns in turn, and send the code of each key that goes down.',
@@ -238,6 +256,7 @@ export const LESSONS = [
   },
   {
     title: 'All keys, down and up',
+    section: 'A whole keyboard',
     text: ['A keyboard for real: 84 keys, each with a break code, and a queue. You have built each part: exercise 10 has the break codes, 15 the queue.',
       'Sixteen conditional jumps or more don\'t all reach the same page: ORG 100H begins page 1. CALL and JMP reach any place.'],
     task: 'Let each key send its code when it goes down, and F0 and its code when it goes up. Up to sixteen bytes wait in a queue while the PC doesn\'t read.',
@@ -253,6 +272,7 @@ export const LESSONS = [
   },
   {
     title: 'The AT\'s keyboard',
+    section: 'A judge for free',
     text: ['This is the last exercise, and the keyboard of this page is its model. expect prints what the PC must see of a right keyboard, whatever its program is. The check runs your program and the model on the same keys and the same bytes of the PC.',
       'The program that you begin with has the keys, the queue and the subroutine take.'],
     task: 'Let it say AA after power-on, repeat the last key after 500 ms and then each 100 ms, and answer EE, ED, FE, FF and F4 as in exercise 17. FF drops what waits, ends the repeats and puts the lights out.',
@@ -263,4 +283,13 @@ export const LESSONS = [
     command: 'board IMAGE us84.toml whole.keys',
     judges: doesOnTheAt(likeTheModel),
   },
+];
+
+const upTo = last => Array.from({ length: last }, (_, n) => n + 1);
+
+/** Ways through the lessons: for whom each is, and which lessons it has, by their numbers. */
+export const PATHS = [
+  { name: 'a term', says: 'All twenty exercises, one or two a week: up to 8 the program of a keyboard, up to 12 its parts, up to 17 a whole keyboard of four keys, up to 20 that of the AT.', lessons: upTo(LESSONS.length) },
+  { name: 'a day', says: 'The first eight: a program is changed, measured and repaired. 40 minutes each.', lessons: upTo(8) },
+  { name: 'an hour', says: 'What a key sends, what the PC makes of it, and how a byte looks on the wires. 15 minutes each.', lessons: [1, 4, 2, 3] },
 ];

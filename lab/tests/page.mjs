@@ -81,6 +81,9 @@ try {
   await part('share link', () => workbench.shareLink(browser, url));
   const lessons = await part('lessons', () => lessonParts.lessons(browser, shot));
   await part('differences', () => lessonParts.differences(browser, shot));
+  await part('paths', () => lessonParts.paths(browser, shot));
+  await part('sheets', () => lessonParts.sheets(browser, shot));
+  await part('by keyboard', () => lessonParts.byKeyboard(browser));
   await part('contrast of the lessons', () => look.contrast(browser));
   await part('one copy', () => keeping.oneCopy(browser, url));
   await part('begin again', () => keeping.beginAgain(browser));

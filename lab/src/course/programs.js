@@ -235,7 +235,7 @@ const PUT_CODE = ['        MOV R0,A\n        CALL send\n        JMP turn\n', '  
 /** Four keys with a queue. */
 const QUEUED_KEYS = replaced(BREAKS, [
   [SEND, ''],
-  ['F0 and its code.\n;\n; R0 the byte to be sent, R5', 'F0 and its code. The bytes wait in a queue.\n;\n; R5'],
+  ['F0 and its code.\n;\n; R0 the byte to be sent, R5', 'F0 and its code.\n; The bytes wait in a queue.\n;\n; R5'],
   ['        MOV R7,#0\n', `FIRST   EQU 20H                 ; the first place of the queue\n        MOV R7,#0\n${BEGIN_QUEUE}`],
   ['        JZ poll\n', '        JZ offer\n'],
   PUT_BREAK_AND_CODE, PUT_CODE,
@@ -313,7 +313,7 @@ export const ALL_COLUMNS = replaced(ONE_COLUMN, [
 
 /** All columns, with keys that go up, and a queue. */
 export const QUEUED_COLUMNS = replaced(ALL_COLUMNS, [
-  [', and one that goes up nothing.', ', and one that goes up F0 and its code. The bytes wait in a queue.'],
+  [', and one that goes up nothing.', ', and one that goes up F0 and its code.\n; The bytes wait in a queue.'],
   ['; R0 the byte to be sent, R1', '; R1'],
   ['        MOV R1,#20H\nclear:', `FIRST   EQU 30H                 ; the first place of the queue\n${BEGIN_QUEUE}        MOV R1,#20H\nclear:`],
   ['        JMP turn                ; the key went up\n', PUT_BREAK_AND_CODE[1]],

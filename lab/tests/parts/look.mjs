@@ -16,18 +16,17 @@ const PHONES = { narrow: [360, 800, 2], iphone: [390, 844, 3], android: [412, 91
 
 /** The buttons at the top show a pane and go to it, also if it is shown; each pane's own button hides it. */
 export async function panes(browser) {
-  const seen = pane => browser.evaluate(`[document.querySelector('#panes [data-pane=${pane}]').getAttribute('aria-pressed') === 'true', document.getElementById('${pane}').checkVisibility()]`);
+  const look = pane => `[document.querySelector('#panes [data-pane=${pane}]').getAttribute('aria-pressed') === 'true', document.getElementById('${pane}').checkVisibility()].join()`;
   for (const pane of PANES) {
-    const [was] = await seen(pane);
+    const was = (await browser.evaluate(look(pane))).startsWith('true');
     for (let times = 0; times < 2; times++) {
       await browser.evaluate('scrollTo(0, 0)');
       await browser.click(`#panes [data-pane=${pane}]`);
-      assert.deepEqual(await seen(pane), [true, true], `the button of ${pane} shows it`);
-      const top = await browser.evaluate(`document.getElementById('${pane}').getBoundingClientRect().top`);
-      assert.ok(top >= -1 && top < await browser.evaluate('innerHeight'), `${pane} is in sight`);
+      // Its button shows it, and it comes into sight.
+      await browser.until(`${look(pane)} === 'true,true' && (top => top >= -1 && top < innerHeight)(document.getElementById('${pane}').getBoundingClientRect().top)`);
     }
     await browser.click(`#hide-${pane}`);
-    assert.deepEqual(await seen(pane), [false, false], `${pane} is hidden`);
+    await browser.until(`${look(pane)} === 'false,false'`);
     assert.equal(await browser.evaluate('document.activeElement.dataset.pane'), pane, 'the focus is on the button that shows it again');
     await browser.evaluate(`lab.show('${pane}', ${was})`);
   }
