@@ -65,7 +65,13 @@ export async function open(program, url, [width, height], media = {}) {
     evaluate: async expression => valueOf(await said(expression)),
     down: (code, more = {}) => press('keyDown', code, more),
     up: (code, more = {}) => press('keyUp', code, more),
-    write: text => act('keys', 'key', [...text].flatMap(it => ['keyDown', 'keyUp'].map(type => ({ type, value: it === '\n' ? KEYS.Enter : it })))),
+    async write(text) {
+      const isEnter = text === '\n';
+      if (isEnter) await said('addEventListener("keydown", it => { globalThis.entered = it.defaultPrevented ? null : document.activeElement; }, { once: true }); 0');
+      await act('keys', 'key', [...text].flatMap(it => ['keyDown', 'keyUp'].map(type => ({ type, value: it === '\n' ? KEYS.Enter : it }))));
+      // A window that nobody sees is never the active one, and its buttons don't do what Enter does to them in one that is.
+      if (isEnter) await said('if (globalThis.entered?.matches("button, summary")) entered.click(); 0');
+    },
     control: code => chord(KEYS.ControlLeft, keyOf(code)),
     tabBack: () => chord(KEYS.ShiftLeft, KEYS.Tab),
     mouse: pointer('mouse', 'mouse'),

@@ -53,7 +53,6 @@ export async function differences(browser, shot) {
   assert.equal(await browser.textOf('lesson-result'), '');
 }
 
-const answerOf = name => readFileSync(new URL(`../../answers/${name}`, import.meta.url), 'utf8');
 const MOST_TABS = 80;
 
 /** Presses Tab, or Shift and Tab, up to an element. */
@@ -68,11 +67,31 @@ async function press(browser, selector) {
   await browser.write('\n');
 }
 
+// In the open lesson's file the code of the first key, in the last line, becomes another.
+async function firstCode(browser, code) {
+  await browser.control('End');
+  await browser.stroke('ArrowUp', 5);
+  for (let count = 0; count < 'bytes:  DB '.length; count++) await browser.stroke('ArrowRight', 5);
+  for (let count = 0; count < code.length; count++) await browser.stroke('Delete', 5);
+  await browser.write(code);
+}
+
+async function wholeText(browser, text) {
+  await browser.control('KeyA');
+  await browser.write(text);
+}
+
+// How lessons are edited by keys: into something wrong, and into what is right. The others of the path are checked as they are.
+const EDITS = {
+  1: [browser => firstCode(browser, '39'), browser => firstCode(browser, '29')],
+  4: [browser => wholeText(browser, '12 1C F0 1C'), browser => wholeText(browser, '12 1C F0 1C F0 12')],
+};
+
 /** By the keyboard alone: a path is chosen and a lesson, its file is changed and checked, the first difference is read, the file is
     repaired, and the next lesson follows, up to the end of the path. */
 export async function byKeyboard(browser) {
   await browser.only('keyboard');
-  await browser.evaluate('localStorage.clear(); document.querySelector("#panes button").focus()');
+  await browser.evaluate('document.querySelector("#panes button").focus()');
   await press(browser, '#panes [data-pane=lessons]');
   await browser.until('document.getElementById("lessons").checkVisibility()');
   await browser.evaluate('lab.show("keyboard", false)');
@@ -84,41 +103,30 @@ export async function byKeyboard(browser) {
   await press(browser, '#lesson-list [data-lesson="1"]');
   for (const [at, number] of path.entries()) {
     await browser.until(`lab.lessons.number === ${number - 1}`);
-    const name = await browser.evaluate('lab.lessons.name');
     await press(browser, '#lesson-reset');
     await browser.wait(100);
     if (await browser.evaluate('document.getElementById("ask").open')) await press(browser, '#ask-yes');
-    await tabTo(browser, '#lesson-file', true);
-    if (number === 1) {
-      // The code of the first key is in the last line.
-      await browser.control('End');
-      await browser.stroke('ArrowUp', 5);
-      for (let count = 0; count < 'bytes:  DB '.length; count++) await browser.stroke('ArrowRight', 5);
-      for (let count = 0; count < 2; count++) await browser.stroke('Delete', 5);
-      await browser.write('39');
-    } else {
-      await browser.control('End');
-      await browser.write(' ');
+    const [wrong, right] = EDITS[number] ?? [];
+    if (wrong) {
+      await tabTo(browser, '#lesson-file', true);
+      await wrong(browser);
     }
     await press(browser, '#lesson-check');
     await browser.says('lesson-result', /^Not yet/);
-    if (number !== 2 && number !== 3) {
-      await tabTo(browser, '#lesson-expected');
-      assert.match(await browser.textOf('lesson-expected'), /^> /m);
-      await tabTo(browser, '#lesson-got');
-    }
-    await tabTo(browser, '#lesson-file', true);
-    await browser.control('KeyA');
-    await browser.write(answerOf(name));
-    await browser.until(`lab.files['${name}'].trimEnd() === ${JSON.stringify(answerOf(name).trimEnd())}`);
-    await press(browser, '#lesson-check');
-    await browser.says('lesson-result', /^Done/);
+    await tabTo(browser, '#lesson-expected');
+    assert.match(await browser.textOf('lesson-expected'), /^> /m);
+    await tabTo(browser, '#lesson-got');
+    if (right) {
+      await tabTo(browser, '#lesson-file', true);
+      await right(browser);
+      await press(browser, '#lesson-check');
+      await browser.says('lesson-result', /^Done/);
+    } else await tabTo(browser, '#lesson-check', true);
     if (at === path.length - 1) break;
     await press(browser, '#lesson-next');
     await browser.until('document.activeElement.id === "lesson-title"');
   }
   assert.ok(await browser.evaluate('document.getElementById("lesson-next").hidden'), 'the path has an end');
-  assert.equal(await browser.evaluate('document.querySelectorAll("#lesson-list .done").length'), path.length);
 }
 
 /** Each path has its lessons with their own numbers, and each lesson the section of the document that says more. */
