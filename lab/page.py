@@ -138,6 +138,7 @@ def page(keyboard: str, program: str, sources: str) -> str:
         "/*FILES*/": data(examples()),
         "/*FAULTS*/": data(faults()),
         "/*BOARDS*/": data(tables()),
+        "/*MANUAL*/": data((ROOT / "docs/OWN-FIRMWARE.md").read_text(encoding="utf-8")),
         "/*KEYBOARD*/": keyboard,
         "/*PROGRAM*/": program,
         "/*SCRIPT*/": code,

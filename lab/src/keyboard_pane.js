@@ -2,7 +2,7 @@
 import { BoardOpener, shapes } from './board_opener.js';
 import { byId, fill, make, tell } from './dom.js';
 import { files, named, onFile, originals } from './files.js';
-import { HEIGHT, SHAPES, WIDTH, isWhite, keyOfCode, keysOf, legendOf, saidOfKey } from './places.js';
+import { HEIGHT, SHAPES, WIDTH, cornersOf, isWhite, keyOfCode, keysOf, legendOf, ownLegend, saidOfKey } from './places.js';
 import { explained, kbd48 } from './program.js';
 
 const TAP = 60; // ms that a key is held if its release isn't reported
@@ -30,6 +30,7 @@ export class KeyboardPane {
     byId('take-layout').onclick = () => { this.begin(); this.board.focus(); };
     this.select.onchange = () => this.begin();
     byId('restart').onclick = () => { this.begin(); this.board.focus(); };
+    byId('own-legends').onchange = () => this.#legends();
     this.boards = new BoardOpener({ chosen: name => this.choose(name), bench });
     this.#listen();
     this.begin();
@@ -106,11 +107,14 @@ export class KeyboardPane {
   }
 
   #draw() {
-    const places = this.#places(), whole = places.some(it => it === SHAPES.space);
-    const left = Math.min(...places.map(it => it.x)), top = Math.min(...places.map(it => it.y));
-    const wide = whole ? WIDTH : Math.max(8, ...places.map(it => it.x - left + it.width));
-    const high = whole ? HEIGHT : Math.max(4, ...places.map(it => it.y - top + it.height));
+    const places = this.#places(), whole = places.some(it => it === SHAPES.space), corners = places.flatMap(cornersOf);
+    const [left, top] = ['x', 'y'].map(way => Math.min(...corners.map(it => it[way])));
+    const wide = whole ? WIDTH : Math.max(8, ...corners.map(it => it.x - left)), high = whole ? HEIGHT : Math.max(4, ...corners.map(it => it.y - top));
     this.board.style.setProperty('--rows', String(high));
+    // A turned key keeps its form only where units are as high as they are wide.
+    this.board.style.setProperty('--square', `${wide} / ${high}`);
+    this.board.classList.toggle('square', places.some(it => it.turned));
+    byId('own-legends').parentElement.hidden = !places.some(it => it.legend);
     this.drawn.clear();
     this.board.replaceChildren();
     for (const [at, key] of this.keys.entries()) {
@@ -133,11 +137,13 @@ export class KeyboardPane {
     this.#legends();
   }
 
-  // What each key sends, in the layer that is selected.
+  // What each key sends, in the layer that is selected; or what the board's file says on it, and what the PC makes of it.
   #legends() {
-    const under = this.keys.some(key => key.fn && this.held.get(key.name)?.size);
+    const under = this.keys.some(key => key.fn && this.held.get(key.name)?.size), isOwn = byId('own-legends').checked && !under;
+    byId('legends-note').hidden = byId('own-legends').parentElement.hidden || !isOwn;
     for (const key of this.keys) {
-      this.drawn.get(key.name).textContent = key.fn ? 'Fn' : legendOf(under ? key.fnSends ?? key.sends : key.sends);
+      const sends = under ? key.fnSends ?? key.sends : key.sends, own = isOwn && shapes.get(this.select.value)?.[key.name]?.legend;
+      this.drawn.get(key.name).textContent = own ? ownLegend(own, sends) : key.fn ? 'Fn' : legendOf(sends);
     }
   }
 

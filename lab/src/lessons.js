@@ -1,17 +1,28 @@
 // The lessons: each has a file to change, a task, two hints, and what it asks of the file (`judges`). `begin` says which texts of
-// an example are replaced for the first form of the file, or `start` is that form. `command` runs what one has made, in which OWN
-// is the file and IMAGE its image.
-import { certifies, columnOf, columnsOf, doesInTrials, saysOfBytes, sendsOnPress, writesBeforeRead } from './course/asked.js';
-import { MAKES, SILENT, TAKES } from './course/programs.js';
-import { answers, atPowerOn, makeTrials, silences, strokesOf, withBreaks } from './course/trials.js';
+// an example are replaced for the first form of the file, or `start` is that form. `section` is that of docs/OWN-FIRMWARE.md which
+// says more. `command` runs what one has made, in which OWN is the file and IMAGE its image.
+import { certifies, columnOf, columnsOf, doesInTrials, doesOnTheAt, saysOfBytes, sendsOnPress, writesBeforeRead } from './course/asked.js';
+import { ALL_COLUMNS, ANSWERS, BREAKS, MAKES, ONE_COLUMN, QUEUED, QUEUED_COLUMNS, SILENT, TAKES } from './course/programs.js';
+import {
+  answers, atPowerOn, chosen, conversations, eachKey, likeTheModel, lightings, makeTrials, noisy, repeating, repeatTrials, silences, strokesInHold, strokesOf, waitingTrials,
+  withBreaks, writesAround,
+} from './course/trials.js';
 
 const FOUR_KEYS = ['a', 'b', 'c', 'd'], FOUR_CODES = ['1C', '32', '21', '23'];
 const MATRIX = [FOUR_KEYS, ['e', 'f', 'g', 'h']], EIGHT_KEYS = MATRIX.flat(), EIGHT_CODES = [...FOUR_CODES, '24', '2B', '34', '33'];
+const FOUR_BREAKS = withBreaks(makeTrials(FOUR_KEYS, FOUR_CODES), FOUR_KEYS, FOUR_CODES);
+const BY_A = { name: 'a', code: '1C', as: trial => ({ ...trial, bytes: ['1C', 'F0', '1C'] }) };
+const SOME = [0, 19, 44, 66]; // keys of the AT in different columns and rows
+const ASKED_AGAIN = [
+  [['EE', ['EE']], ['FE', ['EE']]], [['F4', ['FA']], ['FE', ['FA']], ['FE', ['FA']], ['EE', ['EE']], ['FE', ['EE']]],
+  [['FF', ['FA', 'AA']], ['FE', ['AA']], ['00', ['FA']], ['FE', ['FA']]], [['EE', ['EE']], ['EE', ['EE']], ['FE', ['EE']], ['FE', ['EE']], ['F4', ['FA']]],
+];
 const ASKED = [['EE', ['EE']], ['ED', ['FA']], ['F4', ['FA']], ['FF', ['FA', 'AA']], ['00', ['FA']]];
 
 export const LESSONS = [
   {
     title: 'A program that runs',
+    section: 'A program that runs',
     text: ['This is the firmware of a keyboard with four keys, for the 8049 in the keyboard. It watches column 0 of the key matrix. When a key goes down, it sends one byte to the PC over two wires.',
       'The last line has the bytes of the keys a, b, c and d. The space bar has the code 29, and the PC makes the scan code 39 of it.'],
     task: 'Let the first key be the space bar: the keyboard must send the space bar\'s code, and not its scan code. All else stays as it is.',
@@ -23,6 +34,7 @@ export const LESSONS = [
   },
   {
     title: 'Pins: the matrix',
+    section: 'Pins',
     text: ['Port P1 selects a column of the matrix, and INS A,BUS reads its rows. A key that is down reads 0, so CPL A makes it a 1. ANL A,#0FH keeps the four rows that have keys.',
       'The board now has a fifth key e, in row 4 of column 0. Its code is 24.'],
     task: 'Let the program read five rows and send 24 for the fifth. The other four keys send what they sent.',
@@ -38,6 +50,7 @@ export const LESSONS = [
   },
   {
     title: 'A byte on the wires',
+    section: 'A byte',
     text: ['A byte is eleven bits: a start bit 0, eight bits with the lowest first, parity and a stop bit 1. The PC takes a bit when the clock falls. The falls must be 32 cycles apart, 16 low and 16 high. Data changes only while the clock is high.',
       'Here four NOPs are missing before the clock rises. The PC still takes the byte, but a logic analyser that looks for falls 32 cycles apart hears nothing.'],
     task: 'Put the four cycles back, so that the clock is low for 16 cycles in each bit, and the trace names each byte that passes.',
@@ -49,6 +62,7 @@ export const LESSONS = [
   },
   {
     title: 'What becomes of a byte',
+    section: 'When a byte may go, and when it must wait',
     text: ['The keyboard sends its own codes: 1C when A goes down, F0 and 1C when it goes up. The controller in the PC turns them into scan codes, and INT 09h makes words of those. The left shift key has the code 12.',
       'The file is the list of bytes that a keyboard sends.'],
     task: 'Let the PC get a capital A: shift goes down, A goes down and up, shift goes up.',
@@ -60,6 +74,7 @@ export const LESSONS = [
   },
   {
     title: 'When a byte may go',
+    section: 'When a byte may go, and when it must wait',
     text: ['Before it sends, the keyboard looks at both wires. If the clock is low, the controller holds the keyboard off, and the byte must wait. The pins T0 and T1 show the clock and the data wire.',
       'In this program the look at the clock within a frame is missing. When the PC writes something while a byte is under way, it breaks the byte off, and the byte is lost. That may be at any time: the file broken_off.keys has one of them.'],
     task: 'Put the look back: where the clock is low after it was let go, jump to freed. Falls stay 32 cycles apart.',
@@ -72,6 +87,7 @@ export const LESSONS = [
   },
   {
     title: 'Nothing comes: finding a fault',
+    section: 'Nothing comes: finding a fault',
     text: ['This program sends bytes, and the PC reads nothing. A byte with a wrong bit isn\'t taken.',
       'Open it in the processor, and run it up to the label freed, with the breakpoint "byte on the wires" at keyboard 1C: that isn\'t met. R2 and R3 hold the frame: the byte, then its parity and the stop bit.'],
     task: 'Find the wrong bit, and put it right. The number of ones in byte and parity must be odd, whatever the byte is.',
@@ -83,6 +99,7 @@ export const LESSONS = [
   },
   {
     title: 'What was never written',
+    section: 'What was never written',
     text: ['At power-on the memory of a real part holds anything. This program reads a cell that it never wrote: the lamp that it lights depends on the part. With --fill the memory holds a byte of your choice at power-on.'],
     task: 'Write 00 to the cell 20 before the program reads it, so that it lights Num Lock\'s lamp whatever memory holds.',
     hints: ['R0 is 20, so @R0 is the cell. MOV A,#0 writes to A, not to the cell.', 'MOV @R0,#0 writes to the cell that R0 names. It must come before MOV A,@R0.'],
@@ -93,6 +110,7 @@ export const LESSONS = [
   },
   {
     title: 'How long it can take',
+    section: 'How long it can take',
     text: ['A certificate bounds the time from a place to a target, whatever registers, memory and pins hold. Each line is a place and a bound in cycles. A bound may count a register: 04F 0 32 4 is 32 cycles for each turn that R4 has left.',
       'Place 01D is the first after the wires were found free, and the target 057 is where the byte has passed. In this certificate one bound is too small.'],
     task: 'Let the program say that the certificate is right, with a bound of at most 400 cycles, a millisecond, for place 01D. Begin with the line that it names.',
@@ -104,6 +122,7 @@ export const LESSONS = [
   },
   {
     title: 'Send one byte',
+    section: 'A byte',
     text: ['A keyboard that was switched on tests itself and says so with the byte AA. This program has a subroutine that sends the byte in R0, and doesn\'t call it.',
       'CALL goes to a subroutine, whose RET comes back to the instruction after the CALL.'],
     task: 'Let the program send AA once after power-on, and nothing else.',
@@ -115,6 +134,7 @@ export const LESSONS = [
   },
   {
     title: 'A key that goes up',
+    section: 'A byte',
     text: ['The PC must know how long a key is held: with Shift it makes capitals. A key that goes up sends two bytes, F0 and its code.',
       'In this program R5 has a 1 for each row that changed, and R1 a 1 for each key that is down. Both are turned together, so bit 0 is the row whose code R6 names.'],
     task: 'Let a key that goes up send F0, and then its code.',
@@ -122,11 +142,11 @@ export const LESSONS = [
     file: 'lesson10.asm',
     start: MAKES,
     command: 'board IMAGE four_keys.toml four_keys.keys',
-    judges: doesInTrials(columnOf(FOUR_KEYS), [...withBreaks(makeTrials(FOUR_KEYS, FOUR_CODES), FOUR_KEYS, FOUR_CODES), ...silences(FOUR_KEYS)],
-      { name: 'a', code: '1C', as: trial => ({ ...trial, bytes: ['1C', 'F0', '1C'] }) }),
+    judges: doesInTrials(columnOf(FOUR_KEYS), [...FOUR_BREAKS, ...silences(FOUR_KEYS)], BY_A),
   },
   {
     title: 'Scan a matrix',
+    section: 'Pins',
     text: ['Eight keys need eight rows, or two columns of four rows. A matrix of 12 columns and 8 rows has room for 96 keys, and needs 12 steps to read them all.',
       'The keys e to h are in column 1, rows 0 to 3. Their codes are 24, 2B, 34 and 33. A key sends its code when it goes down.'],
     task: 'Let the program read both columns in turn, and send the codes of all eight keys.',
@@ -139,6 +159,7 @@ export const LESSONS = [
   },
   {
     title: 'Answer the PC: EE and FF',
+    section: 'A byte from the PC',
     text: ['The PC writes bytes to the keyboard: EE asks for an echo, FF for a reset. If the clock is high and data is low, the keyboard must give eleven clocks, and pull data for the last one. The subroutine take does that.',
       'The keyboard answers each byte: EE with EE, any other with FA. After FF it sends FA, begins anew, and says AA as after power-on.'],
     task: 'Let the program answer EE with EE, FF with FA and AA, and each other byte with FA. After power-on it sends nothing.',
@@ -149,7 +170,126 @@ export const LESSONS = [
     command: 'board IMAGE four_keys.toml asked.keys',
     judges: doesInTrials(columnOf(FOUR_KEYS), [...answers(ASKED), { says: 'nobody writes', keys: '50ms end\n', bytes: [], calm: true }]),
   },
+  {
+    title: 'The lights: ED',
+    section: 'A byte from the PC',
+    text: ['The lights are the PC\'s: after Caps Lock it writes ED and then a byte whose bits 0, 1 and 2 are Scroll Lock, Num Lock and Caps Lock. The keyboard answers FA to each.',
+      'P2.4, P2.5 and P2.6 drive the three lamps, and a 0 lights one. P2.0 and P2.1 are the wires, and stay 1 meanwhile.'],
+    task: 'Let the byte after ED set the lights, and answer it with FA. All else stays as it is.',
+    hints: ['CPL A makes ones of zeros, and SWAP A brings bits 0 to 2 to bits 4 to 6.', 'Set all of P2 at once: ORL A,#8FH keeps the other pins at 1, and OUTL P2,A writes it.'],
+    file: 'lesson13.asm',
+    start: ANSWERS,
+    extra: { 'lights.keys': '10ms write60 ED\n30ms write60 05\n60ms end\n' },
+    command: 'board IMAGE four_keys.toml lights.keys',
+    judges: doesInTrials(columnOf(FOUR_KEYS), [...lightings, ...conversations(ASKED.filter(([asked]) => asked !== 'ED').map(pair => [pair]))]),
+  },
+  {
+    title: 'Send it again: FE',
+    section: 'When a byte may go, and when it must wait',
+    text: ['A bit may be wrong when it arrives. The controller then finds a wrong parity, and writes FE: the keyboard must send its last byte again, and nothing else.',
+      'The line "flip 3" of a key file turns bit 3 of the keyboard\'s next byte. Run the command, and see that the PC never reads EE.'],
+    task: 'Let the program answer FE with the byte that it sent last. The rest stays as it is.',
+    hints: ['A register that nothing else changes can keep the byte. R6 is free.', 'Each byte is sent by a CALL of send. Put one subroutine before it, which keeps the byte and then jumps to send.'],
+    file: 'lesson14.asm',
+    start: ANSWERS,
+    extra: { 'noisy.keys': '8ms flip 3\n10ms write60 EE\n60ms end\n' },
+    command: 'board IMAGE four_keys.toml noisy.keys',
+    judges: doesInTrials(columnOf(FOUR_KEYS), [...conversations([...ASKED_AGAIN, ...ASKED.map(pair => [pair])]), ...answers([['EE', ['EE']], ['F4', ['FA']]]).slice(0, 2).flatMap(noisy)]),
+  },
+  {
+    title: 'A queue',
+    section: 'When a byte may go, and when it must wait',
+    text: ['While the PC doesn\'t read, send waits, and the keys aren\'t read: a short stroke is lost. The AT\'s keyboard keeps what its keys say in a queue of sixteen bytes, and goes on reading the keys.',
+      'A queue is a ring: the place after its last is its first. Cells 20 to 2F have room for it.'],
+    task: 'Let up to sixteen bytes wait in a queue, in their order, while the keys are still read. Each goes when the wires are free.',
+    hints: ['Three numbers are needed: the place for the next byte, the place of the first one, and how many wait. SEL RB1 gives eight more registers.',
+      'send must not wait: look at both wires before it is called. A byte that was broken off, which R4 says, stays the first of the queue.'],
+    file: 'lesson15.asm',
+    start: BREAKS,
+    extra: { 'waiting.keys': '5ms mask\n10ms press a\n40ms release a\n60ms press b\n90ms release b\n110ms press c\n140ms release c\n200ms unmask\n260ms end\n' },
+    command: 'board IMAGE four_keys.toml waiting.keys',
+    judges: doesInTrials(columnOf(FOUR_KEYS), [...FOUR_BREAKS, ...withBreaks([...waitingTrials(FOUR_KEYS, FOUR_CODES), ...strokesInHold(FOUR_KEYS, FOUR_CODES)], FOUR_KEYS, FOUR_CODES), ...silences(FOUR_KEYS)], BY_A),
+  },
+  {
+    title: 'A key that is held',
+    section: 'A whole keyboard',
+    text: ['A key that is held repeats: after half a second its code comes again, and then ten times a second. The last key that went down repeats, until it goes up or another goes down.',
+      'STRT T starts the timer. It counts once in 32 cycles, and overflows each 8,192 cycles, which are 20.48 ms. JTF jumps if it has overflowed since the last JTF.'],
+    task: 'Let the last key repeat after 500 ms, and then each 100 ms. Each of these times may be a fifth shorter or longer.',
+    hints: ['Half a second is 25 overflows, and a tenth is 5. DJNZ counts a register down, and DEC A a cell.', 'A key that goes up ends the repeats only if it is the one that repeats. So keep which one it is.'],
+    file: 'lesson16.asm',
+    start: BREAKS,
+    extra: { 'held.keys': '10ms press a\n1200ms release a\n1300ms end\n' },
+    command: 'board IMAGE four_keys.toml held.keys',
+    judges: doesInTrials(columnOf(FOUR_KEYS), [...repeating([...FOUR_BREAKS, ...withBreaks(repeatTrials(FOUR_KEYS, FOUR_CODES), FOUR_KEYS, FOUR_CODES)]), ...atPowerOn([], '6000ms end\n'), ...silences(FOUR_KEYS)], BY_A),
+  },
+  {
+    title: 'A whole keyboard of four keys',
+    section: 'A whole keyboard',
+    text: ['The queue of exercise 15 and the answers of 12, 13 and 14 make a whole keyboard. Between two looks at the keys it looks at the wires: does the PC ask it to take a byte, or are they free for a byte of its own?',
+      'An answer goes before all that waits, because the controller takes the next byte for the answer. The program has the queue and the subroutine take.'],
+    task: 'Let it answer each byte of the PC\'s: EE with EE, FE with its last byte, ED and the byte after it with FA each and the lights, FF with FA and AA, all others with FA.',
+    hints: ['Where the clock is high and data is low, call take, and send the answer at once: not by the queue. AA after FF may go by the queue, after what waits there is dropped.',
+      'FE asks for the last byte, whether a key\'s or an answer. Keep it where R4 says that a byte has passed.'],
+    file: 'lesson17.asm',
+    start: QUEUED,
+    extra: { 'both.keys': '10ms press a\n30ms write60 EE\n60ms release a\n80ms write60 ED\n100ms write60 04\n120ms write60 FE\n160ms end\n' },
+    command: 'board IMAGE four_keys.toml both.keys',
+    judges: doesInTrials(columnOf(FOUR_KEYS), [
+      ...FOUR_BREAKS, ...withBreaks([...waitingTrials(FOUR_KEYS, FOUR_CODES), ...strokesInHold(FOUR_KEYS, FOUR_CODES)], FOUR_KEYS, FOUR_CODES),
+      ...lightings, ...conversations([...ASKED_AGAIN, ...ASKED.map(pair => [pair])]), ...withBreaks(eachKey(FOUR_KEYS, FOUR_CODES), FOUR_KEYS, FOUR_CODES).flatMap(noisy),
+      ...answers([['EE', ['EE']], ['F4', ['FA']], ['FF', ['FA', 'AA']]]).slice(0, 3).flatMap(noisy), ...writesAround('a', '1C', 'EE', 'EE'),
+    ], BY_A),
+  },
+  {
+    title: 'The real matrix',
+    section: 'A whole keyboard',
+    text: ['The AT\'s keyboard has 84 keys in a matrix of 12 columns and 8 rows: of column 11 none, of column 10 four. This program reads column 0.',
+      'Cells 20 to 2B have the keys that were down, a cell for each column. MOVP3 A,@A reads page 3, which has eight codes for each column.'],
+    task: 'Let the program read all columns in turn, and send the code of each key that goes down.',
+    hints: ['R1 is the place of the column\'s cell, and its low four bits are the column. INC R1 goes on to the next.', 'All twelve cells must be 00 at the start: memory holds anything when a part is switched on.'],
+    file: 'lesson18.asm',
+    start: ONE_COLUMN,
+    extra: { 'columns.keys': '10ms press grave\n60ms release grave\n80ms press a\n130ms release a\n150ms press prtsc\n200ms release prtsc\n250ms end\n' },
+    command: 'board IMAGE us84.toml columns.keys',
+    judges: doesOnTheAt((names, codes) => [...eachKey(names, codes), ...makeTrials(chosen(names, SOME), chosen(codes, SOME)), ...silences(chosen(names, SOME))], { name: 'a', code: '1C' }),
+  },
+  {
+    title: 'All keys, down and up',
+    section: 'A whole keyboard',
+    text: ['A keyboard for real: 84 keys, each with a break code, and a queue. You have built each part: exercise 10 has the break codes, 15 the queue.',
+      'Sixteen conditional jumps or more don\'t all reach the same page: ORG 100H begins page 1. CALL and JMP reach any place.'],
+    task: 'Let each key send its code when it goes down, and F0 and its code when it goes up. Up to sixteen bytes wait in a queue while the PC doesn\'t read.',
+    hints: ['Cells 20 to 2B are taken, so the queue may have the cells 30 to 3F.', 'Offer a byte after each round of the columns, and not within one: R1, R5, R6 and R7 are needed there.'],
+    file: 'lesson19.asm',
+    start: ALL_COLUMNS,
+    extra: { 'rolling.keys': '5ms mask\n10ms press lshift\n40ms press h\n70ms release h\n100ms release lshift\n130ms press i\n160ms release i\n200ms unmask\n300ms end\n' },
+    command: 'board IMAGE us84.toml rolling.keys',
+    judges: doesOnTheAt((names, codes) => {
+      const some = chosen(names, SOME), theirs = chosen(codes, SOME);
+      return [...withBreaks([...eachKey(names, codes), ...makeTrials(some, theirs), ...waitingTrials(chosen(names, SOME.map(at => at + 1)), chosen(codes, SOME.map(at => at + 1))), ...strokesInHold(some, theirs)], names, codes), ...silences(some)];
+    }, BY_A),
+  },
+  {
+    title: 'The AT\'s keyboard',
+    section: 'A judge for free',
+    text: ['This is the last exercise, and the keyboard of this page is its model. expect prints what the PC must see of a right keyboard, whatever its program is. The check runs your program and the model on the same keys and the same bytes of the PC.',
+      'The program that you begin with has the keys, the queue and the subroutine take.'],
+    task: 'Let it say AA after power-on, repeat the last key after 500 ms and then each 100 ms, and answer EE, ED, FE, FF and F4 as in exercise 17. FF drops what waits, ends the repeats and puts the lights out.',
+    hints: ['Look at the timer once in each round of the columns, as in exercise 16. The repeats go by the queue.', 'Cells 2C to 2F are free: which code repeats, how long until then, and the byte that was sent last.'],
+    file: 'lesson20.asm',
+    start: QUEUED_COLUMNS,
+    extra: { 'whole.keys': '450ms press lshift\n500ms press h\n1300ms release h\n1350ms release lshift\n1400ms write60 ED\n1430ms write60 04\n1500ms write60 EE\n1600ms end\n' },
+    command: 'board IMAGE us84.toml whole.keys',
+    judges: doesOnTheAt(likeTheModel),
+  },
 ];
 
-/** A text with these replacements. */
-export const replaced = (text, pairs) => pairs.reduce((now, [from, to]) => now.replace(from, () => to), text);
+const upTo = last => Array.from({ length: last }, (_, n) => n + 1);
+
+/** Ways through the lessons: for whom each is, and which lessons it has, by their numbers. */
+export const PATHS = [
+  { name: 'a term', says: 'All twenty exercises, one or two a week: up to 8 the program of a keyboard, up to 12 its parts, up to 17 a whole keyboard of four keys, up to 20 that of the AT.', lessons: upTo(LESSONS.length) },
+  { name: 'a day', says: 'The first eight: a program is changed, measured and repaired. 40 minutes each.', lessons: upTo(8) },
+  { name: 'an hour', says: 'What a key sends, what the PC makes of it, and how a byte looks on the wires. 15 minutes each.', lessons: [1, 4, 2, 3] },
+];

@@ -3,12 +3,14 @@
 import { ask } from './asking.js';
 import { checked } from './checking.js';
 import { firstOf, firstText, nameOf, saidOf } from './course/judged.js';
-import { byId, make, tell } from './dom.js';
+import { byId, fill, make, tell } from './dom.js';
 import { files, offer, onFile, originals, put, replace, undo, undoable } from './files.js';
 import { HandIns } from './hand_ins.js';
 import { keeping } from './keeping.js';
-import { LESSONS } from './lessons.js';
+import { LESSONS, PATHS } from './lessons.js';
+import { sectionOf } from './manual.js';
 import { FAULTS, kbd48 } from './program.js';
+import { Sheets } from './sheets.js';
 import { Waveform } from './waveform.js';
 
 const MARGIN = 400; // cycles of a wave after what is wrong
@@ -18,11 +20,15 @@ export class LessonsPane {
   /** `bench(name, command)` opens a file in the workbench, `processor(name, layout, keys)` in the processor. */
   constructor({ bench, processor }) {
     this.checks = 0;
-    byId('lesson-list').replaceChildren(...LESSONS.map((lesson, n) => {
-      const button = make('button', { type: 'button', textContent: lesson.title });
-      button.onclick = () => this.open(n);
-      return make('li', {}, button);
-    }));
+    fill(byId('path'), PATHS.map(it => it.name), PATHS[0].name);
+    byId('path').onchange = () => this.#list();
+    this.sheets = new Sheets(() => this.number + 1);
+    byId('lesson-print').onclick = () => this.sheets.print([this.number + 1]);
+    byId('print-path').onclick = () => this.sheets.print(this.path.lessons);
+    byId('lesson-next').onclick = () => {
+      this.open(this.next - 1);
+      byId('lesson-title').focus();
+    };
     byId('lesson-file').oninput = ({ target }) => put(this.name, target.value);
     onFile(({ name }) => {
       if (name === this.name && byId('lesson-file').value !== files[name]) byId('lesson-file').value = files[name];
@@ -38,7 +44,35 @@ export class LessonsPane {
     };
     this.wave = new Waveform(byId('lesson-wave'), () => ({ edges: [], bytes: [], cycle: 0 }));
     this.handIns = new HandIns();
+    this.number = 0;
+    this.#list();
     this.open(0);
+  }
+
+  get path() { return PATHS.find(it => it.name === byId('path').value); }
+
+  /** The lesson that follows on the path, by its number from 1; or undefined. One that isn't on the path has the first of it next. */
+  get next() { return this.path.lessons[this.path.lessons.indexOf(this.number + 1) + 1]; }
+
+  #list() {
+    byId('path-says').textContent = this.path.says;
+    byId('lesson-list').replaceChildren(...this.path.lessons.map(number => {
+      const button = make('button', { type: 'button', textContent: LESSONS[number - 1].title });
+      button.dataset.lesson = number;
+      button.onclick = () => this.open(number - 1);
+      return make('li', { value: number }, button);
+    }));
+    this.#mark();
+  }
+
+  // Which lesson is open, which are done, and whether one follows.
+  #mark() {
+    for (const button of document.querySelectorAll('#lesson-list button')) {
+      const number = Number(button.dataset.lesson);
+      button.setAttribute('aria-pressed', String(number === this.number + 1));
+      button.classList.toggle('done', keeping.done.has(nameOf(number)));
+    }
+    byId('lesson-next').hidden = this.next === undefined;
   }
 
   open(number) {
@@ -58,11 +92,11 @@ export class LessonsPane {
     tell(byId('lesson-result'), '');
     this.#clear();
     this.#canUndo();
-    for (const [n, button] of [...document.querySelectorAll('#lesson-list button')].entries()) {
-      button.setAttribute('aria-pressed', String(n === number));
-      const isDone = keeping.done.has(nameOf(n + 1));
-      button.classList.toggle('done', isDone);
-    }
+    const [head, body] = byId('lesson-more').children;
+    head.textContent = `More on this: ${lesson.section}`;
+    body.replaceChildren(...sectionOf(lesson.section));
+    byId('lesson-more').open = false;
+    this.#mark();
   }
 
   // The lesson's command, with the names of its file and of its image.
@@ -103,7 +137,7 @@ export class LessonsPane {
     if (found) this.#show(found);
     else {
       keeping.lessonDone(name);
-      document.querySelectorAll('#lesson-list button')[this.number].classList.add('done');
+      this.#mark();
     }
     tell(byId('lesson-result'), found ? `Not yet: ${saidOf(found, FAULTS)}` : 'Done: in every run it does what it must.', !found);
   }

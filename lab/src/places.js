@@ -52,6 +52,20 @@ const LEGENDS = {
 /** What stands on a key that sends this. */
 export const legendOf = name => LEGENDS[name] ?? name.toUpperCase();
 
+/** A legend of a board's own; of a key with a character also what the PC makes of it, if that is another. */
+export function ownLegend(own, name) {
+  const [theirs, ours] = [own, legendOf(name)].map(it => [...it.toUpperCase().replace(/\s/g, '')].sort().join(''));
+  return theirs === ours || !isWhite(name) ? own : `${own}\n→ ${legendOf(name).replace('\n', ' ')}`;
+}
+
+/** The corners of a key as it is drawn, in units of a key. */
+export function cornersOf({ x, y, width, height, turned }) {
+  const corners = [[x, y], [x + width, y], [x, y + height], [x + width, y + height]];
+  if (!turned) return corners.map(([right, down]) => ({ x: right, y: down }));
+  const angle = turned.by * Math.PI / 180, [cos, sin] = [Math.cos(angle), Math.sin(angle)];
+  return corners.map(([right, down]) => [right - turned.x, down - turned.y]).map(([right, down]) => ({ x: turned.x + right * cos - down * sin, y: turned.y + right * sin + down * cos }));
+}
+
 const SPOKEN = {
   grave: 'grave', minus: 'minus', equal: 'equals', backslash: 'backslash', lbracket: 'left bracket', rbracket: 'right bracket', semicolon: 'semicolon',
   quote: 'quote', comma: 'comma', period: 'period', slash: 'slash', backspace: 'backspace', lshift: 'left shift', rshift: 'right shift', caps: 'caps lock',

@@ -49,6 +49,17 @@ export async function open(program, url, [width, height], media = {}) {
     },
     down: (code, more = {}) => key('keyDown', code, more),
     up: (code, more = {}) => key('keyUp', code, more),
+    /** Types a text; a new line is Enter. */
+    async write(text) {
+      const letter = type => it => send('Input.dispatchKeyEvent', { type, ...it === '\n' ? { key: 'Enter', code: 'Enter', text: '\r', windowsVirtualKeyCode: VIRTUAL.Enter } : { key: it, text: it } });
+      await Promise.all([...text].flatMap(it => [letter('keyDown')(it), letter('keyUp')(it)]));
+    },
+    async control(code) {
+      for (const type of ['keyDown', 'keyUp']) await key(type, code, { modifiers: CONTROL });
+    },
+    async tabBack() {
+      for (const type of ['keyDown', 'keyUp']) await key(type, 'Tab', { modifiers: SHIFT });
+    },
     async mouse(type, { x, y }) {
       const [name, buttons] = { down: ['mousePressed', 1], up: ['mouseReleased', 0], drag: ['mouseMoved', 1] }[type];
       await send('Input.dispatchMouseEvent', { type: name, x, y, button: 'left', buttons, clickCount: 1 });
@@ -84,4 +95,5 @@ export async function open(program, url, [width, height], media = {}) {
   });
 }
 
-const VIRTUAL = { Tab: 9, Enter: 13, Escape: 27, Space: 32 };
+const VIRTUAL = { Tab: 9, Enter: 13, Escape: 27, Space: 32, End: 35, Home: 36, ArrowLeft: 37, ArrowUp: 38, ArrowRight: 39, ArrowDown: 40, Delete: 46 };
+const CONTROL = 2, SHIFT = 8; // modifiers

@@ -55,6 +55,7 @@ export async function open(program, url, [width, height], media = {}) {
     }
     else await said(`document.activeElement.dispatchEvent(new KeyboardEvent(${JSON.stringify(type.toLowerCase())}, ${JSON.stringify({ code, key: code, bubbles: true, cancelable: true, ...EVENT(more) })}))`);
   };
+  const chord = (held, value) => act('keys', 'key', [{ type: 'keyDown', value: held }, { type: 'keyDown', value }, { type: 'keyUp', value }, { type: 'keyUp', value: held }]);
   const pointer = (id, pointerType) => (type, { x, y } = {}) => act(id, 'pointer', [
     ...(x === undefined ? [] : [{ type: 'pointerMove', x: Math.round(x), y: Math.round(y) }]),
     ...(type === 'drag' ? [] : [{ type: type === 'down' ? 'pointerDown' : 'pointerUp', button: 0 }]),
@@ -64,6 +65,15 @@ export async function open(program, url, [width, height], media = {}) {
     evaluate: async expression => valueOf(await said(expression)),
     down: (code, more = {}) => press('keyDown', code, more),
     up: (code, more = {}) => press('keyUp', code, more),
+    async write(text) {
+      const isEnter = text === '\n';
+      if (isEnter) await said('addEventListener("keydown", it => { globalThis.entered = it.defaultPrevented ? null : document.activeElement; }, { once: true }); 0');
+      await act('keys', 'key', [...text].flatMap(it => ['keyDown', 'keyUp'].map(type => ({ type, value: it === '\n' ? KEYS.Enter : it }))));
+      // A window that nobody sees is never the active one, and its buttons don't do what Enter does to them in one that is.
+      if (isEnter) await said('if (globalThis.entered?.matches("button, summary")) entered.click(); 0');
+    },
+    control: code => chord(KEYS.ControlLeft, keyOf(code)),
+    tabBack: () => chord(KEYS.ShiftLeft, KEYS.Tab),
     mouse: pointer('mouse', 'mouse'),
     touch: pointer('finger', 'touch'),
     async choose(selector, files) {
@@ -108,7 +118,7 @@ function addressOf(child) {
 // WebDriver's letters for keys; it has none for Caps Lock and the lights' other keys.
 const KEYS = {
   ShiftLeft: '\uE008', ControlLeft: '\uE009', AltLeft: '\uE00A', Enter: '\uE007', Escape: '\uE00C', Tab: '\uE004', Space: ' ',
-  Comma: ',', Period: '.', ArrowUp: '\uE013', ArrowDown: '\uE015', ArrowLeft: '\uE012', ArrowRight: '\uE014', Equal: '=', Minus: '-',
+  Comma: ',', Period: '.', ArrowUp: '\uE013', ArrowDown: '\uE015', ArrowLeft: '\uE012', ArrowRight: '\uE014', Equal: '=', Minus: '-', End: '\uE010', Home: '\uE011', Delete: '\uE017',
 };
 
 const keyOf = code => KEYS[code] ?? /^(?:Key|Digit)(.)$/.exec(code)?.[1].toLowerCase();

@@ -3,6 +3,15 @@ import { readFileSync, readdirSync } from 'node:fs';
 
 const PATIENCE = 30_000; // ms
 const TICKS_OF_A_SECOND = 100; // in /proc
+const TRIES = 6;
+
+/** A pace that is measured is the one that was asked for: at most half as much again, and at least this part of it. A busy machine
+    only makes it slower, so a slow one is measured again. */
+export async function pacedAt(asked, measure, least = 0.5) {
+  let was = 0;
+  for (let tries = 0; tries < TRIES && was <= least * asked; tries++) was = await measure();
+  if (!(was > least * asked && was < 1.5 * asked)) throw new Error(`at ${asked} it ran at ${was}`);
+}
 
 /** A driver with what every driver has. */
 export function hands(driver) {

@@ -4,7 +4,7 @@ import assert from 'node:assert/strict';
 import { readFileSync } from 'node:fs';
 import { gunzipSync } from 'node:zlib';
 import { Program } from '../kbd48.mjs';
-import { LESSONS } from '../src/lessons.js';
+import { LESSONS, PATHS } from '../src/lessons.js';
 import { firstText, judged, nameOf, saidOf } from '../src/course/judged.js';
 import { SOLUTIONS } from './solutions.mjs';
 
@@ -62,5 +62,13 @@ for (const [at, lesson] of LESSONS.entries()) {
   counts.right += right.length + 1;
   counts.wrong += wrong.length + 1;
 }
+// The lessons and docs/OWN-FIRMWARE.md are one text: the page has the document, and the document's table has each lesson's section.
+const manual = JSON.parse(inPage('manual')), sections = [...manual.matchAll(/^## (.*)$/gm)].map(([, title]) => title);
+const listed = new Map([...manual.matchAll(/^\| ([^|]+) \| ([\d, ]+) \|$/gm)].map(([, title, numbers]) => [title, numbers]));
+const wanted = new Map(sections.filter(title => LESSONS.some(it => it.section === title)).map(title => [title, LESSONS.flatMap((it, n) => (it.section === title ? [n + 1] : [])).join(', ')]));
+must(LESSONS.every(it => sections.includes(it.section)), 'a lesson names a section that the document lacks');
+assert.deepEqual([...listed].sort(), [...wanted].sort(), 'the table of the document has the lessons\' sections');
+must(PATHS.every(it => it.lessons.every(number => number in SOLUTIONS) && new Set(it.lessons).size === it.lessons.length), 'a path has a lesson twice, or one that there isn\'t');
+
 assert.deepEqual(problems, []);
 console.log(`${LESSONS.length} lessons: ${counts.right} right solutions accepted and ${counts.wrong} wrong ones refused, in ${((Date.now() - began) / 1000).toFixed(1)} s`);

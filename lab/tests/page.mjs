@@ -76,10 +76,14 @@ try {
   await part('second layer', () => keyboard.secondLayer(browser));
   const boards = await part('every board', () => keyboard.everyBoard(browser, answers));
   await part('board files', () => keyboard.boardFiles(browser, shot, join(examples, 'boards')));
+  await part('as the board has them', () => keyboard.asTheBoardHasThem(browser, shot, join(examples, 'boards')));
   await part('broken files', () => workbench.brokenFiles(browser, folder));
   await part('share link', () => workbench.shareLink(browser, url));
   const lessons = await part('lessons', () => lessonParts.lessons(browser, shot));
   await part('differences', () => lessonParts.differences(browser, shot));
+  await part('paths', () => lessonParts.paths(browser, shot));
+  await part('sheets', () => lessonParts.sheets(browser, shot));
+  await part('by keyboard', () => lessonParts.byKeyboard(browser));
   await part('contrast of the lessons', () => look.contrast(browser));
   await part('one copy', () => keeping.oneCopy(browser, url));
   await part('begin again', () => keeping.beginAgain(browser));

@@ -1,10 +1,10 @@
 // Rows of keys as keyboard-layout-editor.com has them, plain or with what VIA writes into the legends.
 import { A_LIST, A_TABLE, Place, Refused, Shapeless, countOf, inShort, isTable, numberOf, pairOf, partOf, saysYes, textOf } from './refused.js';
 
-// Where the next key is drawn, and how wide. The angle of turned keys changes nothing here, and their height neither.
+// Where the next key is drawn, how wide and how high, and by how many degrees it is turned about which point.
 class Pen {
   constructor() {
-    Object.assign(this, { x: 0, y: 0, left: 0, top: 0, width: 1, decal: false });
+    Object.assign(this, { x: 0, y: 0, left: 0, top: 0, width: 1, height: 1, angle: 0, decal: false });
   }
 
   take(said, where) {
@@ -18,17 +18,23 @@ class Pen {
     this.x += x;
     this.y += y;
     this.width = w;
+    // A wrong height or angle changes nothing but the picture, so it isn't refused.
+    if (typeof said.h === 'number') this.height = said.h;
+    if (typeof said.r === 'number') this.angle = said.r;
     if ('d' in said) this.decal = saysYes(said.d);
   }
 
+  /** How a key is turned, or null. */
+  get turned() { return this.angle ? { by: this.angle, x: this.left, y: this.top } : null; }
+
   passKey() {
     this.x += this.width;
-    [this.width, this.decal] = [1, false];
+    [this.width, this.height, this.decal] = [1, 1, false];
   }
 
   passRow() {
     [this.x, this.y] = [this.left, this.y + 1];
-    [this.width, this.decal] = [1, false];
+    [this.width, this.height, this.decal] = [1, 1, false];
   }
 }
 
@@ -47,7 +53,7 @@ function* drawnKeys(all) {
       else if (typeof item === 'string') {
         number++;
         if (!pen.decal) {
-          yield { row: above + 1, number, legends: item.split('\n').map(part => part.trim()), width: pen.width, x: pen.x, y: pen.y };
+          yield { row: above + 1, number, legends: item.split('\n').map(part => part.trim()), width: pen.width, height: pen.height, x: pen.x, y: pen.y, turned: pen.turned };
         }
         pen.passKey();
       } else throw new Refused(`row ${above + 1}, item ${at + 1}: ${inShort(item)} is neither a key nor its properties`);
@@ -111,7 +117,7 @@ function readKeys(board, rows, options) {
     const place = pair ? new Place(...pair) : null;
     board.keys.push({
       where: place ? `matrix ${place}` : where, number: place ? `${place}` : `${key.row},${key.number}`,
-      legends: pair ? leftOf(legends) : legends, width: key.width, place, x: key.x, y: key.y,
+      legends: pair ? leftOf(legends) : legends, width: key.width, height: key.height, place, x: key.x, y: key.y, turned: key.turned,
     });
   }
   board.told.push(...options.told());

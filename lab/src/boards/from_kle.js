@@ -115,7 +115,8 @@ function madeOf(choices, names, textOf) {
   }
   if (choices.prints.has('wiring')) return { text: `${lines.join('\n')}\n`, told: [...all, ...ofNames, ...wired.asks] };
   const heading = `Made by from_kle of ${names.map(baseOf).join(' and ')}. The places are ${wired.how}.`;
-  const shapes = Object.fromEntries(entries.map(({ name, role: { key } }) => [name, { x: key.x, y: key.y, width: key.width, height: key.height ?? 1 }]));
+  // Of a board with a keymap the legends say nothing of what its keys send.
+  const shapes = Object.fromEntries(entries.map(({ name, role: { key } }) => [name, { x: key.x, y: key.y, width: key.width, height: key.height, turned: key.turned, legend: keymap ? '' : shownLegends(key) }]));
   return { text: layoutText(entries, heading), told: [...all, ...ofNames, ...wired.asks, ...wired.anew || choices.doubles ? lines : []], shapes };
 }
 

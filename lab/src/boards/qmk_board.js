@@ -42,6 +42,12 @@ function sizeOf(data) {
   };
 }
 
+// How a key is turned, about which point, or null; without a point about its own corner.
+function turnedOf({ r, rx, ry, x, y }) {
+  const [by, ...point] = [r, rx ?? x, ry ?? y].map(it => (typeof it === 'number' ? it : 0));
+  return by ? { by, x: point[0], y: point[1] } : null;
+}
+
 /** The board, with the keys of one of its layouts: that which the keymap is for, or the words choose. */
 export function boardOfQmk(data, choices, ofKeymap) {
   if (choices.options.length) throw new Refused("a board of QMK's has no options, but layouts: --layout NAME");
@@ -56,7 +62,7 @@ export function boardOfQmk(data, choices, ofKeymap) {
     return {
       where: place ? `matrix ${place}` : counted, number: `${place ?? at + 1}`,
       legends: ('label' in key ? textOf(key.label) : '').split('\n').map(part => part.trim()), width: numberIn('w', 1), place,
-      x: numberIn('x', 0), y: numberIn('y', 0), height: typeof key.h === 'number' ? key.h : 1,
+      x: numberIn('x', 0), y: numberIn('y', 0), height: typeof key.h === 'number' ? key.h : 1, turned: turnedOf(key),
     };
   });
   const said = data.diode_direction ?? null;

@@ -3,6 +3,7 @@
 import { hex } from '../dom.js';
 import { stampOf, firstFrame } from './frames.js';
 import { differing, itemsIn, itemsOfBytes, judging } from './judge.js';
+import { AT_CODES } from './programs.js';
 import { brokenOff, keyFileOf, makeTrials, silences, switchedOff } from './trials.js';
 import { readTrace } from '../vcd.js';
 
@@ -44,6 +45,14 @@ export const doesInTrials = (layout, trials, byKey) => function* judgedInTrials(
   if (first || !byKey) return first;
   const frame = frameOf(say, image, layout, byKey.name);
   return yield* judging(say, image, layout, [brokenOff, switchedOff].flatMap(kind => kind(byKey.name, byKey.code, frame, 2 * WRITES_APART)).map(byKey.as ?? (it => it)));
+};
+
+const AT = 'us84.toml';
+
+/** A program on the AT's board, in the trials of its keys, `trialsOf(names, codes)`. */
+export const doesOnTheAt = (trialsOf, byKey) => function* judgedOnTheAt(say, text, files) {
+  const keys = [...files[AT].matchAll(/^key = "(\w+)"\ncolumn = (\d+)\nrow = (\d+)$/gm)].map(([, name, column, row]) => ({ name, code: AT_CODES[column][row] }));
+  return yield* doesInTrials(files[AT], trialsOf(keys.map(it => it.name), keys.map(it => it.code)), byKey)(say, text);
 };
 
 /** The layout of keys in columns, each a list of names from row 0 on. */

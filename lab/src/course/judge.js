@@ -4,6 +4,7 @@
 import { hex } from '../dom.js';
 import { readTrace } from '../vcd.js';
 import { calmFault, fallsOf, heardFault, stampOf, takenFault } from './frames.js';
+import { asTheyAre, logLinesOf } from './logs.js';
 
 const NOTHING = 'nothing more';
 
@@ -26,14 +27,21 @@ export function differing(says, what, expected, got, more = {}) {
   return line < 0 ? null : { says, what, line, expected: [...expected, NOTHING], got: [...got, NOTHING], ...more };
 }
 
-const FILES = ['own.hex', 'board.toml', 'trial.keys'];
+const FILES = ['own.hex', 'board.toml', 'trial.keys'], CYCLES_OF_A_TICK = 2048;
 
-// What a program says of a trial: its log without times, and its trace.
+// What a program says of a trial: its log, and its trace.
 function runOf(say, image, layout, trial) {
   const files = { 'own.hex': image, 'board.toml': layout, 'trial.keys': trial.keys };
   const words = ['board', ...FILES, ...(trial.fill ? ['--fill', trial.fill] : [])];
   const log = say(words, files), traced = say([...words, '--trace'], files);
-  return { log, items: itemsIn(log.text, true), trace: log.exit === 0 && traced.exit === 0 ? readTrace(traced.text) : null };
+  return { log, trace: log.exit === 0 && traced.exit === 0 ? readTrace(traced.text) : null };
+}
+
+// What the PC must read in a trial: what it lists, what the model of the keyboard says, or what comes of its bytes.
+function expectedOf(say, layout, { items, likeModel, bytes, read = bytes, keys, reads = asTheyAre }) {
+  if (items) return items;
+  if (likeModel) return reads(logLinesOf(say(['expect', 'board.toml', 'trial.keys'], { 'board.toml': layout, 'trial.keys': keys }).text), CYCLES_OF_A_TICK);
+  return itemsOfBytes(say, read);
 }
 
 // A fault of the wires as what is found.
@@ -43,13 +51,13 @@ const wireFound = (says, found, trace) => found && {
 
 /** The first thing in which one trial isn't as it must be, or null. */
 export function tried(say, image, layout, trial) {
-  const { log, items, trace } = runOf(say, image, layout, trial), { says } = trial;
+  const { log, trace } = runOf(say, image, layout, trial), { says, reads = asTheyAre } = trial;
   if (!trace) return { says, what: 'the run', line: 0, expected: ['it goes on to its end'], got: [log.text.trimEnd().split('\n').at(-1)] };
   const inOrder = list => (trial.any ? [...list].sort() : list), heard = trace.bytes.filter(it => it.sender === 'keyboard').map(it => hex(it.byte));
   const wires = wireFound(says, trial.calm ? calmFault(trace) : heardFault(trace) ?? (trial.takes ? takenFault(trace) : null), trace);
-  const expected = trial.items ?? itemsOfBytes(say, trial.bytes), more = { trace, at: trace.edges.at(-1)?.cycle };
-  return wires ?? differing(says, 'what the PC reads', inOrder(expected), inOrder(items))
-    ?? differing(says, 'the bytes on the wires', inOrder(trial.bytes), inOrder(heard), more)
+  const more = { trace, at: trace.edges.at(-1)?.cycle };
+  return wires ?? differing(says, 'what the PC reads', inOrder(expectedOf(say, layout, trial)), inOrder(reads(logLinesOf(log.text), 1)))
+    ?? (trial.bytes === undefined ? null : differing(says, 'the bytes on the wires', inOrder(trial.bytes), inOrder(heard), more))
     ?? (trial.falls === undefined ? null : differing(says, 'falls of the clock', [String(trial.falls)], [String(fallsOf(trace))], more));
 }
 

@@ -1,6 +1,7 @@
 // A lesson's file, judged, and what was found in words.
-import { LESSONS, replaced } from '../lessons.js';
+import { LESSONS } from '../lessons.js';
 import { explanationOf } from '../refusals.js';
+import { replaced } from './replaced.js';
 
 /** The file that a lesson begins with; `originals` are the examples of the page. */
 export const firstText = (lesson, originals) => lesson.start ?? replaced(originals[lesson.file], lesson.begin);

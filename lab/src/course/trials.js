@@ -1,9 +1,11 @@
 // What a lesson's program must do: runs of key files, each with the bytes that the keyboard must send in it. A trial has
 // `says`, where it is; `keys`, its key file; `bytes`; `any`, if their order is free; `calm`, if the keyboard alone begins to pull
-// the wires; `fill`, what memory holds at power-on.
+// the wires; `fill`, what memory holds at power-on; `takes`, if the keyboard takes the PC's bytes; `items`, what the PC reads in
+// place of what comes of the bytes (or of `read`), or `likeModel`, if it is what the model says; `reads`, how a log is read (logs.js).
+import { CYCLES_OF_ONE_MS, asTheyAre, withLastLights, withLights, withoutRepeats } from './logs.js';
 
 const HELD_MS = 50, REST = 40, HELD_LONG = 900, SHORT = 15; // ms
-const FIRST_MS = 10, CYCLES_OF_ONE_MS = 400;
+const FIRST_MS = 10, BETWEEN_WRITES = 20;
 const MOST_AT_ONCE = 4; // edges, of which five take at least 5.6 ms
 const STRAY_SEED = 48271, STRAY_MODULUS = 2147483647; // of a pseudo-random sequence, which is the same each time
 const TRIAL_FILLS = ['00', 'A5', 'FF', '5A'];
@@ -33,13 +35,12 @@ function* stray(seed) {
 
 // Each key alone, and each more than once.
 function aloneTrials(names, codes) {
-  const each = names.map((name, n) => ({ says: `key ${name} goes down and up`, keys: keyFileOf(stroke(name, FIRST_MS)), bytes: [codes[n]], calm: true, fill: TRIAL_FILLS[n % TRIAL_FILLS.length] }));
   const thrice = names.map((name, n) => ({
     says: `key ${name} goes down and up three times`, bytes: [codes[n], codes[n], codes[n]], calm: true,
     keys: keyFileOf([0, 1, 2].flatMap(time => stroke(name, FIRST_MS + time * (SHORT + 2 * REST), SHORT + REST))),
   }));
   const held = names.map((name, n) => ({ says: `key ${name} is held for ${HELD_LONG} ms`, keys: keyFileOf(stroke(name, FIRST_MS, HELD_LONG)), bytes: [codes[n]], calm: true }));
-  return [...each, ...thrice, ...held];
+  return [...eachKey(names, codes), ...thrice, ...held];
 }
 
 // Each set of keys that go down at once, and are let go one after the other.
@@ -159,4 +160,130 @@ export function answers(pairs) {
   const each = pairs.map(([asked, bytes]) => ({ says: `the PC writes ${asked}`, keys: keyFileOf([{ ms: FIRST_MS, words: `write60 ${asked}` }]), bytes, takes: true }));
   const all = { says: 'the PC writes one after the other', keys: keyFileOf(pairs.map(([asked], n) => ({ ms: FIRST_MS + 20 * n, words: `write60 ${asked}` }))), bytes: pairs.flatMap(([, bytes]) => bytes), takes: true };
   return [...each, all];
+}
+
+/** What the PC writes, one byte after the other: each with the keyboard's answers, and the lights from then on. */
+export const conversations = lists => lists.map(list => {
+  let lights = '0';
+  const items = list.flatMap(([, answered, lit]) => {
+    lights = lit ?? lights;
+    return answered.map(byte => `port ${byte}, lights ${lights}`);
+  });
+  return {
+    says: `the PC writes ${listed(list.map(([byte]) => byte))}`, takes: true, reads: withLights, items: [...items, `the end, lights ${lights}`], bytes: list.flatMap(([, answered]) => answered),
+    keys: keyFileOf(list.map(([byte], n) => ({ ms: FIRST_MS + BETWEEN_WRITES * n, words: `write60 ${byte}` }))),
+  };
+});
+
+/** Conversations that set the lights to each value, and then to another. */
+export const lightings = conversations([
+  ...Array.from({ length: 8 }, (_, to) => [['ED', ['FA']], [`0${to}`, ['FA'], String(to)], ['EE', ['EE']], ['ED', ['FA']], [`0${7 - to}`, ['FA'], String(7 - to)]]),
+  [['ED', ['FA']], ['7A', ['FA'], '2'], ['05', ['FA']], ['F4', ['FA']], ['ED', ['FA']], ['07', ['FA'], '7'], ['EE', ['EE']]],
+]);
+
+/** Noise turns each bit of the first byte that a keyboard sends in a trial, so that the controller asks for it again. */
+export const noisy = trial => Array.from({ length: 9 }, (_, n) => ({
+  ...trial, says: `${trial.says}, and noise turns ${n === 8 ? 'the parity bit' : `bit ${n + 1}`} of the keyboard's next byte`, calm: false, takes: true,
+  keys: `${(FIRST_MS - 2) * CYCLES_OF_ONE_MS} flip ${n + 1}\n${trial.keys}`, read: trial.bytes, bytes: [trial.bytes[0], ...trial.bytes],
+}));
+
+/** Five strokes while the PC doesn't read: INT 09h is masked, or the PC has switched the keyboard off within the first byte. What
+    waits is more each time than what waited before, so that a queue comes to its end and begins anew. */
+export function waitingTrials(names, codes) {
+  return names.map((_, from) => {
+    const lines = [], bytes = [];
+    for (let round = 0; round < 4; round++) {
+      const begin = FIRST_MS + 400 * round, at = n => (from + round + n) % names.length, strokes = 2 + round;
+      lines.push({ ms: begin - 5, words: 'mask' }, { ms: begin + 300, words: 'unmask' });
+      for (let n = 0; n < strokes; n++) lines.push(...stroke(names[at(n)], begin + n * 50, 20));
+      bytes.push(...Array.from({ length: strokes }, (__, n) => codes[at(n)]));
+    }
+    return { says: `strokes while INT 09h is masked, from key ${names[from]} on`, keys: keyFileOf(lines, 3 * REST), bytes, calm: true };
+  });
+}
+
+/** The PC switches the keyboard off in the frame of the first key, and there are four more strokes before it is on again. */
+export const strokesInHold = (names, codes) => Array.from({ length: 12 }, (_, n) => {
+  const list = [0, 1, 2, 3, 0], stamp = FIRST_MS * CYCLES_OF_ONE_MS + 60 + 25 * n;
+  return {
+    says: `the PC switches the keyboard off at cycle ${stamp}, and on after four more strokes`, bytes: list.map(at => codes[at]),
+    keys: keyFileOf([...list.flatMap((at, place) => stroke(names[at], FIRST_MS + place * 50, 20)), { stamp, words: 'write64 AD' }, { ms: 300, words: 'write64 AE' }], 3 * REST),
+  };
+});
+
+/** Trials of keys that repeat while they are held. */
+export function repeatTrials(names, codes) {
+  const [a, b, c] = names, list = [];
+  for (const [n, name] of names.entries()) for (const ms of [450 - 100, 700, 1130, 1500]) list.push({ says: `key ${name} is held for ${ms} ms`, keys: keyFileOf(stroke(name, FIRST_MS + n, ms)), bytes: [codes[n]] });
+  list.push(
+    { says: `key ${b} goes down while ${a} is held`, keys: keyFileOf([press(a, 10), press(b, 300), release(b, 1400), release(a, 2100)]), bytes: [codes[0], codes[1]] },
+    { says: `key ${a} goes up while ${b} is held`, keys: keyFileOf([press(a, 10), press(b, 300), release(a, 1000), release(b, 1600)]), bytes: [codes[0], codes[1]] },
+    { says: `keys ${b} and ${c} go down while ${a} repeats`, keys: keyFileOf([press(a, 10), press(b, 800), release(b, 850), press(c, 1000), release(c, 1800), release(a, 1900)]), bytes: [codes[0], codes[1], codes[2]] },
+    { says: `key ${a} is held twice`, keys: keyFileOf([...stroke(a, 10, 800), ...stroke(a, 1000, 900)]), bytes: [codes[0], codes[0]] },
+  );
+  return list.map((trial, n) => ({ ...trial, calm: true, fill: TRIAL_FILLS[n % TRIAL_FILLS.length] }));
+}
+
+/** The same trials of keys that repeat: what comes in time isn't counted. */
+export const repeating = trials => trials.map(({ bytes, ...trial }) => ({ ...trial, read: bytes, reads: (lines, unit) => asTheyAre(withoutRepeats(lines, unit)) }));
+
+/** The PC writes a byte at each time around a key's frame: both the key's byte and the answer come. */
+export const writesAround = (name, code, asked, answer) => Array.from({ length: 130 }, (_, n) => {
+  const stamp = FIRST_MS * CYCLES_OF_ONE_MS - 200 + 7 * n;
+  return {
+    says: `the PC writes ${asked} at cycle ${stamp}, about when key ${name} goes down`, bytes: [code, answer], any: true, takes: true,
+    keys: keyFileOf([press(name, FIRST_MS), { stamp, words: `write60 ${asked}` }]),
+  };
+});
+
+/** Each key alone. */
+export const eachKey = (names, codes) => names.map((name, n) => ({ says: `key ${name} goes down and up`, keys: keyFileOf(stroke(name, FIRST_MS)), bytes: [codes[n]], calm: true, fill: TRIAL_FILLS[n % TRIAL_FILLS.length] }));
+
+/** Those of a list at these places. */
+export const chosen = (list, places) => places.map(at => list[at]);
+
+const AFTER_TEST = 450; // ms after which the keyboard's self-test is over, in the model too
+const TYPED_APART = 40; // ms, so that edges are in different ticks of the model
+
+// What a keyboard must do as the model does, with these lines of a key file. What repeats in time isn't counted.
+function likeModel(says, lines, more = {}) {
+  const later = lines.map(it => ('ms' in it ? { ...it, ms: it.ms + AFTER_TEST } : it));
+  return { says, likeModel: true, reads: (log, unit) => withLastLights(withoutRepeats(log, unit)), keys: keyFileOf(later, 3 * REST), ...more };
+}
+
+const writes = list => list.map(([ms, byte]) => ({ ms, words: `write60 ${byte}` }));
+
+/** What a whole keyboard does as the model does: every key, keys that are held, what the PC asks, noise, and much of it at once. */
+export function likeTheModel(names) {
+  const groups = Array.from({ length: Math.ceil(names.length / 6) }, (_, n) => names.slice(6 * n, 6 * n + 6)), list = [];
+  for (const [n, group] of groups.entries()) list.push(likeModel(`the keys ${listed(group)} go down and up`, group.flatMap((name, at) => stroke(name, 60 * at, 30)), { calm: true, fill: TRIAL_FILLS[n % TRIAL_FILLS.length] }));
+  for (const name of ['a', 'grave', 'kp5', 'prtsc', 'f10']) for (const ms of [300, 700, 1130]) list.push(likeModel(`key ${name} is held for ${ms} ms`, stroke(name, 0, ms)));
+  list.push(
+    likeModel('shift makes a capital', [press('lshift', 0), ...stroke('h', 60, 60), release('lshift', 200), ...stroke('i', 260)]),
+    likeModel('q goes down while a is held', [press('a', 0), press('q', 300), release('q', 1000), release('a', 1700)]),
+    likeModel('a goes up while q is held', [press('a', 0), press('q', 300), release('a', 1000), release('q', 1700)]),
+    likeModel('five strokes while INT 09h is masked', [{ ms: 0, words: 'mask' }, ...['q', 'w', 'e', 'r', 't'].flatMap((name, n) => stroke(name, 30 + 60 * n, 30)), { ms: 500, words: 'unmask' }]),
+    likeModel('the PC sets the lights', writes([[0, 'ED'], [30, '05'], [80, 'EE'], [120, 'ED'], [150, '02']])),
+    likeModel('the PC asks again and again', writes([[0, 'EE'], [40, 'FE'], [80, 'F4'], [120, 'FE'], [160, 'FE']])),
+    likeModel('the PC asks for the byte of a key again', [press('a', 0), ...writes([[60, 'FE'], [100, 'EE'], [140, 'FE']]), release('a', 200), ...writes([[260, 'FE']])]),
+    likeModel('the PC resets a keyboard of which a key is held', [press('w', 0), ...writes([[300, 'FF']]), release('w', 1500)]),
+    likeModel('the PC resets a keyboard with lights', writes([[0, 'ED'], [30, '07'], [80, 'FF'], [700, 'EE']])),
+  );
+  for (let bit = 1; bit <= 9; bit++) list.push(likeModel(`noise turns bit ${bit} of the next byte`, [{ ms: 0, words: `flip ${bit}` }, ...stroke('v', 30), { ms: 150, words: `flip ${bit}` }, ...writes([[170, 'EE']])]));
+  for (const seed of [5, 17, 29, 41, 59, 83]) list.push(likeModel('strokes, and what the PC writes between them', mixture(names, seed)));
+  for (let n = 0; n < 40; n++) list.push(likeModel(`the PC writes EE ${17 * n} cycles after key k goes down`, [press('k', 0), { stamp: AFTER_TEST * CYCLES_OF_ONE_MS + 17 * n, words: 'write60 EE' }, release('k', 100)], { any: true }));
+  return list;
+}
+
+// Twelve strokes that roll over, and a byte of the PC's after some of them.
+function mixture(names, seed) {
+  const next = stray(seed), number = bound => next.next().value(bound), lines = [];
+  const typed = names.filter(name => !['ctrl', 'alt', 'num', 'caps', 'scroll', 'sysreq', 'prtsc'].includes(name));
+  for (let ms = 0, count = 0; count < 12; count++, ms += 3 * TYPED_APART) {
+    const name = typed[number(typed.length)];
+    lines.push(press(name, ms), release(name, ms + TYPED_APART));
+    const asked = [[], [[0, 'EE']], [[0, 'ED'], [20, `0${number(8)}`]], [[0, 'FE']]][number(4)];
+    lines.push(...writes(asked.map(([at, byte]) => [ms + 1.5 * TYPED_APART + at, byte])));
+  }
+  return lines;
 }

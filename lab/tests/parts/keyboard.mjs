@@ -16,15 +16,17 @@ export async function typing(browser, shot) {
   await browser.stroke('KeyH');
   await browser.up('ShiftLeft');
   for (const code of ['KeyI', 'Comma', 'Space', 'KeyP', 'KeyC', 'Enter']) await browser.stroke(code);
-  await browser.says('screen', /^Hi, pc\n▁$/);
+  // On a busy machine a stroke may last so long that the keyboard repeats it.
+  await browser.says('screen', /^H+i+,+ +p+c+\n+▁$/);
+  assert.deepEqual(await browser.evaluate('[..."hipc", "comma", "space", "enter"].map(name => lab.live.events.filter(it => it.words === `press ${name}`).length)'), [1, 1, 1, 1, 1, 1, 1]);
   // Strokes between two pictures arrive, and Shift comes before its letter.
   const strokes = ['lshift +', 'a +', 'a -', 'lshift -', 'o +', 'o -'].map(it => it.split(' '));
   await browser.evaluate(`for (const [name, way] of ${JSON.stringify(strokes)}) lab.keys.hold(name, way === '+', 'test')`);
-  await browser.says('screen', /^Hi, pc\nAo▁$/);
+  await browser.says('screen', /\nAo▁$/);
   await browser.stroke('CapsLock');
   await browser.until('document.querySelector("[data-lamp=\\"4\\"]").classList.contains("on")');
   await browser.stroke('KeyQ');
-  await browser.says('screen', /Q▁$/);
+  await browser.says('screen', /Q+▁$/);
   await browser.says('bytes', /PC → keyboard {2}ED[^]*keyboard → PC {2}FA[^]*PC → keyboard {2}04/);
   // The mouse holds a key, and so does a hand; the repeats of the window system aren't taken.
   const drawn = await browser.place('[data-key=x]');
@@ -43,48 +45,56 @@ export async function typing(browser, shot) {
   await browser.stroke('CapsLock');
   await browser.until('!document.querySelector("[data-lamp=\\"4\\"]").classList.contains("on")');
   await browser.stroke('KeyY', 60, { key: 'z' });
-  await browser.says('screen', /Zy▁$/);
+  await browser.says('screen', /Zy+▁$/);
   await shot('keyboard');
 }
 
 // ms until a picture has what was done, with what a timer of the browser may be late.
-const LATEST = { down: 60, letter: 100, up: 130, log: 270 }, UP_AFTER_FAST = 180;
+const LATEST = { down: 60, letter: 100, up: 130, log: 270 }, UP_AFTER_FAST = 180, TRIES = 5;
 
 /** A key is drawn down at once; its letter, and the key that is up again, within a tenth of a second; the log within a quarter.
     That holds for strokes that are far apart, and for fast ones. One key that is pressed time and again changes its look at once
     with each stroke, and is drawn up 150 ms after the last. Of each the best of several strokes counts, because other work delays
-    any. */
+    any; on a busy machine there are more of them. */
 export async function prompt(browser) {
   for (const [keys, gaps] of [['jkl', [450]], ['jkl', [97]], ['j', [97, 97, 450]]]) {
-    const best = await browser.evaluate(`(async () => {
-      const of = id => document.getElementById(id), keyOf = name => document.querySelector('[data-key=' + name + ']');
-      const isDown = name => keyOf(name).classList.contains('down'), look = name => getComputedStyle(keyOf(name)).backgroundColor;
-      const wait = ms => new Promise(yes => setTimeout(yes, ms)), best = { down: Infinity, letter: Infinity, up: Infinity, log: Infinity };
-      const measure = async (what, is) => {
-        const from = performance.now();
-        while (!is() && performance.now() - from < 2000) await wait(2);
-        best[what] = Math.min(best[what], performance.now() - from);
-      };
-      const lines = () => of('log').textContent.split('\\n').length, all = [], keys = ${JSON.stringify(keys)}, gaps = ${JSON.stringify(gaps)};
-      for (let n = 0; n < 12; n++) {
-        const name = keys[n % keys.length], gap = gaps[n % gaps.length], letters = of('screen').textContent.length, was = look(name);
-        const down = measure('down', () => isDown(name) && look(name) !== was);
-        lab.keys.hold(name, true, 'test');
-        all.push(down, measure('letter', () => of('screen').textContent.length > letters));
-        await wait(70);
-        const had = lines();
-        lab.keys.hold(name, false, 'test');
-        // Its next stroke is measured by the look.
-        if (keys.length > 1 || gap > 97) all.push(measure('up', () => !isDown(name)));
-        all.push(measure('log', () => lines() > had));
-        await wait(gap);
-      }
-      await Promise.all(all);
-      return best;
-    })()`), most = keys.length > 1 ? LATEST : { ...LATEST, up: UP_AFTER_FAST };
-    for (const [what, ms] of Object.entries(most)) assert.ok(best[what] <= ms, `${keys} after ${gaps} ms, ${what}: ${Math.round(best[what])} ms`);
+    const most = Object.entries(keys.length > 1 ? LATEST : { ...LATEST, up: UP_AFTER_FAST });
+    let best = await bestOf(browser, keys, gaps);
+    for (let tries = 1; tries < TRIES && most.some(([what, ms]) => best[what] > ms); tries++) {
+      const again = await bestOf(browser, keys, gaps);
+      best = Object.fromEntries(most.map(([what]) => [what, Math.min(best[what], again[what])]));
+    }
+    for (const [what, ms] of most) assert.ok(best[what] <= ms, `${keys} after ${gaps} ms, ${what}: ${Math.round(best[what])} ms`);
   }
 }
+
+// The shortest times of twelve strokes of these keys, with these gaps, until a picture has each.
+const bestOf = (browser, keys, gaps) => browser.evaluate(`(async () => {
+  const of = id => document.getElementById(id), keyOf = name => document.querySelector('[data-key=' + name + ']');
+  const isDown = name => keyOf(name).classList.contains('down'), look = name => getComputedStyle(keyOf(name)).backgroundColor;
+  const wait = ms => new Promise(yes => setTimeout(yes, ms)), best = { down: Infinity, letter: Infinity, up: Infinity, log: Infinity };
+  const measure = async (what, is) => {
+    const from = performance.now();
+    while (!is() && performance.now() - from < 2000) await wait(2);
+    best[what] = Math.min(best[what], performance.now() - from);
+  };
+  const lines = () => of('log').textContent.split('\\n').length, all = [], keys = ${JSON.stringify(keys)}, gaps = ${JSON.stringify(gaps)};
+  for (let n = 0; n < 12; n++) {
+    const name = keys[n % keys.length], gap = gaps[n % gaps.length], letters = of('screen').textContent.length, was = look(name);
+    const down = measure('down', () => isDown(name) && look(name) !== was);
+    lab.keys.hold(name, true, 'test');
+    all.push(down, measure('letter', () => of('screen').textContent.length > letters));
+    await wait(70);
+    const had = lines();
+    lab.keys.hold(name, false, 'test');
+    // Its next stroke is measured by the look.
+    if (keys.length > 1 || gap > 97) all.push(measure('up', () => !isDown(name)));
+    all.push(measure('log', () => lines() > had));
+    await wait(gap);
+  }
+  await Promise.all(all);
+  return best;
+})()`);
 
 /** A keyboard that is out of sight isn't drawn, and is drawn when it comes into sight. */
 export async function outOfSight(browser) {
@@ -187,7 +197,7 @@ export async function boardFiles(browser, shot, boards) {
   assert.ok(a.y > q.y && Math.abs(a.x - q.x) < 2, 'the keys lie as the board has them');
   await shot('board');
   await browser.click('[data-key=k]');
-  await browser.says('screen', /^k▁$/);
+  await browser.says('screen', /^k+▁$/);
   await browser.pressed('board-told', 'The words in the workbench');
   await browser.says('answer', /^# Made by from_kle of keyboard.json and keymap.json/);
   await browser.evaluate('lab.workbench.open("keyboard.json")');
@@ -195,6 +205,41 @@ export async function boardFiles(browser, shot, boards) {
   await browser.put('words', 'from_kle --table keyboard.json keymap.json');
   await browser.click('#do');
   await browser.says('answer', /^key +column,row +switch/);
+}
+
+/** A board's own legends are drawn, with what the PC makes of a key; turned keys are drawn turned, and within the board. */
+export async function asTheBoardHasThem(browser, shot, boards) {
+  const textOfKey = name => browser.evaluate(`document.querySelector('[data-key=${name}]').textContent`);
+  await browser.only('keyboard');
+  await browser.choose('#open-board', [join(boards, 'editor/german.json')]);
+  await browser.says('board-told', /german\.toml is made of german\.json/);
+  assert.deepEqual([await textOfKey('y'), await textOfKey('a'), await textOfKey('lshift'), await textOfKey('semicolon')], ['Z\n→ Y', 'A', 'Umschalt', 'Ö\n→ : ;']);
+  assert.ok(await browser.evaluate('document.getElementById("legends-note").checkVisibility()'));
+  await browser.until('lab.live.stamp > 200000');
+  await browser.click('[data-key=y]');
+  await browser.says('screen', /^y+▁$/);
+  await shot('own_legends');
+  await browser.click('#own-legends');
+  assert.equal(await textOfKey('y'), 'Y');
+  assert.ok(await browser.evaluate('document.getElementById("legends-note").hidden'));
+  await browser.click('#own-legends');
+  await browser.choose('#open-board', [join(boards, 'editor/ergodox.json')]);
+  await browser.says('board-told', /ergodox\.toml is made of ergodox\.json/);
+  const keys = await browser.evaluate(`(() => {
+    const board = document.getElementById('board').getBoundingClientRect();
+    return [...document.querySelectorAll('#board > div')].map(it => {
+      const box = it.getBoundingClientRect(), [cos, sin] = (/matrix\\((.*)\\)/.exec(getComputedStyle(it).transform)?.[1] ?? '1, 0').split(',').map(Number);
+      return { name: it.dataset.key, degrees: Math.round(Math.atan2(sin, cos) * 180 / Math.PI), isIn: box.left > board.left - 2 && box.right < board.right + 2 && box.top > board.top - 2 && box.bottom < board.bottom + 2, x: box.x + box.width / 2 - board.x - board.width / 2 };
+    });
+  })()`);
+  assert.deepEqual(keys.filter(it => !it.isIn), [], 'each key is within the board');
+  const turned = keys.filter(it => it.degrees !== 0);
+  assert.ok(turned.length >= 10 && turned.every(it => it.degrees === (it.x < 0 ? 30 : -30)), JSON.stringify(turned));
+  assert.equal(keys.find(it => it.name === 'q').degrees, 0);
+  await shot('turned_keys');
+  await browser.put('layout', 'us84.toml');
+  assert.equal(await textOfKey('y'), 'Y');
+  assert.ok(await browser.evaluate('!document.getElementById("own-legends").checkVisibility()'));
 }
 
 /** What macOS doesn't report: a release under Command, and the two edges of Caps Lock, of which it reports one each time. */
@@ -222,11 +267,11 @@ export async function macintosh(browser, url) {
   await browser.until('document.querySelector("[data-lamp=\\"4\\"]").classList.contains("on")');
   await drawnDown(browser, '');
   await browser.stroke('KeyE');
-  await browser.says('screen', /E▁$/);
+  await browser.says('screen', /E+▁$/);
   await browser.up('CapsLock', { key: 'CapsLock' });
   await browser.until('!document.querySelector("[data-lamp=\\"4\\"]").classList.contains("on")');
   await browser.stroke('KeyF');
-  await browser.says('screen', /Ef▁$/);
+  await browser.says('screen', /E+f+▁$/);
 }
 
 /** The window loses the focus: no key stays down. */

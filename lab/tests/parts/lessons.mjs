@@ -1,4 +1,5 @@
-// The lessons: what is accepted and what is refused, with the first difference.
+// The lessons: what is accepted and what is refused, with the first difference; their paths, their sheets, and the way through
+// them by the keyboard alone.
 import assert from 'node:assert/strict';
 import { readFileSync } from 'node:fs';
 import { SOLUTIONS } from '../solutions.mjs';
@@ -50,4 +51,127 @@ export async function differences(browser, shot) {
   await browser.evaluate('document.getElementById("lesson-check").click(); lab.lessons.open(3)');
   await browser.wait(1500);
   assert.equal(await browser.textOf('lesson-result'), '');
+}
+
+const MOST_TABS = 80;
+
+/** Presses Tab, or Shift and Tab, up to an element. */
+async function tabTo(browser, selector, back = false) {
+  const isThere = `document.activeElement.matches(${JSON.stringify(selector)})`;
+  for (let count = 0; count < MOST_TABS && !await browser.evaluate(isThere); count++) await (back ? browser.tabBack() : browser.stroke('Tab', 2));
+  assert.ok(await browser.evaluate(isThere), `Tab comes to ${selector}`);
+}
+
+async function press(browser, selector) {
+  await tabTo(browser, selector);
+  await browser.write('\n');
+}
+
+// In the open lesson's file the code of the first key, in the last line, becomes another.
+async function firstCode(browser, code) {
+  await browser.control('End');
+  await browser.stroke('ArrowUp', 5);
+  for (let count = 0; count < 'bytes:  DB '.length; count++) await browser.stroke('ArrowRight', 5);
+  for (let count = 0; count < code.length; count++) await browser.stroke('Delete', 5);
+  await browser.write(code);
+}
+
+async function wholeText(browser, text) {
+  await browser.control('KeyA');
+  await browser.write(text);
+}
+
+// How lessons are edited by keys: into something wrong, and into what is right. The others of the path are checked as they are.
+const EDITS = {
+  1: [browser => firstCode(browser, '39'), browser => firstCode(browser, '29')],
+  4: [browser => wholeText(browser, '12 1C F0 1C'), browser => wholeText(browser, '12 1C F0 1C F0 12')],
+};
+
+/** By the keyboard alone: a path is chosen and a lesson, its file is changed and checked, the first difference is read, the file is
+    repaired, and the next lesson follows, up to the end of the path. */
+export async function byKeyboard(browser) {
+  await browser.only('keyboard');
+  await browser.evaluate('document.querySelector("#panes button").focus()');
+  await press(browser, '#panes [data-pane=lessons]');
+  await browser.until('document.getElementById("lessons").checkVisibility()');
+  await browser.evaluate('lab.show("keyboard", false)');
+  await tabTo(browser, '#path');
+  for (let count = 0; count < 2; count++) await browser.stroke('ArrowDown', 5);
+  await browser.until('document.getElementById("path").value === "an hour"');
+  const path = await browser.evaluate('[...document.querySelectorAll("#lesson-list button")].map(it => Number(it.dataset.lesson))');
+  assert.deepEqual(path, [1, 4, 2, 3]);
+  await press(browser, '#lesson-list [data-lesson="1"]');
+  for (const [at, number] of path.entries()) {
+    await browser.until(`lab.lessons.number === ${number - 1}`);
+    await press(browser, '#lesson-reset');
+    await browser.wait(100);
+    if (await browser.evaluate('document.getElementById("ask").open')) await press(browser, '#ask-yes');
+    const [wrong, right] = EDITS[number] ?? [];
+    if (wrong) {
+      await tabTo(browser, '#lesson-file', true);
+      await wrong(browser);
+    }
+    await press(browser, '#lesson-check');
+    await browser.says('lesson-result', /^Not yet/);
+    await tabTo(browser, '#lesson-expected');
+    assert.match(await browser.textOf('lesson-expected'), /^> /m);
+    await tabTo(browser, '#lesson-got');
+    if (right) {
+      await tabTo(browser, '#lesson-file', true);
+      await right(browser);
+      await press(browser, '#lesson-check');
+      await browser.says('lesson-result', /^Done/);
+    } else await tabTo(browser, '#lesson-check', true);
+    if (at === path.length - 1) break;
+    await press(browser, '#lesson-next');
+    await browser.until('document.activeElement.id === "lesson-title"');
+  }
+  assert.ok(await browser.evaluate('document.getElementById("lesson-next").hidden'), 'the path has an end');
+}
+
+/** Each path has its lessons with their own numbers, and each lesson the section of the document that says more. */
+export async function paths(browser, shot) {
+  await browser.only('lessons');
+  for (const [name, lessons] of [['a term', Array.from({ length: 20 }, (_, n) => n + 1)], ['a day', [1, 2, 3, 4, 5, 6, 7, 8]], ['an hour', [1, 4, 2, 3]]]) {
+    await browser.put('path', name);
+    assert.deepEqual(await browser.evaluate('[...document.querySelectorAll("#lesson-list li")].map(it => it.value)'), lessons);
+    assert.match(await browser.textOf('path-says'), /minutes|a week/);
+  }
+  await browser.put('path', 'a term');
+  await browser.evaluate('lab.lessons.open(16); document.getElementById("lesson-more").open = true');
+  assert.match(await browser.textOf('lesson-more'), /More on this: A whole keyboard.*The program of four keys has one loop/s);
+  await browser.evaluate('lab.lessons.open(2); document.getElementById("lesson-more").open = true');
+  assert.ok(await browser.evaluate('document.querySelectorAll("#lesson-more tr").length > 8 && document.querySelector("#lesson-more tbody td").textContent === "0"'), 'a table of the document is one of the page');
+  await browser.evaluate('document.getElementById("lesson-more").open = false');
+}
+
+/** The sheets for the printer: each lesson's text, its program and lines to write on, and nothing of the page around them. */
+export async function sheets(browser, shot) {
+  await browser.only('lessons');
+  await browser.put('path', 'an hour');
+  await browser.evaluate('globalThis.printed = 0; globalThis.print = () => { printed++; }; 0');
+  await browser.click('#lesson-print');
+  assert.equal(await browser.evaluate('printed'), 1);
+  assert.equal(await browser.evaluate('document.querySelectorAll(".sheet").length'), 1);
+  await browser.click('#print-path');
+  // What holds for the printer holds for the screen too for a moment.
+  const media = to => browser.evaluate(`(() => { for (const rule of document.styleSheets[0].cssRules) if (rule.media?.mediaText === ${JSON.stringify(to === 'all' ? 'print' : 'all')}) rule.media.mediaText = '${to}'; })()`);
+  await media('all');
+  const seen = await browser.evaluate(`({
+    titles: [...document.querySelectorAll('.sheet h2')].map(it => it.textContent), lines: document.querySelectorAll('.sheet .line').length,
+    others: [...document.querySelectorAll('button, section, header, footer, textarea')].filter(it => it.checkVisibility()).length,
+    wide: document.documentElement.scrollWidth <= innerWidth, hints: document.getElementById('sheets').textContent.includes('Which mask has five?'),
+    task: document.querySelector('.sheet strong').textContent, program: document.querySelector('.sheet pre').textContent })`);
+  await shot('sheets');
+  await media('print');
+  assert.deepEqual(seen.titles, ['1. A program that runs', '4. What becomes of a byte', '2. Pins: the matrix', '3. A byte on the wires']);
+  assert.ok(seen.lines === 48 && seen.others === 0 && seen.wide && !seen.hints, JSON.stringify(seen));
+  assert.match(seen.task, /^Task\. Let the first key be the space bar/);
+  assert.match(seen.program, /bytes: {2}DB 1CH,32H,21H,23H/);
+  await browser.evaluate('dispatchEvent(new Event("afterprint"))');
+  assert.equal(await browser.evaluate('document.querySelectorAll(".sheet").length'), 0);
+  await browser.evaluate('lab.lessons.open(3); dispatchEvent(new Event("beforeprint"))');
+  assert.equal(await browser.evaluate('document.querySelector(".sheet h2").textContent'), '4. What becomes of a byte', 'the browser\'s own menu prints the open lesson');
+  await browser.evaluate('dispatchEvent(new Event("afterprint"))');
+  await browser.put('path', 'a term');
 }

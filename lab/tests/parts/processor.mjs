@@ -2,10 +2,18 @@
 import assert from 'node:assert/strict';
 import { writeFileSync } from 'node:fs';
 import { join } from 'node:path';
+import { pacedAt } from '../hands.mjs';
 
 const here = browser => browser.evaluate('document.querySelector("#code .here").textContent');
 const stepOf = async browser => Number(/^step (\d+)/.exec(await browser.textOf('at'))[1]);
 const AT_ONCE = '999999999';
+
+/** Lets the program run for some three seconds, and returns how many they were for the page. */
+async function ranFor(browser) {
+  const clicked = () => browser.evaluate('document.getElementById("run").click(); performance.now()'), began = await clicked();
+  await browser.wait(3000);
+  return (await clicked() - began) / 1000;
+}
 
 /** Each kind of breakpoint, steps both ways, and what the tables show. */
 export async function breakpoints(browser) {
@@ -113,14 +121,15 @@ export async function paces(browser, shot) {
   await browser.says('at', /stopped at register/);
   await shot('processor');
   await browser.put('stop-register', '');
-  for (const [pace, least, most] of [['1', 2, 5], ['10', 15, 45], ['100', 150, 450], ['10000', 8000, 45000], ['218000', 100000, 900000]]) {
-    await browser.click('#power');
+  // A slow or busy machine doesn't make as many steps as are asked for.
+  for (const [pace, least] of [['1', 0.5], ['10', 0.5], ['100', 0.5], ['10000', 0.25], ['218000', 0.1]]) {
     await browser.put('pace', pace);
-    await browser.click('#run');
-    await browser.wait(3000);
-    await browser.click('#run');
-    const steps = await stepOf(browser);
-    assert.ok(steps >= least && steps <= most, `${steps} steps in three seconds at ${pace} a second`);
+    await pacedAt(pace, async () => {
+      await browser.click('#power');
+      const seconds = await ranFor(browser);
+      // At one a second the first comes after a second.
+      return (await stepOf(browser) + 0.5) / seconds;
+    }, least);
   }
   await browser.put('pace', AT_ONCE);
   await browser.put('program', 'run_on.asm');
@@ -182,12 +191,8 @@ export async function live(browser, shot) {
   }
   // One instruction a second.
   await browser.put('pace', '1');
-  const from = await browser.evaluate('lab.live.cycle');
-  await browser.click('#run');
-  await browser.wait(3000);
-  await browser.click('#run');
-  const passed = await browser.evaluate('lab.live.cycle') - from;
-  assert.ok(passed >= 2 && passed <= 10, `${passed} cycles in three seconds`);
+  const from = await browser.evaluate('lab.live.cycle'), seconds = await ranFor(browser), passed = await browser.evaluate('lab.live.cycle') - from;
+  assert.ok(passed >= 1 && passed <= 2 * (seconds + 2), `${passed} cycles in ${seconds.toFixed(1)} seconds`);
   await browser.evaluate('lab.keys.hold("a", false, "test")');
   await browser.only('keyboard');
   await browser.click('#go-on');

@@ -4,18 +4,27 @@ import assert from 'node:assert/strict';
 import { contrast } from './look.mjs';
 import { PANES } from './look.mjs';
 
-const SMALL = [1366, 768], WINDOW = 625; // pixels; the height that a browser's own bars leave of 768
+const SMALL = [1366, 625]; // pixels: a screen of 1366 x 768 without the browser's own bars
+// Fonts of other systems are wider or narrower than those of this one.
+const FONTS = [['sans-serif', 'normal'], ['serif', 'normal'], ['monospace', 'normal'], ['sans-serif', '0.1em'], ['serif', '-0.03em']];
 const NARROW = [360, 800];
 const presses = browser => browser.evaluate('lab.live.events.filter(it => it.words.startsWith("press ")).length');
 const selfTested = browser => browser.until('lab.live.stamp > 200000');
 
-/** On a small laptop the wires are in sight below the keyboard, and a typed byte is seen there. */
+/** On a small laptop the wires are in sight below the keyboard, whatever font there is; nothing lies over them or is pushed out. */
 export async function firstWindow(browser) {
   await browser.size(SMALL, 1, false);
   await browser.evaluate('for (const name of ["keyboard", "wires"]) lab.show(name, true, false); for (const name of ["processor", "workbench", "lessons"]) lab.show(name, false); scrollTo(0, 0)');
-  const [top, bottom] = await browser.evaluate('(it => [it.top, it.bottom])(document.getElementById("wave").getBoundingClientRect())');
-  assert.ok(top > 0 && bottom <= WINDOW + 1, `the wires are from ${top} to ${bottom}`);
-  assert.equal(await browser.evaluate('document.elementFromPoint(683, 540).id'), 'wave', 'nothing lies over them');
+  for (const [family, spacing] of FONTS) {
+    await browser.evaluate(`Object.assign(document.documentElement.style, { fontFamily: '${family}', letterSpacing: '${spacing}' }); 0`);
+    const named = `with ${family}, ${spacing}`, [top, bottom] = await browser.evaluate('(it => [it.top, it.bottom])(document.getElementById("wave").getBoundingClientRect())');
+    assert.ok(top > 0 && bottom <= SMALL[1], `the wires are from ${top} to ${bottom} ${named}`);
+    const out = await browser.evaluate('[...document.querySelectorAll("header button, #keyboard .head :is(button, .button, select, label)")].filter(it => it.getBoundingClientRect().right > innerWidth || it.scrollWidth > it.clientWidth + 1).map(it => it.id || it.textContent)');
+    assert.deepEqual(out, [], `all controls are whole ${named}`);
+    // A pane that was out of sight is drawn with the browser's next picture, and only then a point of it is one of the pane's parts.
+    await browser.until('(it => document.elementFromPoint(it.left + it.width / 2, it.top + it.height / 2)?.id === "wave")(document.getElementById("wave").getBoundingClientRect())');
+  }
+  await browser.evaluate('document.documentElement.removeAttribute("style")');
   await browser.size(null);
 }
 
@@ -54,8 +63,9 @@ export async function fingers(browser) {
   assert.equal(await presses(browser), many, 'the page was moved, and nothing was typed');
   await browser.tap('[data-key=g]');
   await browser.until(`lab.live.events.filter(it => it.words.startsWith("press ")).length === ${many + 1}`);
-  await browser.tap('[data-key=g]', 900);
+  await browser.touch('down', await browser.place('[data-key=g]'));
   await browser.says('screen', /ggg+▁$/);
+  await browser.touch('up', {});
   await browser.until('!document.querySelector("#board .down")');
   await browser.size(null);
 }
@@ -122,13 +132,14 @@ export async function forced(browser, shot) {
   const looks = await browser.evaluate('["k", "l"].map(name => getComputedStyle(document.querySelector(`[data-key=${name}]`)).backgroundColor)');
   assert.notEqual(looks[0], looks[1], 'a key that is down differs');
   await shot('forced_colours');
-  await browser.evaluate('globalThis.drawings = 0; globalThis.drawn = lab.wires.draw.bind(lab.wires); lab.wires.draw = () => { drawings++; drawn(); }; 0');
+  const began = await browser.evaluate('globalThis.drawings = 0; globalThis.drawn = lab.wires.draw.bind(lab.wires); lab.wires.draw = () => { drawings++; drawn(); }; performance.now()');
   const strokes = 'for (const name of ["q", "w"]) { lab.keys.hold(name, true, "test"); setTimeout(() => lab.keys.hold(name, false, "test"), 60); }';
   for (let count = 0; count < 10; count++) {
     await browser.evaluate(`${strokes} 0`);
     await browser.wait(300);
   }
-  assert.ok(await browser.evaluate('drawings') <= 5, `${await browser.evaluate('drawings')} pictures of the wires in three seconds`);
+  const [drawings, now] = await browser.evaluate('[drawings, performance.now()]'), seconds = (now - began) / 1000;
+  assert.ok(drawings <= seconds + 2, `${drawings} pictures of the wires in ${seconds.toFixed(1)} seconds`);
 }
 
 /** A dark page has enough contrast in each pane. */
