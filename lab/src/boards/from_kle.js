@@ -5,6 +5,7 @@ import { WrongWords, choicesOf, judgeNamedKeys } from './choices.js';
 import { judgeDoubles } from './doubles.js';
 import { kindOfText } from './file_kinds.js';
 import { boardOfEditor, boardOfVia } from './editor_rows.js';
+import { frontLayer, withoutFront } from './front_legends.js';
 import { readJson } from './json_text.js';
 import { codesOf, isKeymap, isOfVial, judgeBoard, keymapOf } from './keymap_files.js';
 import { numberedLayers } from './layer_names.js';
@@ -55,25 +56,36 @@ function boardOf(read, choices, ofKeymap) {
   return board;
 }
 
-/** What each key does by its legends, and what is told of it. */
+/** What a key does under Fn by the legend at its front, which the role notes; nothing if the legend says nothing new. */
+function takeFront(role, { text, name, why }) {
+  role.sourceFn = text;
+  if (name === null) role.notes.push(`under Fn ${text}: left out, since ${why}`);
+  else if (name !== role.sends) role.underFn = name;
+}
+
+/** What each key does by its legends, and what is told of it. Those at the front are what it sends under Fn. */
 function fromLegends(board, choices) {
-  if (choices.fn) {
+  const { readings, country, told } = readLegends(board.keys, choices), layer = frontLayer(board.keys, readings, country, choices);
+  if (choices.fn && !layer.fn) {
     throw new Refused(`legends say one layer, so --fn ${choices.fn} has none to select; a keymap that has two comes after the board's file`);
   }
-  const { readings, told } = readLegends(board.keys, choices);
+  told.push(...layer.told);
   const roles = board.keys.map((key, at) => {
-    const { name, note } = readings[at], said = shownLegends(key), role = roleOf(key, { sends: name || null, source: said });
+    const { name, note } = readings[at], said = shownLegends(layer.under.has(at) ? withoutFront(key) : key), role = roleOf(key, { sends: name || null, source: said });
     const words = said || 'a key without a legend';
-    if (!name && !isLeftOut(key, choices.without)) {
+    if (key === layer.fn) Object.assign(role, { isFn: true, sends: null });
+    else if (!name && !isLeftOut(key, choices.without)) {
       role.notes.push('left out');
       told.push(`left out: ${words} (${key.where})`);
     } else if (note) {
       role.notes.push(note);
       told.push(`${words} (${key.where}) ${note.startsWith('is ') ? note : `is ${name}, and ${note}`}`);
     }
+    if (layer.under.has(at)) takeFront(role, layer.under.get(at));
     return role;
   });
-  return { roles, told };
+  const fn = layer.fn && { role: roles.find(role => role.isFn), tap: null, others: [] };
+  return { roles, fn, told };
 }
 
 /** What each key does by a keymap, and what is told of it. */

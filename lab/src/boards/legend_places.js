@@ -50,7 +50,8 @@ export class KeyPlaces {
       const begin = row.findIndex(other => first.includes(this.characters[other] || '-')), end = row.findIndex(other => this.characters[other] === last);
       if (begin >= 0 && here === begin - 1) return before;
       if (end < 0 || here <= end) return null;
-      return width >= WIDE ? wide : after[here - end - 1]?.find(name => !taken.has(name)) ?? null;
+      if (width >= WIDE && !taken.has(wide)) return wide;
+      return after[here - end - 1]?.find(name => !taken.has(name)) ?? null;
     }
     return width >= 3 ? 'space' : null;
   }

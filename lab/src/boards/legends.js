@@ -1,20 +1,16 @@
 // From the legends of a board's keys to the keys of the 84 that they name.
 import { COUNTRIES, countryOf } from './countries.js';
 import { KeyPlaces } from './legend_places.js';
+import { withoutFront } from './front_legends.js';
 import { legendPieces, shownLegends } from './legend_text.js';
-import { likelyKey, longestWord } from './legend_words.js';
-import { Refused, charactersOf, isAlnum, isLeftOut } from './refused.js';
-import { TABLES, wordsIn } from './tables.js';
+import { likelyKey, namesOf, saidBy } from './legend_words.js';
+import { Refused, isLeftOut } from './refused.js';
+import { TABLES } from './tables.js';
 
 // The keypad's keys by the character on them; "" if the 84 don't have it.
 const KEYPAD = TABLES.words.keypad;
-const FRONT = [4, 5, 11]; // the editor's numbers of the legends on a key's front
 const AT_ONCE = 6; // keys that a refusal names
 const NUM_OFF = 'means this while Num Lock is off', STAR_LEGEND = 'types * without Shift, and prints the screen with it';
-// Signs that mean nothing beside the words of some keys: the arrow of Backspace, Tab, Enter, Shift or a lock.
-const ARROWS = charactersOf(TABLES.words.arrows), WITH_ARROWS = wordsIn(TABLES.words.with_arrows);
-// Words that mean nothing beside a key's name, since they say what it does with Ctrl or Alt.
-const WITH_MORE = Object.fromEntries(Object.entries(TABLES.words.beside).map(([key, words]) => [key, wordsIn(words)]));
 const WIDE_KEY = 1.5, SHIFT_KEYS = ['lshift', 'rshift'];
 
 // Why the legends of a key can't be read, and which key they may mean.
@@ -33,37 +29,11 @@ function mainLegends(key) {
 
 const isDigit = text => /^[0-9]$/.test(text);
 
-/** What pieces say: the longest words that they make together, and else characters; and what isn't known. */
-function saidBy(pieces) {
-  const said = { words: [], characters: [], unknown: [], icons: pieces.filter(piece => piece.plain === null).map(piece => piece.text) };
-  let left = pieces.filter(piece => piece.plain !== null);
-  while (left.length) {
-    const found = longestWord(left.map(piece => piece.plain)), [{ plain, isIcon }] = left, first = charactersOf(plain);
-    if (found) said.words.push({ ...found.word, isPicture: isIcon || charactersOf(found.word.text).length === 1 });
-    else if (first.length === 1 || (first.length <= 3 && first.filter(isAlnum).length < 2)) said.characters.push(...first);
-    else said.unknown.push(plain);
-    left = left.slice(found?.count ?? 1);
-  }
-  return said;
-}
-
-/** The keys that words name. An arrow beside Tab and the like says the same once more; a picture beside a key's name is what the
-    machine that the board was made for does with it; and beside some keys a word says what they do with Ctrl or Alt. */
-function namesOf(all) {
-  const hasArrows = all.some(word => WITH_ARROWS.includes(word.key)), words = hasArrows ? all.filter(word => !ARROWS.includes(word.text)) : all;
-  const named = words.filter(word => word.key || !word.isPicture);
-  const kept = named.length ? named : words, more = new Set(kept.flatMap(word => WITH_MORE[word.key] ?? []));
-  const left = kept.filter(word => !(word.key === '' && more.has(word.plain)) && !(word.key && more.has(word.key)));
-  const names = [...new Set(left.map(word => word.key))];
-  const isShift = names.length > 1 && names.every(name => ['shift', 'lshift', 'rshift'].includes(name));
-  return { words: left, names: isShift ? names.filter(name => name !== 'shift') : names };
-}
-
 /** What a key says: its main legends, or if they make no sense alone all that aren't at its front. */
 function sayingOf(key) {
   const said = saidBy(mainLegends(key));
   if (!said.unknown.length && namesOf(said.words).names.length < 2) return said;
-  const every = saidBy(key.legends.filter((_, at) => !FRONT.includes(at)).flatMap(legendPieces));
+  const every = saidBy(withoutFront(key).legends.flatMap(legendPieces));
   return every.unknown.length || namesOf(every.words).names.length > 1 ? said : every;
 }
 
@@ -216,26 +186,17 @@ class Legends {
     if (name === null) throw new Unclear(`its legends ${shownLegends(this.keys[at])} are on no key of ${this.country.name}`);
     return name;
   }
-
-  /** Lines of what isn't read: icons beside other legends, and legends at the front, which may be a second layer's. */
-  unread() {
-    const front = this.keys.flatMap(key => {
-      const found = key.legends.filter((_, at) => FRONT.includes(at)).flatMap(legendPieces).map(piece => piece.text);
-      return found.length ? [`${found.join(' ')} (${key.where})`] : [];
-    });
-    return [
-      ...this.passedOver.length ? [`icons that aren't known are passed over: ${this.passedOver.join(', ')}`] : [],
-      ...front.length ? [`legends at the front aren't read, and there is no second layer; a keymap can say it: ${front.join(', ')}`] : [],
-    ];
-  }
 }
 
 const wideBackspace = { name: 'backspace', note: 'is taken as Backspace, since the key is wide and no other is' };
 
-/** What each key is, and what is told of the board's legends as a whole. */
+/** What each key is, the country whose keys they are, and what is told of the board's legends as a whole. */
 export function readLegends(keys, choices) {
   if (!keys.some(key => mainLegends(key).length)) throw new Refused('none of its keys has a legend; a keymap says what they send');
-  const legends = new Legends(keys, choices), readings = legends.all();
-  const told = legends.country === COUNTRIES[0] ? [] : [`the legends are read as those of ${legends.country.name}`];
-  return { readings, told: [...told, ...legends.unread()] };
+  const legends = new Legends(keys, choices), readings = legends.all(), { country, passedOver } = legends;
+  const told = [
+    ...country === COUNTRIES[0] ? [] : [`the legends are read as those of ${country.name}`],
+    ...passedOver.length ? [`icons that aren't known are passed over: ${passedOver.join(', ')}`] : [],
+  ];
+  return { readings, country, told };
 }
