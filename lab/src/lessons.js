@@ -257,7 +257,7 @@ export const LESSONS = [
   {
     title: 'All keys, down and up',
     section: 'A whole keyboard',
-    text: ['A keyboard for real: 84 keys, each with a break code, and a queue. You have built each part: exercise 10 has the break codes, 15 the queue.',
+    text: ['A keyboard for real: 84 keys, each with a break, and a queue. You have built each part: exercise 10 has the breaks, 15 the queue.',
       'Sixteen conditional jumps or more don\'t all reach the same page: ORG 100H begins page 1. CALL and JMP reach any place.'],
     task: 'Let each key send its code when it goes down, and F0 and its code when it goes up. Up to sixteen bytes wait in a queue while the PC doesn\'t read.',
     hints: ['Cells 20 to 2B are taken, so the queue may have the cells 30 to 3F.', 'Offer a byte after each round of the columns, and not within one: R1, R5, R6 and R7 are needed there.'],
