@@ -96,15 +96,15 @@ module _ (layout : KeyLayout) (history : KeyHistory) (fine : IsKeyLayout layout)
         record {
           started = h.1;
           tied = record {
-          ties = h.2;
-          in_bytes = first_in_bytes events ok.written LayeredKeyboard (keyboard layout) e.cycle;
-          placed = λ p l held. absurd (let off : false ≡ true = sym (none_held layout p) ∙ held in cc);
-          column =
-              let pre : e.cpu.pre ≤ 3 = h.1.entered.late in
-              let time : e.cycle + 2 ≡ 4096 + 2048 * 0 + e.cpu.pre = h.0 in
-              let low : e.cycle ≤ 4097 = omega (arith, pre, time) in
-              let first : nat_le e.cycle 4097 ≡ true = grind (arith, nat_tests, low) in
-              h.3 ∙ sym (ap (λ b. if b then 255 else 44) first);
+            ties = h.2;
+            in_bytes = first_in_bytes events ok.written LayeredKeyboard (keyboard layout) e.cycle;
+            placed = λ p l held. absurd (let off : false ≡ true = sym (none_held layout p) ∙ held in cc);
+            column =
+                let pre : e.cpu.pre ≤ 3 = h.1.entered.late in
+                let time : e.cycle + 2 ≡ 4096 + 2048 * 0 + e.cpu.pre = h.0 in
+                let low : e.cycle ≤ 4097 = omega (arith, pre, time) in
+                let first : nat_le e.cycle 4097 ≡ true = grind (arith, nat_tests, low) in
+                h.3 ∙ sym (ap (λ b. if b then 255 else 44) first);
           };
         },
       ))

@@ -105,8 +105,13 @@ module _ (d : Board) (bytes : List ℕ) (has : HasKernel bytes) (y : ℕ) (m : C
       ∷ Go true ∷ Until SCAN ∷ []) y m S_CELL SCAN 34 f (turned f m.c v n)
       ring (record m { p2 = bit_or v 3 }) board (board_cut_again v) free (
         next_bit b (bit 0 (f 30)) (f 26) v low value,
-        (ap not high, (asks (f 27) n (one_less (f 27) n count few) true more,
-        (cells_left v n count few, (ap not clock_low, (refl, refl, refl))))),
+        (
+          ap not high,
+          (
+            asks (f 27) n (one_less (f 27) n count few) true more,
+            (cells_left v n count few, (ap not clock_low, (refl, refl, refl))),
+          ),
+        ),
       )
 
   pub cell : (b : Bool) (v n : ℕ) → IsFree m → f 27 ≡ suc n → n < 255 → bit 0 (f 30) ≡ b
@@ -128,8 +133,13 @@ module _ (d : Board) (bytes : List ℕ) (has : HasKernel bytes) (y : ℕ) (m : C
           ∷ Until 218 ∷ Go false ∷ Until S_CELL ∷ [])
           (Celled v n S_CELL) (begin_at d S_CELL f ring m board) (
             next_bit b (bit 0 (f 30)) (f 26) v low value,
-            (ap not high, (asks (f 27) n less true left,
-            (cells_left v n count few, (ap not (high' refl), (refl, refl, refl, refl))))),
+            (
+              ap not high,
+              (
+                asks (f 27) n less true left,
+                (cells_left v n count few, (ap not (high' refl), (refl, refl, refl, refl))),
+              ),
+            ),
           ) free
       go false left high' =
           sound d (kernel_in true bytes) (has_rows true bytes has) y

@@ -35,7 +35,6 @@ use Rattle.live_board.specs.declared.refused.Refused.TheVariants as R
 use Rattle.mcs48_core.specs.Cpu.{Cpu}
 use Rattle.mcs48_core.specs.Step.{Stepped, entered, executed, row_at, stepped, takes_external, takes_timer}
 use Rattle.mcs48_core.specs.declared.levels.Pins.{Pins}
-use Rattle.mcs48_isa.specs.declared.operation.Decoded.{Decoded}
 use Rattle.mcs48_ranges.proofs.Rows.{row_timed}
 use Rattle.mcs48_ranges.specs.Sizes.{IsFine}
 
@@ -44,10 +43,13 @@ abbrev TakesFew : Option Stepped → Type 0
 TakesFew None = Unit {0}
 TakesFew (Some n) = n.cycles ≤ 2
 
-row_few : (bytes : List ℕ) (pins : Pins) (m : Cpu) (r : Option Decoded) → row_at bytes m.pc ≡ r
-    → TakesFew (executed r bytes pins m)
-row_few bytes pins m None e = tt
-row_few bytes pins m (Some d) e = (row_timed (slice_index bytes (m.pc % 2048)) (slice_index bytes ((m.pc + 1) % 2048)) d e).1
+row_few : (bytes : List ℕ) (pins : Pins) (m : Cpu) → TakesFew (executed (row_at bytes m.pc) bytes pins m)
+row_few bytes pins m =
+    elim (row_at bytes m.pc) as (λ r. row_at bytes m.pc ≡ r → TakesFew (executed r bytes pins m)) [
+      | None ↦ λ e. tt
+      | Some d ↦ λ e.
+          (row_timed (slice_index bytes (m.pc % 2048)) (slice_index bytes ((m.pc + 1) % 2048)) d e).1
+    ] refl
 
 few_by : (external timer : Bool) (x y : Stepped) (o : Option Stepped) → x.cycles ≡ 2 → y.cycles ≡ 2 → TakesFew o
     → TakesFew (elim external as (λ b. Option Stepped) [
@@ -61,7 +63,7 @@ few_by false false x y o two also h = h
 takes_few : (bytes : List ℕ) (pins : Pins) (m : Cpu) → TakesFew (stepped bytes pins m)
 takes_few bytes pins m =
     few_by (takes_external pins m) (takes_timer m) (entered 3 pins m) (entered 7 pins (record m { rq = false }))
-    (executed (row_at bytes m.pc) bytes pins m) refl refl (row_few bytes pins m (row_at bytes m.pc) refl)
+    (executed (row_at bytes m.pc) bytes pins m) refl refl (row_few bytes pins m)
 
 after_few : (s : Story) (w v : World Beside) (n : Option Stepped) → TakesFew n
     → after_step (joint_board s.edges s.events) w n ≡ Some v → v.cycle ≤ w.cycle + 2
