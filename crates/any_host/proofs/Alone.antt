@@ -22,7 +22,7 @@ taking (Takes bits) h = (bits, refl)
 taking (Gives byte falls) h = h byte falls refl
 
 -- a fall or none, where data is let go
-bit_taken : (bits : List Bool) (bit : Bool) (e : Ear) (b : Bool) → (length bits == 10) ≡ b
+pub bit_taken : (bits : List Bool) (bit : Bool) (e : Ear) (b : Bool) → (length bits == 10) ≡ b
     → IsTaking (with_bit bits bit e).mode
 bit_taken bits bit e true is = rw is ([], refl)
 bit_taken bits bit e false is = rw is (bits ++ bit ∷ [], refl)

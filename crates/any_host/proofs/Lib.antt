@@ -15,6 +15,10 @@ pub mod TenthTick
 pub mod TenthSent
 pub mod TenthGot
 pub mod Heard
+pub mod LastLook
+pub mod Loses
+pub mod TakesTwice
+pub mod Sharp
 pub mod SameLines
 pub mod Hosted
 pub mod OnRun

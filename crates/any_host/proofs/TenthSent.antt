@@ -81,7 +81,7 @@ module _ (w : Wiring) (wires : AreWires w) (rules : IsRuleful w) (x y : ℕ) (lo
   whole_frame : frame_to 9 ++ frame_bit byte 9 ∷ true ∷ [] ≡ frame_bits byte
   whole_frame = refl
 
-  at_tenth : t (x + 577) ≡ t x ++ Some byte ∷ []
+  pub at_tenth : t (x + 577) ≡ t x ++ Some byte ∷ []
   at_tenth =
       let p : x + 0 ≡ x = omega arith in
       let z : x + 577 ≡ suc (x + 576) = omega arith in
@@ -111,7 +111,7 @@ module _ (w : Wiring) (wires : AreWires w) (rules : IsRuleful w) (x y : ℕ) (lo
       subst (λ c. NoFall w wires c) p
       (no_fall_in w wires rules x y long byte small drives looks at_clock at_data first rests 9 (omega arith) nine i l)
 
-  ten_there : Kept 10 first (E 608)
+  pub ten_there : Kept 10 first (E 608)
   ten_there =
       let z : x + 577 + 31 ≡ x + 608 = omega arith in
       subst (λ c. Kept 10 first (ear_to w c)) z (keeps_on w wires 10 31 (x + 577) first none_past ten)

@@ -21,13 +21,18 @@ pub record IsRuleful (w : Wiring) : Type 0 where
       → ((i : ℕ) → i ≤ 16 → (w.seen (c + i)).dat ≡ level) → w.reads c ≡ level
   pub bytes : (c : ℕ) → w.wants c < 256
 
--- and at the end of a byte, by the fall that it counts. One that counts the eleventh begins no pull of the clock from 18
--- cycles, 45 microseconds, after the tenth fall up to the eleventh: the keyboard wouldn't see it. One that counts the tenth
--- begins none in the 19 cycles, 47.5 microseconds, from that fall on: the keyboard might see it. Later it is free to
-abbrev pub Ends : Counting → Wiring → Type 0
-Ends Tenth w =
+-- and at the end of a byte, by the fall that it counts, if the keyboard looks at the clock for the last time so many cycles
+-- after the tenth fall. One that counts the eleventh begins no pull of the clock from there on up to the eleventh: the
+-- keyboard wouldn't see it. One that counts the tenth begins none from that fall up to there: the keyboard might see it.
+-- Later it is free to
+abbrev pub EndsBy : ℕ → Counting → Wiring → Type 0
+EndsBy last Tenth w =
     (c i : ℕ) (nine : List Bool) → (ear_to w c).mode ≡ Takes nine → length nine ≡ 9 → fell w c ≡ true
-    → (w.host c).clk ≡ true → i ≤ 18 → (w.host (c + i)).clk ≡ true
-Ends Eleventh w =
-    (c i : ℕ) (nine ten : List Bool) → (ear_to w c).mode ≡ Takes nine → length nine ≡ 9 → fell w c ≡ true → 18 ≤ i
+    → (w.host c).clk ≡ true → i ≤ last → (w.host (c + i)).clk ≡ true
+EndsBy last Eleventh w =
+    (c i : ℕ) (nine ten : List Bool) → (ear_to w c).mode ≡ Takes nine → length nine ≡ 9 → fell w c ≡ true → last ≤ i
     → (ear_to w (c + i)).mode ≡ Takes ten → length ten ≡ 10 → (w.host (c + i)).clk ≡ true
+
+-- that is 18 cycles, 45 microseconds, after it
+abbrev pub Ends : Counting → Wiring → Type 0
+Ends counts w = EndsBy 18 counts w

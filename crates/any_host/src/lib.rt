@@ -9,6 +9,7 @@
 
 ghost use Rattle.any_host.specs.AnyHost.{AnyHostLaw, LatchLaw};
 ghost use Rattle.any_host.specs.AnyPins.{AnyPinsLaw, OneMeetingLaw};
+ghost use Rattle.any_host.specs.Bounds.{SharpLaw};
 ghost use Rattle.any_host.specs.Hearing.{RulefulLaw};
 
 /// For every layout, at any host and on any board, whatever a part holds when it is switched on: if the columns show no key
@@ -29,6 +30,13 @@ pub fn at_any_host()
 /// called; the law is its contract.
 pub fn hears_each()
     ensures ruleful { RulefulLaw }
+{}
+
+/// At the end of a byte no weaker rule would do. A host that keeps the others, and may begin a pull of the clock 18 cycles
+/// after the tenth fall, gets a byte twice if it counts ten falls, and loses one if it counts eleven. Nothing is done when it
+/// is called; the law is its contract.
+pub fn ends_are_sharp()
+    ensures sharp { SharpLaw }
 {}
 
 /// For every layout, at any host that keeps the rules of the link and counts ten falls of the clock a byte or eleven, with
