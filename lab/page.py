@@ -12,6 +12,7 @@ import subprocess
 import zlib
 from pathlib import Path
 
+from chips import chips
 from tables import tables
 
 LAB = Path(__file__).resolve().parent
@@ -138,6 +139,7 @@ def page(keyboard: str, program: str, sources: str) -> str:
         "/*FILES*/": data(examples()),
         "/*FAULTS*/": data(faults()),
         "/*BOARDS*/": data(tables()),
+        "/*CHIPS*/": data(chips()),
         "/*KEYBOARD*/": keyboard,
         "/*PROGRAM*/": program,
         "/*SCRIPT*/": code,
