@@ -85,10 +85,11 @@ def _instance(item: Placed, joined: Set[Node]) -> List[str]:
     return lines
 
 
-def _flags() -> Tuple[List[str], List[str]]:
-    """KiCad wants to know that the plug supplies the board."""
+def _flags(parts: List[Part]) -> Tuple[List[str], List[str]]:
+    """KiCad wants to know that each net with a supply's pin is supplied: all are from the plug, one by a diode."""
     body, paths = [], []
-    for number, net in enumerate(("+5V", "GND"), 1):
+    supplies = {net for part in parts for pin, net in part.nets.items() if part.type.pins[pin].kind == "power"}
+    for number, net in enumerate(sorted(supplies), 1):
         x, y, name = 25.4 * number, 25.4, "#FLG%d" % number
         body.append('(symbol (lib_id "%s:flag") (at %g %g 0) (unit 1) (in_bom no) (on_board no) (uuid %s)\n'
                     '  %s (pin "1" (uuid %s)))' % (
@@ -120,7 +121,7 @@ def schematic(parts: List[Part], keys: List[Key], blocks: Dict[str, List[str]]) 
     """The schematic."""
     items = placed(parts, keys, blocks)
     routes = routed(items, keys, blocks)
-    body, paths = _flags()
+    body, paths = _flags(parts)
     body += _drawn_wires(routes) + [_title(*title) for title in titles(items, blocks)]
     for item in items:
         body += _instance(item, routes.joined)
