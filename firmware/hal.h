@@ -1,9 +1,9 @@
 /* What a board gives. Its HAL has, as inline functions:
 
    hal_start()               clocks, pins, counter and watchdog, before anything else
-   hal_read()                the levels of all pins at once, of which the next three give
+   hal_read()                the levels of all pins at once, of which the next two give
    hal_rows(pins)            the rows of the selected column: bit k for row k, 0 for a key that is down
-   hal_clock(pins), hal_data(pins)    the levels of the two wires
+   hal_wire_levels(pins)     the levels of the two wires, as KBD48_BOARD_PINS has them: bit 24 the clock, bit 25 data
    hal_column(n)             pulls column n low and lets the others go; 12 to 15 pull none
    hal_wires(clock, data)    lets each wire go, or pulls it low
    hal_lights(lit)           lights: 1 Scroll, 2 Num, 4 Caps

@@ -14,8 +14,10 @@ static inline void hal_feed(void) { REG(0x40058004) = 200000; } /* 100 ms: it co
 
 static inline hal_pins hal_read(void) { return PINS_IN(); }
 static inline uint8_t hal_rows(hal_pins pins) { return (uint8_t)(pins >> ROW_0); }
-static inline bool hal_clock(hal_pins pins) { return pins & CLOCK; }
-static inline bool hal_data(hal_pins pins) { return pins & DATA; }
+static inline uint32_t hal_wire_levels(hal_pins pins) {
+    if (DATA == CLOCK << 1 && CLOCK <= 1u << 24) return (pins & (CLOCK | DATA)) * ((1u << 24) / CLOCK); /* neighbours at once */
+    return (pins & CLOCK ? 1u << 24 : 0) | (pins & DATA ? 1u << 25 : 0);
+}
 static inline void hal_column(uint8_t n) {
     static const uint32_t column[16] = COLUMN;
     PINS_RELEASE(COLUMNS);

@@ -20,8 +20,9 @@ static inline void watchdog_start(void) {
 
 static inline hal_pins hal_read(void) { return (hal_pins){PORT_IN(0), PORT_IN(1)}; }
 static inline uint8_t hal_rows(hal_pins pins) { return (uint8_t)((ROWS_A ? pins.a : pins.b) >> ROW_0); }
-static inline bool hal_clock(hal_pins pins) { return (pins.a & CLOCK_A) | (pins.b & CLOCK_B); }
-static inline bool hal_data(hal_pins pins) { return (pins.a & DATA_A) | (pins.b & DATA_B); }
+static inline uint32_t hal_wire_levels(hal_pins pins) {
+    return ((pins.a & CLOCK_A) | (pins.b & CLOCK_B) ? 1u << 24 : 0) | ((pins.a & DATA_A) | (pins.b & DATA_B) ? 1u << 25 : 0);
+}
 /* Puts 1 at some of the pins with these masks, and 0 at the others. */
 #define PUT(all_a, all_b, ones_a, ones_b) do { \
         if (all_a) PORT_PUT(0, ones_a, (all_a) & ~(ones_a)); \

@@ -32,9 +32,11 @@ __attribute__((noinline)) static uint32_t show(uint32_t turned, uint32_t is, uin
     return (int32_t)(risen - due) > 0 ? risen : due;
 }
 
-/* A step ended late, and the light says so. When it was due, or now, if it is too late to make up for it. */
+/* A step ended no earlier than it was due. If it ended late, the light says so. When it was due, or now, if it is too late to make up
+   for it. */
 __attribute__((noinline)) static uint32_t was_late(uint32_t due, uint32_t now) {
     int32_t late = (int32_t)(now - due);
+    if (late <= 0) return due;
     hal_late(true);
     if (late > most_late) most_late = late;
     if (late <= MOST_LATE) return due;
@@ -49,10 +51,11 @@ int main(void) {
     hal_start();
     kbd48_chip_open(&chip, &image.program, 0);
     const bool is_own = !image.is_kernel;
+    kbd48_chip *at = &chip; /* kbd48_chip_step would write it anew in each step */
     uint32_t was = KBD48_PINS_HIGH, due = hal_now();
     for (;;) {
         hal_pins pins = hal_read();
-        uint32_t is = (uint32_t)kbd48_chip_step(&chip, KBD48_BOARD_PINS(hal_rows(pins), hal_clock(pins), hal_data(pins)));
+        uint32_t is = (uint32_t)kbd48_chip_step_at(&at, KBD48_BOARD_PINS(hal_rows(pins), 0, 0) | hal_wire_levels(pins));
         uint32_t turned = (was ^ is) & (COLUMN_BITS | WIRE_BITS | LIGHT_BITS);
         was = is;
         if (KBD48_CYCLES(is) == 2) due += 2 * HAL_CYCLE;
@@ -61,7 +64,7 @@ int main(void) {
         uint32_t next = turned ? show(turned, is, due) : due;
         if (is_own) hal_feed();
         uint32_t now = hal_now();
-        if ((int32_t)(now - due) > 0) due = was_late(due, now);
-        while ((int32_t)(now - next) < 0) now = hal_now();
+        if ((int32_t)(now - next) < 0) while ((int32_t)(hal_now() - next) < 0) {}
+        else due = was_late(due, now);
     }
 }

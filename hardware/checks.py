@@ -4,7 +4,7 @@ from functools import lru_cache
 from pathlib import Path
 from typing import Callable, Dict, Iterator, List, Optional, Set, Tuple
 
-from kicad import KINDS, Tree, drawn_nets, named, read_tree, symbol_pins
+from kicad import KINDS, Tree, drawn_nets, flagged_nets, named, read_tree, supplied_nets, symbol_pins
 from lists import matrix
 from tables import HERE, Key, Node, Part, nets_of
 
@@ -261,7 +261,7 @@ def page_matrix(board: Board, page: str) -> Faults:
 # --- against KiCad ---
 
 def schematic_is(board: Board, text: str) -> Faults:
-    """A schematic joins the pins that the table joins, and leaves open what it leaves open."""
+    """A schematic joins the pins that the table joins, leaves open what it leaves open, and says what is supplied."""
     numbers = {reference: part.type.pins for reference, part in board.parts.items()}
     drawn, opened = drawn_nets(text)
     want = {frozenset((reference, numbers[reference][pin].number) for reference, pin in nodes) for nodes in board.nets.values()}
@@ -270,6 +270,8 @@ def schematic_is(board: Board, text: str) -> Faults:
     every = {(reference, pin.number) for reference, pins in numbers.items() for pin in pins.values()}
     if opened != every - {node for nodes in want for node in nodes}:
         yield "the schematic leaves other pins open"
+    for net in sorted(supplied_nets(board.parts.values()) - flagged_nets(text)):
+        yield "in the schematic no flag says that %s is supplied" % net
 
 
 @lru_cache(maxsize=None)

@@ -1,7 +1,7 @@
 """KiCad's schematic (of version 6) and netlist of the board, and what a schematic says of its nets."""
 import re
 import uuid
-from typing import Any, Dict, List, Set, Tuple
+from typing import Any, Dict, Iterable, List, Set, Tuple
 
 from drawing import SHEET, Line, Placed, Point, Shape, ends, placed, shape
 from routes import Routes, routed, titles
@@ -85,10 +85,15 @@ def _instance(item: Placed, joined: Set[Node]) -> List[str]:
     return lines
 
 
-def _flags() -> Tuple[List[str], List[str]]:
-    """KiCad wants to know that the plug supplies the board."""
+def supplied_nets(parts: Iterable[Part]) -> Set[str]:
+    """The nets with a supply's pin."""
+    return {net for part in parts for pin, net in part.nets.items() if part.type.pins[pin].kind == "power"}
+
+
+def _flags(parts: List[Part]) -> Tuple[List[str], List[str]]:
+    """KiCad wants to know that each net with a supply's pin is supplied: all are from the plug, one by a diode."""
     body, paths = [], []
-    for number, net in enumerate(("+5V", "GND"), 1):
+    for number, net in enumerate(sorted(supplied_nets(parts)), 1):
         x, y, name = 25.4 * number, 25.4, "#FLG%d" % number
         body.append('(symbol (lib_id "%s:flag") (at %g %g 0) (unit 1) (in_bom no) (on_board no) (uuid %s)\n'
                     '  %s (pin "1" (uuid %s)))' % (
@@ -120,7 +125,7 @@ def schematic(parts: List[Part], keys: List[Key], blocks: Dict[str, List[str]]) 
     """The schematic."""
     items = placed(parts, keys, blocks)
     routes = routed(items, keys, blocks)
-    body, paths = _flags()
+    body, paths = _flags(parts)
     body += _drawn_wires(routes) + [_title(*title) for title in titles(items, blocks)]
     for item in items:
         body += _instance(item, routes.joined)
@@ -200,6 +205,13 @@ def _joined(places: Set[Point], wires: List[Tuple[Point, Point]]) -> Dict[Point,
         if old != new:
             group.update({place: new for place, its in group.items() if its == old})
     return group
+
+
+def flagged_nets(text: str) -> Set[str]:
+    """The nets of which a flag says that they are supplied: the flag's pin is at their label."""
+    tree = read_tree(text)
+    places = [named(item, "at")[0][1:3] for item in named(tree, "symbol") if named(item, "lib_id")[0][1] == LIBRARY + ":flag"]
+    return {label[1] for label in named(tree, "global_label") if named(label, "at")[0][1:3] in places}
 
 
 def drawn_nets(text: str) -> Tuple[Nets, Set[Node]]:

@@ -12,6 +12,7 @@ import subprocess
 import zlib
 from pathlib import Path
 
+from chips import chips
 from tables import tables
 
 LAB = Path(__file__).resolve().parent
@@ -139,6 +140,7 @@ def page(keyboard: str, program: str, sources: str) -> str:
         "/*FAULTS*/": data(faults()),
         "/*BOARDS*/": data(tables()),
         "/*MANUAL*/": data((ROOT / "docs/OWN-FIRMWARE.md").read_text(encoding="utf-8")),
+        "/*CHIPS*/": data(chips()),
         "/*KEYBOARD*/": keyboard,
         "/*PROGRAM*/": program,
         "/*SCRIPT*/": code,

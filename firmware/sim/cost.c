@@ -1,8 +1,10 @@
 /* A plugin for qemu-system-arm (its plugin interface, version 1): the clocks that a program's steps would take on a Cortex-M,
    after the manuals' timing tables, from memory.
 
-   -plugin cost.so,model=m0p|m3|m4,wait=N,mhz=N,one=AT,two=AT,from=AT,to=AT,flash=AT,size=N
+   -plugin cost.so,model=m0p|m3|m4,wait=N,mhz=N,one=AT,two=AT,asked=AT,waited=AT,from=AT,to=AT,flash=AT,size=N
    one, two    places that are executed once after a step of one or two machine cycles
+   asked, waited   places that are executed once after the program has asked whether it is time, and has asked so again: what is
+               between the two is waiting, and isn't counted
    from, to    code that isn't counted: the simulated PC's
    wait        wait states of the flash memory: at each taken branch, and at each read of data from there
 
@@ -31,7 +33,7 @@ void qemu_plugin_register_vcpu_mem_cb(struct qemu_plugin_insn *, void (*)(unsign
 void qemu_plugin_register_atexit_cb(qemu_plugin_id_t, void (*)(qemu_plugin_id_t, void *), void *);
 
 static bool is_m0p;
-static uint32_t wait, mhz = 1, one, two, from, to, flash, size;
+static uint32_t wait, mhz = 1, one, two, asked, waited, from, to, flash, size;
 
 struct instruction {
     uint32_t at;
@@ -41,8 +43,8 @@ struct instruction {
 
 static uint32_t next_at; /* where execution goes on if the last instruction doesn't branch */
 static uint8_t taken_cost;
-static bool moved;
-static uint64_t clocks;  /* of this step */
+static bool moved, was_outside;
+static uint64_t clocks, clocks_asked; /* of this step, and of it up to the question */
 
 static uint64_t cycles, all, steps, most[3];
 static double behind, most_behind;
@@ -80,6 +82,7 @@ static void narrow(struct instruction *it, uint16_t w) {
     else if ((w & 0xFE00) == 0xBC00) it->cost = (uint8_t)(1 + ones(w & 0x1FF) + (w & 0x100 ? 2 : 0)); /* POP */
     else if ((w & 0xF500) == 0xB100) it->taken = 2; /* CBZ, CBNZ */
     else if ((w & 0xF000) == 0xC000) it->cost = (uint8_t)(1 + ones(w & 0xFF)); /* LDM, STM */
+    else if ((w & 0xFF00) == 0xDF00) it->cost = 0; /* SVC enters the simulation */
     else if ((w & 0xF000) == 0xD000) it->taken = branch;
     else if ((w & 0xF800) == 0xE000) it->cost = 1 + branch;
 }
@@ -103,7 +106,8 @@ static void executed(unsigned cpu, void *with) {
     const struct instruction *it = with;
     (void)cpu;
     bool branched = it->at != next_at;
-    if (branched && !it->outside) clocks += taken_cost + wait;
+    if (branched && !it->outside && !was_outside) clocks += taken_cost + wait;
+    was_outside = it->outside;
     /* Loads and stores in a row overlap on an M3 and an M4. */
     unsigned cost = !is_m0p && it->moves && moved && it->size == 2 ? 1 : it->cost;
     next_at = it->at + it->size;
@@ -111,6 +115,8 @@ static void executed(unsigned cpu, void *with) {
     moved = it->moves;
     if (it->at == one) end_step(1);
     else if (it->at == two) end_step(2);
+    else if (it->at == asked) clocks_asked = clocks;
+    else if (it->at == waited) clocks = clocks_asked;
     if (!it->outside) clocks += cost;
 }
 
@@ -143,7 +149,8 @@ static void ended(qemu_plugin_id_t id, void *with) {
 
 __attribute__((visibility("default"))) int qemu_plugin_install(qemu_plugin_id_t id, const void *info, int argc, char **argv) {
     static const struct { const char *name; uint32_t *value; } words[] = {
-        {"wait", &wait}, {"mhz", &mhz}, {"one", &one}, {"two", &two}, {"from", &from}, {"to", &to}, {"flash", &flash}, {"size", &size}};
+        {"wait", &wait}, {"mhz", &mhz}, {"one", &one}, {"two", &two}, {"asked", &asked},
+        {"waited", &waited}, {"from", &from}, {"to", &to}, {"flash", &flash}, {"size", &size}};
     (void)info;
     for (int k = 0; k < argc; k++) {
         char *value = strchr(argv[k], '=');

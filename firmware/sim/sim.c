@@ -10,7 +10,6 @@ extern uint32_t slips;
 static uint32_t cycle, fed, random_state;
 static uint8_t matrix[12];
 static unsigned next_edge; /* of the keys; the PC has its own place in the script */
-static bool looked = true; /* and no time has passed since */
 
 #ifdef ROWS_A
 WORLD static bool is_low(uint32_t a, uint32_t b) { return (~sim_pins.out[0] & a) | (~sim_pins.out[1] & b); }
@@ -87,11 +86,20 @@ WORLD static void stall(void) {
 
 #ifdef COST
 volatile uint32_t sim_counter;
+/* Places for the plugin: a step of one or two cycles has ended; the program asks for the time a second time after a look, and
+   again, because it only waits. */
 WORLD void mark_one(void) { __asm__ volatile("nop" ::: "memory"); }
 WORLD void mark_two(void) { __asm__ volatile("nop\n nop" ::: "memory"); }
+WORLD void mark_asked(void) { __asm__ volatile("nop\n nop\n nop" ::: "memory"); }
+WORLD void mark_waited(void) { __asm__ volatile("nop\n nop\n nop\n nop" ::: "memory"); }
+static unsigned questions; /* since the last look */
+WORLD static void begin_look(void) { questions = 0; }
 WORLD uint32_t sim_now(void) {
-    if (looked) looked = false; else pass();
-    return sim_counter = cycle * HAL_CYCLE;
+    if (questions) pass();
+    if (questions == 1) mark_asked(); else if (questions) mark_waited();
+    questions++;
+    sim_counter = ~(cycle * HAL_CYCLE + 255) >> 8; /* half a count is rounded up: what is due has come */
+    return 0;
 }
 WORLD static void account(void) {
     static uint32_t last;
@@ -99,6 +107,7 @@ WORLD static void account(void) {
     last = cycle;
 }
 #else
+static bool looked = true; /* and no time has passed since */
 /* SysTick counts down. What it counts while the PC is simulated is left out, and so is what it counts for a question alone; of a
    question in a loop that waits, half, so that time goes on. */
 static uint32_t left_at, gone, question, now, passed;
@@ -137,30 +146,48 @@ WORLD uint32_t sim_now(void) {
     }
     return cycle * script.cycle;
 }
+WORLD static void begin_look(void) {
+    looked = true;
+    if (script.flags & PACED) (void)paced_now();
+    looked = true;
+}
 #define account() (left_at = ticks())
 #endif
 
 /* The program looks at its pins. */
 WORLD void sim_look(void) {
-    looked = true;
-#ifndef COST
-    if (script.flags & PACED) (void)paced_now();
-#endif
+    begin_look();
     bool clock = !PULLED(CLOCK) && !pc_pulls_clock(), data = !PULLED(DATA) && !pc_pulls_data();
     levels(rows_now(), clock, data);
     if (script.flags & WIRES) pc_trace(cycle, clock, data);
-    looked = true;
     stall(); /* between the look and what is written after it */
     account();
 }
 
 WORLD void sim_feed(void) { fed = cycle; }
 
+#ifdef COST
+/* The exception's number is in the instruction before the place to which it returns. */
+WORLD __attribute__((used)) void sim_enter(const uint32_t *frame) {
+    if (((const uint8_t *)frame[6])[-2] == NOW) (void)sim_now(); else sim_look();
+}
+WORLD __attribute__((naked)) static void entered(void) { __asm__("mov r0, sp\n ldr r1, =sim_enter\n bx r1"); }
+WORLD static void start(void) {
+    static uint32_t vectors[16] __attribute__((aligned(128)));
+    volatile uint32_t *at = (volatile uint32_t *)0xE000ED08;
+    for (unsigned k = 0; k < 16; k++) vectors[k] = ((const volatile uint32_t *)*at)[k];
+    vectors[11] = (uint32_t)entered;
+    *at = (uint32_t)vectors;
+}
+#else
+WORLD static void start(void) {
+    if (script.flags & PACED) start_ticks();
+}
+#endif
+
 WORLD void hal_start(void) {
     start_pins();
     random_state = script.stall_seed;
     type();
-#ifndef COST
-    if (script.flags & PACED) start_ticks();
-#endif
+    start();
 }

@@ -2,8 +2,9 @@
    are used by the HAL of the board itself; only start, counter and watchdog are this one's.
 
    Time is the PC's, in one of three ways. By steps: a cycle passes whenever the program looks whether it is time, so all is as in
-   `kbd48 board`. Paced: by SysTick, which doesn't count while the PC is simulated. COST: by steps, with pins that are plain
-   memory, for the plugin that counts clocks. */
+   `kbd48 board`. Paced: by SysTick, which doesn't count while the PC is simulated. COST: by steps, for the plugin that counts
+   clocks; then pins and counter are plain memory, and the simulation is entered by an exception, so the program is compiled as it
+   is for its board. */
 #ifndef SIM_H
 #define SIM_H
 
@@ -13,15 +14,21 @@ void hal_start(void);
 uint32_t sim_now(void);
 void sim_feed(void);
 void sim_look(void);
+#ifdef COST
+enum { LOOK, NOW };
+#define ENTER(number) __asm__ volatile("svc %0" : : "i"(number))
+#define LOOK_AT_PINS() ENTER(LOOK)
+#else
+#define LOOK_AT_PINS() sim_look()
+#endif
 
 #ifdef ROWS_A
 extern volatile struct { uint32_t in[3], out[3]; } sim_pins;
-#define PORT_IN(n) (sim_look_at(n), sim_pins.in[n])
+static inline uint32_t PORT_IN(unsigned n) { if (n == 0) LOOK_AT_PINS(); return sim_pins.in[n]; }
 #define PORT_PUT(n, set, clear) (sim_pins.out[n] = (sim_pins.out[n] | (set)) & ~(uint32_t)(clear))
-#define sim_look_at(n) ((n) == 0 ? sim_look() : (void)0)
 #else
 extern volatile struct { uint32_t in, out, drives; } sim_pins;
-#define PINS_IN() (sim_look(), sim_pins.in)
+static inline uint32_t PINS_IN(void) { LOOK_AT_PINS(); return sim_pins.in; }
 #define PINS_SET(m) (sim_pins.out |= (m))
 #define PINS_CLEAR(m) (sim_pins.out &= ~(uint32_t)(m))
 #define PINS_DRIVE(m) (sim_pins.drives |= (m))
@@ -30,8 +37,11 @@ extern volatile struct { uint32_t in, out, drives; } sim_pins;
 
 #ifdef COST
 #define HAL_CYCLE (BOARD_CLOCK_MHZ * 640u)
-extern volatile uint32_t sim_counter;
-static inline uint32_t hal_now(void) { sim_now(); return sim_counter; }
+extern volatile uint32_t sim_counter; /* it counts down, as SysTick does */
+static inline uint32_t hal_now(void) {
+    ENTER(NOW);
+    return ~sim_counter << 8;
+}
 #else
 #define HAL_CYCLE (script.cycle)
 static inline uint32_t hal_now(void) { return sim_now(); }

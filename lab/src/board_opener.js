@@ -1,4 +1,5 @@
 // Board files of other tools, opened beside the keyboard: they become a layout, or what is wrong is said, with the ways on.
+import { BOARD_BUTTONS, downloadFor } from './board_downloads.js';
 import { fromKle, isKeymapText } from './boards/from_kle.js';
 import { Refused } from './boards/refused.js';
 import { TABLES } from './boards/tables.js';
@@ -101,7 +102,8 @@ export class BoardOpener {
     }
     const name = layoutNameOf(words);
     keepLayout(name, said);
-    this.#say(`${name} is made of ${[this.board, this.keymap].filter(Boolean).join(' and ')}.`, true, ways, said.told);
+    const forPico = this.#button(BOARD_BUTTONS.pico, () => downloadFor('pico', name, byId('download-told')));
+    this.#say(`${name} is made of ${[this.board, this.keymap].filter(Boolean).join(' and ')}.`, true, [forPico, ...ways], said.told);
     this.chosen(name);
   }
 
@@ -115,7 +117,7 @@ export class BoardOpener {
     return list;
   }
 
-  #hide() { byId('board-told').hidden = true; }
+  #hide() { for (const id of ['board-told', 'download-told']) byId(id).hidden = true; }
 
   #say(text, right, ways, lines = []) {
     const words = make('p');
@@ -124,5 +126,6 @@ export class BoardOpener {
       ? [make('details', {}, make('summary', { textContent: `${lines.length} remarks on it` }), make('ul', {}, ...lines.map(line => make('li', { textContent: line }))))] : [];
     byId('board-told').replaceChildren(words, ...more, make('div', { className: 'bar' }, ...ways));
     byId('board-told').hidden = false;
+    byId('download-told').hidden = true;
   }
 }

@@ -1,5 +1,6 @@
 // Files, and what the program makes of them.
 import { ask } from './asking.js';
+import { BOARD_BUTTONS, downloadFor } from './board_downloads.js';
 import { answerOfBoards, keepLayout, layoutNameOf } from './board_opener.js';
 import { isKeymapText } from './boards/from_kle.js';
 import { byId, fill, make, save, tell } from './dom.js';
@@ -28,6 +29,7 @@ const OFFERS = {
 };
 // What a command makes is kept under the file's name with this ending.
 const MADE = { __proto__: null, asm: 'hex', compile: 'hex', list: 'asm', type: 'keys', trace: 'vcd', run: 'log', board: 'log', from_kle: 'toml' };
+const FOR_BOARDS = new Set(['toml', 'hex']);
 const INPUTS = /\.(asm|hex|toml|keys|cert|script|text|items|log|vcd|json|list|vil)$/;
 
 export class WorkbenchPane {
@@ -90,14 +92,12 @@ export class WorkbenchPane {
     const own = ending === 'json' && isKeymapText(files[name]) ? [] : OFFERS[ending] ?? [];
     const offers = own.map(pair => pair.map(words => words.replaceAll('NAME', name).replaceAll('STEM', stem)));
     if (isBoardFile(name)) offers.push(...boardOffers(name));
-    byId('offers').replaceChildren(...offers.filter(pair => pair.every(isPossible)).map(pair => {
-      const button = make('button', { type: 'button', textContent: pair.join(' and ') });
-      button.onclick = () => {
-        byId('words').value = pair[0];
-        this.run(pair[0], pair[1]);
-      };
-      return button;
+    const commands = offers.filter(pair => pair.every(isPossible)).map(pair => offered(pair.join(' and '), () => {
+      byId('words').value = pair[0];
+      this.run(pair[0], pair[1]);
     }));
+    const downloads = FOR_BOARDS.has(ending) ? Object.entries(BOARD_BUTTONS) : [];
+    byId('offers').replaceChildren(...commands, ...downloads.map(([board, text]) => offered(text, () => downloadFor(board, name, byId('told')))));
   }
 
   /** Shows a command, and runs it. */
@@ -259,6 +259,8 @@ const kindOf = name => KINDS[name.split('.').at(-1)];
 // An image is there if its source is.
 const sourceOf = image => image.replace(/hex$/, 'asm');
 const isPossible = words => words.split(' ').filter(word => INPUTS.test(word)).every(name => name in files || (name.endsWith('.hex') && sourceOf(name) in files));
+
+const offered = (textContent, act) => Object.assign(make('button', { type: 'button', textContent }), { onclick: act });
 
 // A keymap is offered for each board that is here, and a board with each keymap.
 const isBoardFile = name => /\.(json|vil)$/.test(name);

@@ -10,6 +10,7 @@ import * as keyboard from './parts/keyboard.mjs';
 import * as lessonParts from './parts/lessons.mjs';
 import * as look from './parts/look.mjs';
 import * as processor from './parts/processor.mjs';
+import * as saving from './parts/saving.mjs';
 import * as screens from './parts/screens.mjs';
 import * as wires from './parts/wires.mjs';
 import * as workbench from './parts/workbench.mjs';
@@ -70,6 +71,7 @@ try {
   await part('live processor', () => processor.live(browser, shot));
   await part('sources', () => workbench.sources(browser));
   await part('downloads', () => workbench.downloads(browser, examples));
+  await part('files for boards', () => saving.forBoards(browser, page, join(examples, 'boards')));
   await part('runs', () => workbench.runs(browser, shot));
   await part('long runs', () => workbench.longRuns(browser));
   await part('contrast of the workbench', () => look.contrast(browser));

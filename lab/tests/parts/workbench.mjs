@@ -3,6 +3,7 @@ import assert from 'node:assert/strict';
 import { readFileSync, writeFileSync } from 'node:fs';
 import { join } from 'node:path';
 import { gzipSync } from 'node:zlib';
+import { savedWhile } from './saving.mjs';
 
 const packed = value => gzipSync(typeof value === 'string' ? value : JSON.stringify(value)).toString('base64url');
 // Links that are broken, each with what is said of it. The last has 50 MB in 50 kB.
@@ -43,18 +44,14 @@ export async function sources(browser) {
 
 /** What is saved and downloaded, as the page hands it to the browser. */
 export async function downloads(browser, examples) {
-  await browser.evaluate(`globalThis.saved = []; globalThis.blobs = new Map();
-    globalThis.madeBy = URL.createObjectURL;
-    URL.createObjectURL = blob => { const url = madeBy.call(URL, blob); blobs.set(url, blob); return url; };
-    HTMLAnchorElement.prototype.click = function () { saved.push([this.download, blobs.get(this.href)]); }; 0`);
-  await run(browser, 'compile us84.toml');
-  assert.equal(await browser.textOf('download'), 'Download us84.hex');
-  await browser.click('#download');
-  await browser.evaluate('lab.workbench.open("capital_a.keys")');
-  await browser.click('#save-file');
-  const saved = await browser.evaluate('Promise.all(saved.map(async ([name, blob]) => [name, await blob.text()]))');
-  assert.deepEqual(saved, ['us84.hex', 'capital_a.keys'].map(name => [name, readFileSync(join(examples, name), 'utf8')]));
-  await browser.evaluate('URL.createObjectURL = madeBy; delete HTMLAnchorElement.prototype.click; 0');
+  const saved = await savedWhile(browser, async () => {
+    await run(browser, 'compile us84.toml');
+    assert.equal(await browser.textOf('download'), 'Download us84.hex');
+    await browser.click('#download');
+    await browser.evaluate('lab.workbench.open("capital_a.keys")');
+    await browser.click('#save-file');
+  });
+  assert.deepEqual(saved, ['us84.hex', 'capital_a.keys'].map(name => [name, readFileSync(join(examples, name))]));
 }
 
 /** run beside expect, a trace as a picture, a certificate, and a refusal. */
