@@ -77,8 +77,8 @@ try {
   await part('contrast of the workbench', () => look.contrast(browser));
   await part('second layer', () => keyboard.secondLayer(browser));
   const boards = await part('every board', () => keyboard.everyBoard(browser, answers));
-  await part('board files', () => keyboard.boardFiles(browser, shot, join(examples, 'boards')));
   await part('as the board has them', () => keyboard.asTheBoardHasThem(browser, shot, join(examples, 'boards')));
+  await part('board files', () => keyboard.boardFiles(browser, shot, join(examples, 'boards')));
   await part('broken files', () => workbench.brokenFiles(browser, folder));
   await part('share link', () => workbench.shareLink(browser, url));
   const lessons = await part('lessons', () => lessonParts.lessons(browser, shot));

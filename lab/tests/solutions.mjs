@@ -1,5 +1,6 @@
 // Solutions of the lessons, as edits of the answers in lab/answers: `right` ones, which are written in another way, and `wrong` ones,
-// each with a form of what the check says first. An edit is a list of replacements, or a whole text.
+// each with a form of what the check says first. An edit is a list of replacements, or a whole text. What the first checks accepted
+// (`wasAccepted`) is tried in the browsers too.
 
 const NOP = '        NOP\n';
 const LOOK = 'more:   JNT0 freed              ; the controller pulls it: the byte is broken off\n', NO_LOOK = `more:   NOP\n${NOP}`;
@@ -7,8 +8,8 @@ const WAIT = 'send:   JNT0 send               ; the controller holds the clock\n
 const LOW_NOPS = NOP.repeat(8), PARITY = 'CPL A                   ; 1 where the ones are even in number', STOP = 'ORL A,#2 ';
 
 /** Wrong in each program of four keys, whatever the lesson is about. */
-const ALWAYS_WRONG = [
-  { edit: [[LOW_NOPS, '']], says: /cycles from a fall of the clock to the next.*32.*24/s },
+export const ALWAYS_WRONG = [
+  { wasAccepted: true, edit: [[LOW_NOPS, '']], says: /cycles from a fall of the clock to the next.*32.*24/s },
   { edit: [[LOOK, NO_LOOK]], says: /the PC writes to its keyboard controller/ },
   { edit: [[WAIT, 'send:   JNT0 send\n']], says: /after the PC has asked|INT 09h is masked/ },
   { edit: [['        XCH A,R7 ', '        MOV R7,A\n        CLR A ']], says: /what the PC reads/ },
@@ -23,7 +24,7 @@ export const SOLUTIONS = {
     ],
     wrong: [
       ...ALWAYS_WRONG,
-      { edit: [['DB 29H', 'DB 39H']], says: /bytes on the wires: expected 29, got 39/ },
+      { wasAccepted: true, edit: [['DB 29H', 'DB 39H']], says: /bytes on the wires: expected 29, got 39/ },
       { edit: [['DB 29H', 'DB 1CH']], says: /port 39.*port 1E/s },
       { edit: [['DB 29H,32H,21H,23H', 'DB 29H,29H,29H,29H']], says: /key b/ },
       { edit: [['DB 29H,32H,21H,23H', 'DB 29H']], says: /key b/ },
@@ -41,7 +42,7 @@ export const SOLUTIONS = {
     ],
     wrong: [
       ...ALWAYS_WRONG,
-      { edit: [['ANL A,#1FH', 'ANL A,#11H'], ['DB 1CH,32H,21H,23H,24H', 'DB 1CH,32H,24H,24H,24H']], says: /key b/ },
+      { wasAccepted: true, edit: [['ANL A,#1FH', 'ANL A,#11H'], ['DB 1CH,32H,21H,23H,24H', 'DB 1CH,32H,24H,24H,24H']], says: /key b/ },
       { edit: [['ANL A,#1FH', 'ANL A,#0FH']], says: /key e/ },
       { edit: [['ANL A,#1FH', 'ANL A,#17H']], says: /key d/ },
       { edit: [['23H,24H', '23H']], says: /key e/ },
@@ -91,10 +92,10 @@ export const SOLUTIONS = {
     wrong: [
       ...ALWAYS_WRONG.filter(it => it.edit[0][0] !== LOOK),
       { edit: [[LOOK, NO_LOOK]], says: /the PC writes to its keyboard controller/ },
-      { edit: [[LOOK, NO_LOOK], ['        MOV A,R0                ; parity', '        MOV R1,#100\nlate:   DJNZ R1,late\n        MOV A,R0                ; parity']], says: /the PC writes/ },
-      { edit: [[LOOK, NO_LOOK], ['        MOV A,R0                ; parity', '        MOV R1,#200\nlate:   DJNZ R1,late\n        MOV R1,#200\nlater:  DJNZ R1,later\n        MOV A,R0                ; parity']], says: /the PC writes/ },
-      { edit: [[LOOK, `${LOOK}${NOP}`]], says: /32.*33/s },
-      { edit: [[LOOK, `${LOOK}${NOP.repeat(5)}`]], says: /32.*37/s },
+      { wasAccepted: true, edit: [[LOOK, NO_LOOK], ['        MOV A,R0                ; parity', '        MOV R1,#100\nlate:   DJNZ R1,late\n        MOV A,R0                ; parity']], says: /the PC writes/ },
+      { wasAccepted: true, edit: [[LOOK, NO_LOOK], ['        MOV A,R0                ; parity', '        MOV R1,#200\nlate:   DJNZ R1,late\n        MOV R1,#200\nlater:  DJNZ R1,later\n        MOV A,R0                ; parity']], says: /the PC writes/ },
+      { wasAccepted: true, edit: [[LOOK, `${LOOK}${NOP}`]], says: /32.*33/s },
+      { wasAccepted: true, edit: [[LOOK, `${LOOK}${NOP.repeat(5)}`]], says: /32.*37/s },
       { edit: [[LOOK, 'more:   JT0 freed\n']], says: /\d/ },
       { edit: [[LOOK, 'more:   JNT1 freed\n']], says: /\d/ },
       { edit: [[LOOK, 'more:   JNT0 other\n']], says: /the PC writes/ },
@@ -127,7 +128,7 @@ export const SOLUTIONS = {
     ],
     wrong: [
       { edit: [['        MOV @R0,#0\n', '']], says: /before anything has written it/ },
-      { edit: [['        MOV @R0,#0\n', '        MOV A,#0\n']], says: /before anything|never reads/ },
+      { wasAccepted: true, edit: [['        MOV @R0,#0\n', '        MOV A,#0\n']], says: /before anything|never reads/ },
       { edit: [['        MOV @R0,#0\n        MOV A,@R0\n', '        MOV A,#0\n']], says: /it never reads the cell/ },
       { edit: [['        MOV @R0,#0\n        MOV A,@R0\n', '        MOV @R0,#0\n        CLR A\n']], says: /it never reads the cell/ },
       { edit: [['        MOV @R0,#0\n        MOV A,@R0\n', '        MOV A,@R0\n        MOV @R0,#0\n']], says: /before anything|lights/ },
@@ -146,7 +147,7 @@ export const SOLUTIONS = {
     ],
     wrong: [
       { edit: [['01D 398', '01D 397']], says: /line 2/ },
-      { edit: [['01D 398\n', '']], says: /the bound of place 01D.*no line/s },
+      { wasAccepted: true, edit: [['01D 398\n', '']], says: /the bound of place 01D.*no line/s },
       { edit: [['01D 398', '01D 401']], says: /at most 400.*401/s },
       { edit: [['01D 398', '01D 9000']], says: /at most 400.*9000/s },
       { edit: 'target 057\n051 2\n', says: /line|no line for this place/ },

@@ -2,7 +2,7 @@
 // them by the keyboard alone.
 import assert from 'node:assert/strict';
 import { readFileSync } from 'node:fs';
-import { SOLUTIONS } from '../solutions.mjs';
+import { ALWAYS_WRONG, SOLUTIONS } from '../solutions.mjs';
 
 const checks = async (browser, text, form) => {
   await browser.put('lesson-file', text);
@@ -20,10 +20,10 @@ export async function lessons(browser, shot) {
     await browser.click('#lesson-check');
     await browser.says('lesson-result', /^Not yet/);
     assert.equal(await browser.evaluate('document.querySelectorAll("#lesson-hints details").length'), 2);
-    for (const { edit, says } of SOLUTIONS[number].wrong.slice(-1)) {
+    for (const { edit, says } of SOLUTIONS[number].wrong.filter((it, n, all) => (it.wasAccepted && (number === 1 || it !== ALWAYS_WRONG[0])) || n === all.length - 1)) {
       const text = typeof edit === 'string' ? edit : edit.reduce((now, [from, to]) => now.replace(from, () => to), answer);
       await checks(browser, text, /^Not yet/);
-      assert.match(await browser.textOf('lesson-result'), says, name);
+      await browser.says('lesson-result', says);
     }
     await checks(browser, answer, /^Done/);
     assert.ok(await browser.evaluate('document.getElementById("lesson-differs").hidden && document.getElementById("lesson-wave").hidden'));
