@@ -1,0 +1,9 @@
+pub mod Faults
+pub mod Words
+pub mod Units
+pub mod Codes
+pub mod Tokens
+pub mod Levels
+pub mod Sections
+pub mod Changes
+pub mod Reads
