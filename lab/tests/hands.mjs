@@ -4,6 +4,7 @@ import { readFileSync, readdirSync } from 'node:fs';
 const PATIENCE = 30_000; // ms
 const TICKS_OF_A_SECOND = 100; // in /proc
 const TRIES = 6;
+const MOST_LOOKS = 50, BETWEEN_LOOKS = 20; // ms
 
 /** A pace that is measured is the one that was asked for: at most half as much again, and at least this part of it. A busy machine
     only makes it slower, so a slow one is measured again. */
@@ -29,8 +30,19 @@ export function hands(driver) {
       await browser.up(code, more);
       await browser.wait(30);
     },
-    /** The middle of an element, which is scrolled into sight. */
-    place: selector => browser.evaluate(`(() => { const it = document.querySelector(${JSON.stringify(selector)}); it.scrollIntoView({ block: 'center', inline: 'center' }); const r = it.getBoundingClientRect(); return { x: r.x + r.width / 2, y: r.y + r.height / 2 }; })()`),
+    /** The middle of an element, which is scrolled into sight. A page may still scroll for what was done before, so it is looked at
+        until it rests. */
+    place: selector => browser.evaluate(`(async () => {
+      const it = document.querySelector(${JSON.stringify(selector)});
+      const look = () => { it.scrollIntoView({ block: 'center', inline: 'center' }); const r = it.getBoundingClientRect(); return { x: r.x + r.width / 2, y: r.y + r.height / 2 }; };
+      let at = look();
+      for (let was = null, n = 0; n < ${MOST_LOOKS} && (was?.x !== at.x || was?.y !== at.y); n++) {
+        was = at;
+        await new Promise(yes => setTimeout(yes, ${BETWEEN_LOOKS}));
+        at = look();
+      }
+      return at;
+    })()`),
     async click(selector) {
       const at = await browser.place(selector);
       await browser.mouse('down', at);
