@@ -15,7 +15,7 @@ use Rattle.any_host.specs.Ears.{Ear, Gives, Takes, ear_to, fell, no_byte}
 use Rattle.any_host.specs.Rules.{IsRuleful}
 use Rattle.any_host.specs.Ticks.{AreTicks, IsFound, frame_lines}
 use Rattle.any_host.specs.Wires.{AreWires, Wiring}
-use Rattle.agreement.specs.Firmware.{least_of}
+use Rattle.agreement.specs.AnyKeys.{shortest_tick}
 
 pub one_isnt_none : (n : ℕ) → n ≡ 1 → n ≡ 0 → true ≡ false
 one_isnt_none n one none = absurd (omega (arith, one, none))
@@ -172,12 +172,11 @@ module _ (frame : Frame) (missed : Bool) where
   }
 
   -- the ticks
-  pub ticks : (met : Meeting) → least_of frame ≤ 3000 → IsFound w.pins 0 frame met
-      → AreTicks w starts (frames frame) (meetings met)
-  ticks met room is = record { before = λ c l. absurd (omega (arith, l)); long = long; drives = drives; found = finds }
+  pub ticks : (met : Meeting) → IsFound w.pins 0 frame met → AreTicks w starts (frames frame) (meetings met)
+  ticks met is = record { before = λ c l. absurd (omega (arith, l)); long = long; drives = drives; found = finds }
     where
-      long : (n : ℕ) → starts n + least_of (frames frame n) ≤ starts (suc n)
-      long zero = omega (arith, room)
+      long : (n : ℕ) → starts n + shortest_tick ≤ starts (suc n)
+      long zero = omega arith
       long (suc n) = omega arith
 
       drives : (n o : ℕ) → starts n + o < starts (suc n) → driven frame (starts n + o) ≡ frame_lines (frames frame n) o
@@ -231,15 +230,15 @@ looks look is =
         let p : 260 + look ≡ 594 = omega (arith, m, far) in ap (found true) p
 
 pub s_ticks : AreTicks S starts (frames sent) (meetings Sent)
-s_ticks = ticks sent true Sent (omega arith) (refl, omega arith, refl, refl, looks)
+s_ticks = ticks sent true Sent (refl, omega arith, refl, refl, looks)
 
 pub c_ticks : AreTicks C starts (frames cut) (meetings Cut)
-c_ticks = ticks cut false Cut (omega arith) (refl, last_look, not_second (driven cut 594).clk (found false 594) refl)
+c_ticks = ticks cut false Cut (refl, last_look, not_second (driven cut 594).clk (found false 594) refl)
 
 pub s_drives : (o : ℕ) → 0 + o < 3000 → S.keyboard (0 + o) ≡ frame_lines sent o
 s_drives o l = let z : 0 + o ≡ o = omega arith in ap (driven sent) z ∙ in_first sent o (omega (arith, l))
 
-pub room : 0 + 628 ≤ 3000
+pub room : 0 + 2016 ≤ 3000
 room = omega arith
 
 pub small : 0 < 256
