@@ -77,7 +77,7 @@ export const LESSONS = [
     section: 'When a byte may go, and when it must wait',
     text: ['Before it sends, the keyboard looks at both wires. If the clock is low, the controller holds the keyboard off, and the byte must wait. The pins T0 and T1 show the clock and the data wire.',
       'In this program the look at the clock within a frame is missing. When the PC writes something while a byte is under way, it breaks the byte off, and the byte is lost. That may be at any time: the file broken_off.keys has one of them.'],
-    task: 'Put the look back: where the clock is low after it was let go, jump to freed. Falls stay 32 cycles apart.',
+    task: 'Put the look back: if the clock is low after it was let go, jump to freed. Falls stay 32 cycles apart.',
     hints: ['JNT0 jumps if the clock is low, and takes two cycles. What does it replace?', 'A delay before the byte doesn\'t help: the PC may write at any time, so each bit needs its look.'],
     file: 'four_keys.asm',
     begin: [['more:   JNT0 freed              ; the controller pulls it: the byte is broken off\n', 'more:   NOP                     ; here the clock was let go\n        NOP\n']],
