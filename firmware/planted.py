@@ -166,14 +166,13 @@ def layouts(folder: Path) -> str:
     at = flash.index(images.MARK)
     finished.write_bytes(uf2.packed(flash[:at + 8] + b"\2" + flash[at + 9:]))
     calls = (
-        (1, "line %d: column 10 has no pin" % line, [US84, narrow, "--compile"] if False else ["--wiring", US84, narrow]),
+        (1, "line %d: column 10 has no pin" % line, ["--wiring", US84, narrow]),
         (1, "has form 2; this script knows form 1", [US84, finished]), (1, "no board is named micro", [US84, "micro"]),
         (1, "--compile makes one with these", [US84, narrow]), (1, "can't be read", [folder / "none.toml", "pico"]),
         (1, "can't be read", ["--show", folder / "none.uf2"]), (2, "usage", [US84]), (2, "usage", ["--show", "--prebuilt"]))
     for status, want, words in calls:
-        done = subprocess.run([sys.executable, str(HERE / "make"), "--to", str(folder), *map(str, words)] if "--show" not in words
-                              else [sys.executable, str(HERE / "make"), *map(str, words)],
-                              stdout=subprocess.PIPE, stderr=subprocess.PIPE, check=False)
+        to = [] if "--show" in words else ["--to", str(folder)]
+        done = subprocess.run([sys.executable, str(HERE / "make"), *to, *map(str, words)], capture_output=True, check=False)
         said = done.stderr.decode()
         if done.returncode != status or want not in said or done.stdout or "Traceback" in said:
             raise Refused("make %s ended with %d and said: %s" % (" ".join(map(str, words)), done.returncode, said))
