@@ -1,21 +1,20 @@
-// A headless Firefox, driven by WebDriver BiDi: no package is needed, but a Node that has WebSocket (older ones by a flag).
+// A headless Firefox, driven by WebDriver BiDi: no package is needed.
 import { spawn } from 'node:child_process';
 import { mkdtempSync, rmSync, writeFileSync } from 'node:fs';
 import { tmpdir } from 'node:os';
 import { join } from 'node:path';
 import { hands } from './hands.mjs';
+import { webSocket } from './web_socket.mjs';
 
 /** Opens a page, as `open` of `chromium.mjs` does. */
 export async function open(program, url, [width, height], media = {}) {
   const profile = mkdtempSync(join(tmpdir(), 'kbd48-firefox-'));
   writeFileSync(join(profile, 'user.js'), Object.entries(media).map(([name, value]) => PREFERENCES[`${name}: ${value}`]).join(''));
   const child = spawn(program, ['--headless', '--no-remote', '--profile', profile, '--remote-debugging-port=0'], { stdio: ['ignore', 'ignore', 'pipe'] });
-  const socket = new WebSocket(`${await addressOf(child)}/session`);
-  await new Promise((yes, no) => Object.assign(socket, { onopen: yes, onerror: no }));
   const waits = new Map(), seen = [];
   let next = 1;
-  socket.onmessage = ({ data }) => {
-    const { id, type, result, message, method, params } = JSON.parse(data);
+  const heard = text => {
+    const { id, type, result, message, method, params } = JSON.parse(text);
     if (method === 'log.entryAdded') seen.push(`${params.level}: ${params.text}`);
     else if (method === 'network.beforeRequestSent' && !/^(file|data|blob|about):/.test(params.request.url)) seen.push(`request: ${params.request.url}`);
     else if (id) {
@@ -25,6 +24,8 @@ export async function open(program, url, [width, height], media = {}) {
       else yes(result);
     }
   };
+  const ended = () => { for (const { no } of waits.values()) no(new Error('Firefox ended the connection')); };
+  const socket = await webSocket(`${await addressOf(child)}/session`, heard, ended);
   const send = (method, params) => new Promise((yes, no) => {
     waits.set(next, { yes, no });
     socket.send(JSON.stringify({ id: next++, method, params }));

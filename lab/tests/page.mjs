@@ -1,5 +1,5 @@
 // usage: node page.mjs chromium|firefox PROGRAM LAB.html BOARDS.json [SHOTS]: the page in a browser, by scripted keys and
-// clicks. BOARDS.json has what examples/from_kle makes of boards. Pictures go to SHOTS. Firefox needs a Node with WebSocket.
+// clicks. BOARDS.json has what examples/from_kle makes of boards. Pictures go to SHOTS.
 import assert from 'node:assert/strict';
 import { mkdtempSync, rmSync } from 'node:fs';
 import { tmpdir } from 'node:os';

@@ -14,17 +14,26 @@ const LEAST_HEIGHT = 90; // pixels of a text or a picture
 export const PANES = ['keyboard', 'wires', 'processor', 'workbench', 'lessons'];
 const PHONES = { narrow: [360, 800, 2], iphone: [390, 844, 3], android: [412, 915, 2.625], lying: [844, 390, 3] };
 
+const MOST_CLICKS = 3, SOON = 3000; // ms
+
+// Clicks a pane's button; once more if a late scroll, of what was done before, takes the page away again.
+async function goTo(browser, pane, isThere) {
+  for (let clicks = 1; ; clicks++) {
+    await browser.evaluate('scrollTo(0, 0)');
+    await browser.click(`#panes [data-pane=${pane}]`);
+    if (clicks === MOST_CLICKS) return browser.until(isThere);
+    for (const end = Date.now() + SOON; Date.now() < end; await browser.wait(25)) if (await browser.evaluate(isThere)) return undefined;
+  }
+}
+
 /** The buttons at the top show a pane and go to it, also if it is shown; each pane's own button hides it. */
 export async function panes(browser) {
   const look = pane => `[document.querySelector('#panes [data-pane=${pane}]').getAttribute('aria-pressed') === 'true', document.getElementById('${pane}').checkVisibility()].join()`;
   for (const pane of PANES) {
     const was = (await browser.evaluate(look(pane))).startsWith('true');
-    for (let times = 0; times < 2; times++) {
-      await browser.evaluate('scrollTo(0, 0)');
-      await browser.click(`#panes [data-pane=${pane}]`);
-      // Its button shows it, and it comes into sight.
-      await browser.until(`${look(pane)} === 'true,true' && (top => top >= -1 && top < innerHeight)(document.getElementById('${pane}').getBoundingClientRect().top)`);
-    }
+    // Its button shows it, and it comes into sight.
+    const isThere = `${look(pane)} === 'true,true' && (top => top >= -1 && top < innerHeight)(document.getElementById('${pane}').getBoundingClientRect().top)`;
+    for (let times = 0; times < 2; times++) await goTo(browser, pane, isThere);
     await browser.click(`#hide-${pane}`);
     await browser.until(`${look(pane)} === 'false,false'`);
     assert.equal(await browser.evaluate('document.activeElement.dataset.pane'), pane, 'the focus is on the button that shows it again');
