@@ -30,6 +30,7 @@ typedef struct {
     long upset, in_service, place, flip_bank, flip_service, stop_timer, stop_interrupt, scramble;
     long port, compute, stall, stall_in, counts, cut_from, cut_to;
     long trace, watch, press, press_at, release_at, low_wire, low_from, low_to, ram, pins_only, lag, all_keys, flip_bit, reset;
+    long chatter, spikes, debounce;
 } Asked;
 static Asked asked = {.seed = 1, .length = 2000, .pull = 100 * US, .hold = 100 * US, .period = 10 * US, .place = -1,
                       .noise_width = 2 * US, .press = -1, .low_wire = -1, .compute = 5, .stall_in = 16, .counts = 11};
@@ -81,6 +82,9 @@ static const Word words[] = {
     {"counts", &asked.counts, 1},         // 11: the host counts eleven falls a byte; 10: it takes the byte at the tenth
     {"cut_from", &asked.cut_from, CYCLE}, // in every second byte the host pulls the clock, from so many cycles after the first
     {"cut_to", &asked.cut_to, CYCLE},     // fall to so many, each time one cycle later, and somewhere within the cycle
+    {"chatter", &asked.chatter, US},      // how long a key's contact chatters after each of its edges, at most; half of it at least
+    {"debounce", &asked.debounce, 1},     // 1: the image's layout is given a debounce
+    {"spikes", &asked.spikes, 1},         // contacts a second that read wrong for at most 2 ms
     {"no_host", &asked.pins_only, 1},     // 1: nothing is plugged in
 };
 
@@ -281,11 +285,47 @@ static int first_key(void) {
     return place;
 }
 
+// Contacts: after an edge of its key each chatters, in levels of 50 µs to 1 ms. These numbers are drawn apart from the others,
+// so that the same seed has the same keys with and without chatter.
+typedef struct { Time until, next; bool level; } Contact;
+static Contact contact[128];
+static Time next_spike, spike_until;
+static int spiked = -1;
+
+static uint32_t drawn_apart(uint32_t below) {
+    static uint64_t state = 88172645463325252;
+    state ^= state << 13; state ^= state >> 7; state ^= state << 17;
+    return (uint32_t)((state >> 16) % below);
+}
+
+static void turn(int place, bool down) {
+    key[place] = down;
+    Time longest = asked.chatter;
+    contact[place] = (Contact){now + longest / 2 + drawn_apart((uint32_t)(longest - longest / 2) + 1), now, down};
+}
+
+static bool is_closed(int place) {
+    Contact *at = &contact[place];
+    bool level = key[place];
+    if (now < at->until) {
+        for (; at->next <= now; at->next += 50 * US + drawn_apart(950 * US)) at->level = drawn_apart(2);
+        level = at->level;
+    }
+    return level != (place == spiked && now < spike_until);
+}
+
+static void spike_step(void) { // a contact of a key that isn't being struck reads wrong for a while
+    if (now < next_spike) return;
+    next_spike = now + until_next(asked.spikes);
+    do spiked = (int)drawn_apart(PLACES); while (!is_key(spiked));
+    spike_until = now + 1 + drawn_apart(2 * MS);
+}
+
 static void expect(uint8_t byte) { expected[last_due++ % EXPECTED] = byte; counted.codes++; }
 
 static void let_go(void) {
     if (typed < 0) return;
-    key[typed] = false;
+    turn(typed, false);
     expect(0xF0);
     expect(rom[0x300 + typed]);
     typed = -1;
@@ -297,7 +337,7 @@ static void type_step(void) { // one key after another, never two edges within t
     if (typed >= 0) let_go();
     else {
         do typed = (int)drawn(PLACES); while (!is_key(typed));
-        key[typed] = true;
+        turn(typed, true);
         expect(rom[0x300 + typed]);
     }
 }
@@ -341,6 +381,7 @@ static void world_step(void) {
     if (asked.pins_only) return;
     if (asked.noise) make_noise();
     if (asked.keys) type_step();
+    if (asked.spikes) spike_step();
     host_step();
 }
 
@@ -357,7 +398,8 @@ static Time next_event(Time at) {
     }
     if (asked.pins_only) return at;
     Time due[] = {host.until, host.until - 5 * US, host.sample_at, host.cut_at, host.next_request, host.next_inhibit, host.next_noise,
-                  next_key, host.awaits ? host.reply_by : FOREVER, asked.polling ? host.next_poll : FOREVER};
+                  next_key, asked.spikes ? next_spike : FOREVER, host.awaits ? host.reply_by : FOREVER,
+                  asked.polling ? host.next_poll : FOREVER};
     for (size_t i = 0; i < sizeof due / sizeof *due; i++) at = sooner(at, due[i]);
     return at;
 }
@@ -382,7 +424,7 @@ static uint8_t rows(void) {
     unsigned column = port[1] & 15;
     uint8_t low = 0;
     if (asked.press >= 0) key[asked.press & 127] = now >= asked.press_at * MS && now < asked.release_at * MS;
-    for (unsigned row = 0; row < 8 && column < 12; row++) low |= (uint8_t)(key[column * 8 + row] << row);
+    for (unsigned row = 0; row < 8 && column < 12; row++) low |= (uint8_t)(is_closed((int)column * 8 + (int)row) << row);
     return (uint8_t)~low;
 }
 
@@ -753,6 +795,7 @@ int main(int argc, char **argv) {
     if (!read_hex(argv[1])) return fail("can't be read, or is no HEX file", argv[1]);
     for (int i = 2; i < argc; i++)
         if (!ask(argv[i])) return fail("no such word", argv[i]);
+    if (asked.debounce) rom[0x3F2] = 1;
     noise_state = 0x9E3779B97F4A7C15ULL * (uint64_t)(asked.seed + 1);
     drawn(2);
     memset(chip.ram, (int)asked.ram, sizeof chip.ram);
@@ -763,11 +806,12 @@ int main(int argc, char **argv) {
     host.next_inhibit = until_next(asked.inhibits);
     host.next_noise = 500 * MS + until_next(asked.noise);
     next_key = 500 * MS;
+    next_spike = 500 * MS + until_next(asked.spikes);
     expect(0xAA); // the power-on test has ended well
     if (!asked.upset) {
         bool whole = run_chip(asked.length * MS);
         if (asked.watch) return whole ? 0 : 1;
-        asked.requests = asked.inhibits = asked.noise = asked.keys = 0; // then what is still on its way comes
+        asked.requests = asked.inhibits = asked.noise = asked.spikes = asked.keys = 0; // then what is still on its way comes
         host.next_request = host.next_inhibit = FOREVER;
         whole &= run_chip(50 * MS);
         let_go(); // the key is seen by now, and doesn't repeat yet

@@ -3,7 +3,8 @@ use Rattle.std.proofs.Common.{◌≡◌, ◌<◌, ℕ, ◌+◌, ◌-◌, ◌*◌
 use Rattle.board_terms.specs.declared.event.Edge.{Edge}
 use Rattle.board_terms.specs.declared.event.HostEvent.{HostEvent}
 use Rattle.fw_keys.proofs.Begun.{columns_same}
-use Rattle.fw_keys.specs.Frameless.{changed_now, edges_now}
+use Rattle.fw_keys.specs.Frameless.{changed_by, changed_now, edges_now}
+use Rattle.fw_keys.specs.State.{debounces}
 use Rattle.fw_logic.specs.Ticks.{column_read}
 use Rattle.fw_link.proofs.Over.{IsOver, under, ticks_over}
 use Rattle.fw_logic.specs.Scan.{in_tick}
@@ -25,7 +26,7 @@ module _ (edges : List Edge) (events : List HostEvent) (d : Board) (to : d.State
     abbrev u : World Beside
     u = under to w
 
-    down_over : (c : ℕ) → column_read d w c ≡ column_read joint u c
+    pub down_over : (c : ℕ) → column_read d w c ≡ column_read joint u c
     down_over c =
         let p2 : ℕ = w.cpu.p2 in
         let n : ℕ = 16 + 16 * c in
@@ -34,7 +35,8 @@ module _ (edges : List Edge) (events : List HostEvent) (d : Board) (to : d.State
         (ticks_over edges events d to over n w.cycle p2 w.board)
 
     -- the edges that a tick shows are those of the joint run
-    pub edges_over : edges_now d w ≡ edges_now joint u
-    edges_over =
-        columns_same (changed_now d w) (changed_now joint u) (column_read d w) (column_read joint u) 0 12 refl
-        (λ c l. ap (λ v. bit_xor (slice_index w.cpu.ram (32 + c)) v) (down_over c)) (λ c l. down_over c)
+    pub edges_over : (bytes : List ℕ) → edges_now bytes d w ≡ edges_now bytes joint u
+    edges_over bytes =
+        columns_same (changed_now bytes d w) (changed_now bytes joint u) (column_read d w) (column_read joint u) 0 12 refl
+        (λ c l. ap (λ v. changed_by (debounces bytes) (slice_index w.cpu.ram (96 + c)) (bit_xor (slice_index w.cpu.ram (32 + c)) v))
+        (down_over c)) (λ c l. down_over c)

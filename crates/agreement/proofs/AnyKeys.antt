@@ -1,5 +1,5 @@
 -- The run whatever the keys and the PC do: from each tick start to the next, and so the whole run.
-use Rattle.std.proofs.Common.{◌≡◌, ◌≤◌, ◌<◌, ℕ, suc, zero, ◌+◌, ◌-◌, ◌*◌, ◌==◌, List, All, length, true, Some, refl, ap, sym, ◌∙◌}
+use Rattle.std.proofs.Common.{◌≡◌, ◌≤◌, ◌<◌, ℕ, suc, zero, ◌+◌, ◌-◌, ◌==◌, List, All, length, true, Some, refl, ap, sym, ◌∙◌}
 use Rattle.std.proofs.Common.{subst, arith}
 use Rattle.board_terms.specs.declared.event.Edge.{Edge}
 use Rattle.board_terms.specs.declared.event.HostEvent.{HostEvent}
@@ -46,7 +46,7 @@ module _ (d : Board) (bytes : List ℕ) (hk : HasKernel bytes) (alike : IsSilent
 
   abbrev pub Next : World d.State → World d.State → Type 0
   Next w v =
-      GoesOn v × (v.cycle ≤ w.cycle + longest_tick) × (v.cycle ≤ w.cycle + tick_with (length (edges_now d w)))
+      GoesOn v × (v.cycle ≤ w.cycle + longest_tick bytes) × (v.cycle ≤ w.cycle + tick_with bytes (length (edges_now bytes d w)))
       × Passes d bytes w × (w.cycle + shortest_tick ≤ v.cycle)
 
   pub onward : (w : World d.State) → GoesOn w → Tick d TICK bytes w (Next w)
@@ -65,8 +65,8 @@ module _ (d : Board) (bytes : List ℕ) (hk : HasKernel bytes) (alike : IsSilent
               place = pressed_by (image_keys bytes) (layers_by w.cpu.ram) (layers_met bytes f.meeting w.cpu.ram).fn_down
                   (shown_by w.cpu.ram).repeats g.repeating;
             } in
-            let kept = tick_sound (image_keys bytes) bare f.meeting (edges_now d w) (layers_met bytes f.meeting w.cpu.ram)
-            (shown_by w.cpu.ram) (edges_low (changed_now d w) (column_read d w)) refl sound in
+            let kept = tick_sound (image_keys bytes) bare f.meeting (edges_now bytes d w) (layers_met bytes f.meeting w.cpu.ram)
+            (shown_by w.cpu.ram) (edges_low (changed_now bytes d w) (column_read d w)) refl sound in
             let before : 4096 ≤ w.cycle = g.past in
             let later : w.cycle + shortest_tick ≤ v.cycle = r.later in (
               record {
@@ -162,11 +162,11 @@ module _ (d : Board) (bytes : List ℕ) (hk : HasKernel bytes) (alike : IsSilent
     one_on n = (onward (known n).w (known n).keeps).rest.goal
 
     pub soon : (n stamp next : ℕ) → IsStart d TICK bytes from n stamp → IsStart d TICK bytes from (suc n) next
-        → next ≤ stamp + longest_tick
+        → next ≤ stamp + longest_tick bytes
     soon n stamp next s e =
         let here : (known n).w.cycle ≡ 4096 + stamp = cycle_is n stamp s in
         let there : (known (suc n)).w.cycle ≡ 4096 + next = cycle_is (suc n) next e in
-        let short : (known (suc n)).w.cycle ≤ (known n).w.cycle + longest_tick = (one_on n).1 in
+        let short : (known (suc n)).w.cycle ≤ (known n).w.cycle + longest_tick bytes = (one_on n).1 in
         omega (arith, here, there, short)
 
     pub apart : (n stamp next : ℕ) → IsStart d TICK bytes from n stamp → IsStart d TICK bytes from (suc n) next
@@ -178,13 +178,13 @@ module _ (d : Board) (bytes : List ℕ) (hk : HasKernel bytes) (alike : IsSilent
         omega (arith, here, there, long)
 
     pub by_keys : (n stamp next : ℕ) (s : IsStart d TICK bytes from n stamp) → IsStart d TICK bytes from (suc n) next
-        → next ≤ stamp + tick_with (length (edges_now d s.state))
+        → next ≤ stamp + tick_with bytes (length (edges_now bytes d s.state))
     by_keys n stamp next s e =
         let here : (known n).w.cycle ≡ 4096 + stamp = cycle_is n stamp s in
         let there : (known (suc n)).w.cycle ≡ 4096 + next = cycle_is (suc n) next e in
-        let keys : ℕ = length (edges_now d s.state) in
-        let short : (known (suc n)).w.cycle ≤ (known n).w.cycle + (2054 + 62 * keys) =
-        subst (λ v. (known (suc n)).w.cycle ≤ (known n).w.cycle + tick_with (length (edges_now d v))) (is_nth n stamp s)
+        let most : ℕ = tick_with bytes (length (edges_now bytes d s.state)) in
+        let short : (known (suc n)).w.cycle ≤ (known n).w.cycle + most =
+        subst (λ v. (known (suc n)).w.cycle ≤ (known n).w.cycle + tick_with bytes (length (edges_now bytes d v))) (is_nth n stamp s)
         (one_on n).2 in
         omega (arith, here, there, short)
 

@@ -15,7 +15,7 @@ use Rattle.joint_run.specs.Joint.{Beside, joint_board, log_of}
 use Rattle.joint_run.specs.Run.{World, run_at}
 use Rattle.joint_run.specs.Starts.{Comes, IsStart}
 use Rattle.kbd_model.proofs.CodesAreWhole.{IsWhole}
-use Rattle.kbd_model.specs.Keyboard.{Keyboard, is_held}
+use Rattle.kbd_model.specs.Keyboard.{Keyboard}
 use Rattle.kbd_model.specs.Layers.{Layers}
 use Rattle.kbd_model.specs.declared.state.Repeat.{Repeat}
 use Rattle.key_file.specs.Histories.{KeyHistory}
@@ -23,6 +23,8 @@ use Rattle.layout_reader.specs.Layouts.{KeyLayout, IsKeyLayout}
 use Rattle.link_model.proofs.Edges.{same_by_place}
 use Rattle.mcs48_core.specs.Cpu.{Cpu}
 use Rattle.mcs48_ranges.specs.Sizes.{IsFine}
+use Rattle.byte_time.specs.declared.meeting.Meeting.{Meeting}
+use Rattle.link_model.specs.Debounce.{Switches, is_down_at, taken, AreKnown}
 use Rattle.link_model.specs.Expected.{Whole, whole_at}
 use Rattle.link_model.specs.Machine.{LayeredKeyboard, KeyboardMachine, keyboard}
 use Rattle.link_model.specs.TickEdges.{change_at, shown, shown_at}
@@ -30,7 +32,7 @@ use Rattle.agreement.specs.Agreement.{IsPrompt, switched_on}
 use Rattle.agreement.specs.AnyCount.{AnyCountLaw, GoesByColumns, IsCalmFrom, changes_in}
 use Rattle.agreement.specs.AnyKeys.{tick_with}
 use Rattle.agreement.specs.AnyStart.{AreFor, AsShown, FromAnyStart, GoesOnAs, ShowsFew, ShowsKeyboard}
-use Rattle.agreement.specs.AnyStart.{model_at, model_from}
+use Rattle.agreement.specs.AnyStart.{model_at, model_from, switches_by}
 use Rattle.agreement.specs.Bytes.{IsInBytes}
 use Rattle.agreement.specs.Memory.{Holds}
 use Rattle.agreement.proofs.Compiled.{same_keys, silent_keys}
@@ -38,6 +40,7 @@ use Rattle.agreement.proofs.FromStart as chain
 use Rattle.agreement.proofs.Holding.{HasPlaces, none_held, holds_now}
 use Rattle.agreement.proofs.InTime.{on_time}
 use Rattle.agreement.proofs.Model.{at_first, columns_in}
+use Rattle.agreement.proofs.Taking.{HasFewWaiting, few_wait, takes_few}
 use Rattle.agreement.proofs.Tied.{Tied, TiedInTime, columns, fits, tied_first, tied_next}
 
 -- what repeats by the image's keys repeats by the layout's
@@ -57,16 +60,39 @@ module _ (layout : KeyLayout) (edges : List Edge) (events : List HostEvent) (fin
   abbrev R : World Beside → Whole LayeredKeyboard → Type 0
   R = Tied layout history fine ok
 
+  -- the edges that a tick takes
+  abbrev took : LayeredKeyboard → List (ℕ × Bool) → List (ℕ × Bool)
+  took k es = taken layout.debounce es k.switches
+
+  -- few, if it shows few
+  few_taken : (k : LayeredKeyboard) (now : ℕ → Bool) → HasFewWaiting layout k → length (shown (kb.held k) now) ≤ 4
+      → length (took k (shown (kb.held k) now)) ≤ 4
+  few_taken k now calm four = takes_few layout.debounce now k.switches four calm
+
+  few_left : (meeting : Meeting) (k : LayeredKeyboard) (now : ℕ → Bool) → HasPlaces k → length (shown (kb.held k) now) ≤ 4
+      → HasFewWaiting layout (kb.ticked meeting (shown (kb.held k) now) k)
+  few_left meeting k now wide four = few_wait layout.debounce now k.switches wide four
+
+  -- memory shows the model's switches
+  switches_are : (w : World Beside) (m : Whole LayeredKeyboard) → R w m → switches_by layout w ≡ m.keys.switches
+  switches_are w m t =
+      ap (λ (h : List Bool). record { read = h; settled = (shown_by w.cpu.ram).held }) t.ties.read
+      ∙ ap (λ (h : List Bool). record { read = m.keys.switches.read; settled = h })
+      (ap (λ (k : Keyboard). k.held) t.ties.keyboard ∙ t.ties.settled)
+
   -- a start in time that is tied to a model shows its keyboard
-  shows : (n : ℕ) (w : World Beside) (m : Whole LayeredKeyboard) → IsOnTime n w → IsStarted w.cpu → R w m
-      → ShowsKeyboard layout n w
-  shows n w m time started t = record {
+  shows : (n : ℕ) (w : World Beside) (m : Whole LayeredKeyboard) → IsOnTime n w → IsStarted w.cpu
+      → HasFewWaiting layout m.keys → R w m → ShowsKeyboard layout n w
+  shows n w m time started calm t = record {
     started = started;
     time = time;
     repeating = t.ties.repeating;
     fn = ap (λ (l : Layers). l.fn_down) t.ties.layers ∙ t.ties.fn ∙ ap (is_fn_held (image_of layout)) (sym t.ties.keyboard);
     codes = subst (λ (k : Keyboard). IsWhole k.queue) (sym t.ties.keyboard) t.ties.sound.codes;
-    placed = λ p l is. t.placed p l (ap (λ k. is_held k p) (sym t.ties.keyboard) ∙ is);
+    placed = subst (AreKnown layout) (sym (switches_are w m t)) t.placed;
+    waits = λ on.
+        subst (λ (s : Switches). length (shown (is_down_at s.settled) (is_down_at s.read)) ≤ 4) (sym (switches_are w m t))
+        (calm on);
     idle = t.ties.idle;
     flip = t.ties.flip;
     in_bytes = subst (λ s. IsInBytes s) (sym t.ties.side) t.in_bytes;
@@ -76,12 +102,14 @@ module _ (layout : KeyLayout) (edges : List Edge) (events : List HostEvent) (fin
   }
 
   -- and a state that shows a keyboard is tied to what it shows
-  tied_at : (n : ℕ) (w : World Beside) → ShowsKeyboard layout n w → R w (model_at w)
+  tied_at : (n : ℕ) (w : World Beside) → ShowsKeyboard layout n w → R w (model_at layout w)
   tied_at n w s = record {
     ties = record {
       started = any_start w.cpu s.started;
       keyboard = refl;
       layers = refl;
+      read = refl;
+      settled = refl;
       fn = s.fn;
       repeating = s.repeating;
       sound = record {
@@ -149,14 +177,14 @@ module _ (layout : KeyLayout) (edges : List Edge) (events : List HostEvent) (fin
           each = each;
           apart =
               chain.apart LayeredKeyboard (image_of layout) edges events kb R (tied_next layout history fine ok) from begin
-              model run past ties (columns layout history fine ok);
+              model run past ties took (columns layout history fine ok);
           soon = λ k.
-              subst (λ m. starts (suc k) ≤ starts k + tick_with (length (changes_in layout edges events starts m k))) is
+              subst (λ m. starts (suc k) ≤ starts k + tick_with (image_of layout) (length (changes_in layout edges events starts m k))) is
               (chain.soon LayeredKeyboard (image_of layout) edges events kb R (tied_next layout history fine ok) from begin
-              model run past ties (columns layout history fine ok) k);
+              model run past ties took (columns layout history fine ok) k);
           steady = λ k calm.
               chain.steady LayeredKeyboard (image_of layout) edges events kb R (tied_next layout history fine ok) from begin
-              model run past ties (columns layout history fine ok) k
+              model run past ties took (columns layout history fine ok) k
               (subst (λ m. IsCalmFrom layout edges events starts m k) (sym is) calm);
           holds = λ k stamp s.
               subst (λ m. Holds s.state (model_from kb edges events starts m k).keys) is (holds k stamp s);
@@ -165,7 +193,7 @@ module _ (layout : KeyLayout) (edges : List Edge) (events : List HostEvent) (fin
         }
 
     -- if few keys change, in time
-    module _ (n : ℕ) (time : IsOnTime n begin) (started : IsStarted begin.cpu)
+    module _ (n : ℕ) (time : IsOnTime n begin) (started : IsStarted begin.cpu) (calm : HasFewWaiting layout model.keys)
         (few : length (shown (kb.held model.keys) (columns_in edges begin.cycle)) ≤ 4)
         (later : (k : ℕ) → ShowsFew edges (suc (n + k))) where
       goes_as : (at : ℕ → Whole LayeredKeyboard) → model ≡ at (starts 0) → GoesOnAs layout edges events from n at
@@ -175,13 +203,15 @@ module _ (layout : KeyLayout) (edges : List Edge) (events : List HostEvent) (fin
         each = each;
         prompt =
             chain.prompt LayeredKeyboard (image_of layout) edges events kb R (tied_next layout history fine ok) from begin
-            model run past ties (columns layout history fine ok) (λ k. HasPlaces k.keyboard) (fits layout history fine ok)
-            (holds_now layout) n time started few later;
+            model run past ties took (columns layout history fine ok) (λ k. HasPlaces k) (fits layout history fine ok)
+            (holds_now layout) (λ k. HasFewWaiting layout k) few_taken few_left n time started calm few
+            later;
         shows =
             chain.in_time LayeredKeyboard (image_of layout) edges events kb R (tied_next layout history fine ok) from begin
-            model run past ties (columns layout history fine ok) (λ k. HasPlaces k.keyboard) (fits layout history fine ok)
-            (holds_now layout) n time started few later (λ k w m. ShowsKeyboard layout (n + k) w)
-            (λ k w m on s t. shows (n + k) w m on s t);
+            model run past ties took (columns layout history fine ok) (λ k. HasPlaces k) (fits layout history fine ok)
+            (holds_now layout) (λ k. HasFewWaiting layout k) few_taken few_left n time started calm few
+            later (λ k w m. ShowsKeyboard layout (n + k) w)
+            (λ k w m on s c t. shows (n + k) w m on s c t);
         holds = λ k stamp s.
             subst (λ m. Holds s.state (model_from kb edges events starts m k).keys) is (holds k stamp s);
         log = λ k stamp s.
@@ -192,9 +222,9 @@ pub from_any_start : FromAnyStart
 from_any_start layout edges events n w fine ok s few later =
     let early : 2 ≤ w.cpu.pre = s.started.entered.early in
     let time : w.cycle + 2 ≡ 4096 + 2048 * n + w.cpu.pre = s.time in
-    goes_as layout edges events fine ok w w (model_at w) (record { steps = 0; end = w; run = refl; goal = refl })
-    (omega (arith, early, time)) (tied_at layout edges events fine ok n w s) n s.time s.started few later (λ stamp. model_at w)
-    refl
+    goes_as layout edges events fine ok w w (model_at layout w) (record { steps = 0; end = w; run = refl; goal = refl })
+    (omega (arith, early, time)) (tied_at layout edges events fine ok n w s) n s.time s.started s.waits few later
+    (λ stamp. model_at layout w) refl
 
 -- the run from power-on
 module _ (layout : KeyLayout) (edges : List Edge) (events : List HostEvent) (fine : IsKeyLayout layout)
@@ -244,7 +274,7 @@ module _ (layout : KeyLayout) (edges : List Edge) (events : List HostEvent) (fin
       let first : length (shown (kb.held kb.start) now) ≤ 4 =
       subst (λ v. length v ≤ 4) (sym up) (few 0 (begin.cycle - 4096) prompt) in
       goes_as layout edges events fine ok (switched_on edges events m) begin model run past c.goal.1.tied 0 c.goal.0
-      c.goal.1.started first
+      c.goal.1.started c.goal.1.waits first
       (λ k. let same : k ≡ 0 + k = omega arith in subst (λ j. ShowsFew edges (suc j)) same (few (suc k))) at model_is
 
 pub as_shown : AsShown

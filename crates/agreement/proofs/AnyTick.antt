@@ -9,13 +9,14 @@ use Rattle.fw_keys.proofs.Begun.{IsAnyStart}
 use Rattle.fw_keys.proofs.Block.{Safe}
 use Rattle.fw_keys.proofs.Ended.{AtHead}
 use Rattle.fw_keys.proofs.Frames.{sent_works, cut_works, got_works}
-use Rattle.fw_keys.proofs.FramelessTick.{changed_in, by_count, four, fine, inv, board3, held_before, cpu_at_head, Came, any_tick, works}
-use Rattle.fw_keys.proofs.Scan.{edges_most}
+use Rattle.fw_keys.proofs.FramelessTick.{changed_in, columns_by, four, fine, inv, board3, held_before, cpu_at_head, Came, any_tick, works}
+use Rattle.fw_keys.proofs.Scan.{columns_most, edges_most}
+use Rattle.fw_keys.proofs.Settle.{settle_cycles, settle_short}
 use Rattle.fw_keys.proofs.Serve.{Work, any_edges, fit}
 use Rattle.fw_keys.specs.Edges.{image_keys, IsSilentAlike}
 use Rattle.fw_keys.specs.Frameless.{cells_in, shown_by, layers_by, IsRepeating, IsFrameless, edges_now, latch_now}
 use Rattle.fw_keys.specs.Frameless.{clock_now, data_now, data_again}
-use Rattle.fw_keys.specs.State.{Inv}
+use Rattle.fw_keys.specs.State.{debounces, Inv}
 use Rattle.fw_link.proofs.Latches.{driven}
 use Rattle.fw_link.proofs.TickLatch.{before_data, within, afterwards, without_frame}
 use Rattle.fw_link.proofs.Wired.{IsReleased, lights_leave, spans_on, spans_as}
@@ -40,7 +41,7 @@ use Rattle.agreement.proofs.Fitting.{sends_frame, cuts_frame, gets_frame}
 use Rattle.agreement.proofs.Ran.{Ran}
 use Rattle.agreement.proofs.Lit.{shine, from_lights, from_head}
 use Rattle.agreement.proofs.Pressing.{pressed_at}
-use Rattle.agreement.specs.AnyKeys.{longest_tick, tick_with}
+use Rattle.agreement.specs.AnyKeys.{longest_by, longest_tick, tick_by, tick_with}
 use Rattle.agreement.specs.Firmware.{Finds, HasWholeCodes, Offers, IsOpen, clock_in, data_in, board_at}
 
 module _ (d : Board) (bytes : List ℕ) (hk : HasKernel bytes) (alike : IsSilentAlike bytes) (small : All IsByte bytes)
@@ -100,25 +101,39 @@ module _ (d : Board) (bytes : List ℕ) (hk : HasKernel bytes) (alike : IsSilent
   abbrev So : Meeting → Frame → World d.State → Type 0
   So meeting frame u = Ran d bytes meeting frame w u
 
+  abbrev debounce : Bool
+  debounce = debounces bytes
+
+  -- each bound is a tick's length at least
+  room : (b : Bool) (keys : ℕ) → (2054 ≤ longest_by b) × (2054 ≤ tick_by b keys)
+  room false keys = (omega arith, omega arith)
+  room true keys = (omega arith, omega arith)
+
+  -- and the longest is short enough for the timer
+  under : (b : Bool) (k : ℕ) → k ≤ longest_by b → k ≤ 8314
+  under false k l = omega (arith, l)
+  under true k l = l
+
   -- the work of a tick fits: with four edges at most it is in time, and it is never longer than the longest
   record Fits (last_off : ℕ) : Type 0 where
-    few : length (edges_now d w) ≤ 4 → 3 + last_off ≤ 2000
-    any : 7 + last_off ≤ longest_tick
-    keys : 7 + last_off ≤ tick_with (length (edges_now d w))
+    few : length (edges_now bytes d w) ≤ 4 → 3 + last_off ≤ 2000
+    any : 7 + last_off ≤ longest_tick bytes
+    keys : 7 + last_off ≤ tick_with bytes (length (edges_now bytes d w))
 
   -- a tick that came to its end, by the board there
   came_so : (meeting : Meeting) (last_off : ℕ) (G : TimerState → Stage d.State → Type 0) (frame : Frame)
       (u : World d.State) → Fits last_off → (c : Comes meeting last_off G u) → c.from.cpu.p2 ≡ v → ((n : ℕ) → u.cycle ≡ start + n → u.board ≡ gone frame n)
       → So meeting frame u
   came_so meeting last_off G frame u fits c p2 is = record {
-    started = c.started (let any : 7 + last_off ≤ 8000 = fits.any in omega (arith, any));
+    started = c.started (let any : 7 + last_off ≤ 8314 = under debounce (7 + last_off) fits.any in omega (arith, any));
     later = c.long;
-    soon = c.within longest_tick (omega arith) fits.any;
-    by_keys = c.within (tick_with (length (edges_now d w))) (omega arith) fits.keys;
+    soon = c.within (longest_tick bytes) (room debounce (length (edges_now bytes d w))).0 fits.any;
+    by_keys = c.within (tick_with bytes (length (edges_now bytes d w))) (room debounce (length (edges_now bytes d w))).1 fits.keys;
     prompt = λ started few. c.prompt started (let room : 3 + last_off ≤ 2000 = fits.few few in omega (arith, room));
     settles = λ few. c.settles (fits.few few);
     keyboard = c.keyboard;
     layers = c.layers;
+    read = c.read;
     repeating = c.repeating;
     latch = c.p2 ∙ p2;
     passes = c.passes;
@@ -240,18 +255,29 @@ module _ (d : Board) (bytes : List ℕ) (hk : HasKernel bytes) (alike : IsSilent
       (l : TimerState) → IsInRange l → Work d bytes hk alike small low start (timer_of w.cpu) f ring w.cpu w.board l meeting last_off (G l)
 
   abbrev most : ℕ
-  most = edges_most (changed_in d bytes hk alike small low w s)
+  most = edges_most bytes (changed_in d bytes hk alike small low w s)
+
+  -- the bounds with the time in which keys settle
+  long_enough : (b : Bool) (keys others columns : ℕ) → others ≤ 800 → columns ≤ 7176 → columns ≤ 1224 + 62 * keys
+      → (7 + (others + (settle_cycles b + columns)) ≤ longest_by b)
+      × (7 + (others + (settle_cycles b + columns)) ≤ tick_by b keys)
+  long_enough false keys others columns l m n = (omega (arith, l, m), omega (arith, l, n))
+  long_enough true keys others columns l m n = (omega (arith, l, m), omega (arith, l, n))
 
   -- all but the edges takes so many cycles
-  fits_in : (others last_off : ℕ) → last_off ≡ others + most → others ≤ 817 → Fits last_off
+  fits_in : (others last_off : ℕ) → last_off ≡ others + most → others ≤ 800 → Fits last_off
   fits_in others last_off sum less =
-      let any : most ≤ 7176 = any_edges (changed_in d bytes hk alike small low w s) in
-      let by : most ≤ 1224 + 62 * length (edges_now d w) = by_count d bytes hk alike small low w s in
+      let ch : ℕ → ℕ = changed_in d bytes hk alike small low w s in
+      let keys : ℕ = length (edges_now bytes d w) in
+      let settle : settle_cycles (debounces bytes) ≤ 322 = settle_short (debounces bytes) in
+      let by : columns_most ch ≤ 1224 + 62 * keys = columns_by d bytes hk alike small low w s in
+      let long = long_enough debounce keys others (columns_most ch) less (any_edges ch) by in
       record {
         few = λ h.
-            let edges : most ≤ 728 = four d bytes hk alike small low w s h in omega (arith, edges, sum, less);
-        any = omega (arith, any, sum, less);
-        keys = omega (arith, by, sum, less);
+            let edges : most ≤ settle_cycles (debounces bytes) + 728 = four d bytes hk alike small low w s h in
+            omega (arith, edges, settle, sum, less);
+        any = subst (λ o. 7 + o ≤ longest_tick bytes) (sym sum) long.0;
+        keys = subst (λ o. 7 + o ≤ tick_with bytes keys) (sym sum) long.1;
       }
 
   by_way : (meeting : Meeting) (frame : Frame) (last_off : ℕ) (G : TimerState → Stage d.State → Type 0)

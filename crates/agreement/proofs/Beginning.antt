@@ -147,6 +147,8 @@ module _ (edges : List Edge) (events : List HostEvent) (noise : AreFlips events)
           started = any_start w.cpu f.started;
           keyboard = f.keyboard ∙ ap at_power_on rate;
           layers = f.layers;
+          read = f.read;
+          settled = refl;
           fn = sym (none_held layout (slice_index bytes fn_place_at));
           repeating = subst (λ (k : Keyboard). IsPressed (image_keys bytes) (layers_by w.cpu.ram) k.repeats) (sym f.keyboard) tt;
           sound = begins_sound (silent_keys layout) layout.rate;

@@ -2,11 +2,12 @@
 -- processor reads off them are those of the model.
 use Rattle.std.proofs.Common.{◌≡◌, ◌≤◌, ◌<◌, ℕ, suc, zero, ◌+◌, ◌-◌, ◌*◌, ◌/◌, ◌%◌, ◌^◌, ◌==◌, nat_le, nat_lt}
 use Rattle.std.proofs.Common.{Bool, true, false, ◌&&◌, if◌then◌else◌, List, [], ◌∷◌, ◌++◌, slice_index, slice_index_or}
-use Rattle.std.proofs.Common.{bit_xor, refl, ap, sym, ◌∙◌, subst, arith}
+use Rattle.std.proofs.Common.{bit_and, bit_xor, length, refl, ap, sym, ◌∙◌, subst, arith}
+use Rattle.std.specs.Prelude.{min}
 use Rattle.std.specs.List.{filter}
 use Rattle.std.proofs.lemmas.Bool.Decides.{nat_tests}
 use Rattle.std.proofs.lemmas.List.{append-nil, append_assoc}
-use Rattle.std.proofs.lemmas.Nat.Bits.{bit_at_xor}
+use Rattle.std.proofs.lemmas.Nat.Bits.{bit_at_and, bit_at_xor}
 use Rattle.board_terms.specs.declared.event.Edge.{Edge}
 use Rattle.board_terms.specs.declared.event.HostEvent.{HostEvent}
 use Rattle.board_terms.specs.Edges.{of_place, last_of, is_made}
@@ -14,16 +15,18 @@ use Rattle.board_terms.specs.Matrix.{all_up, column_rows, rows_of}
 use Rattle.bits.proofs.Every.{and-left, and-right}
 use Rattle.board_terms.proofs.Shown.{shown_from, edges_shown}
 use Rattle.fw_keys.specs.Edges.{row_edges, column_edges, tick_edges}
-use Rattle.fw_keys.specs.Frameless.{shown_by, edges_now}
+use Rattle.fw_keys.proofs.Held.{held_same}
+use Rattle.fw_keys.specs.Frameless.{cells_in, shown_by, read_by, differing_now, changed_by, edges_now}
 use Rattle.fw_logic.specs.Ticks.{column_read}
-use Rattle.fw_keys.specs.State.{flags, down_at}
+use Rattle.fw_keys.specs.State.{flags, down_at, held_by, debounces, read_cell, read_of}
 use Rattle.bits.proofs.Every.{every_below, at_each, same, same_is, pair_tests}
 use Rattle.fw_logic.specs.Scan.{in_tick}
 use Rattle.joint_run.specs.Joint.{Beside, joint_board, joint_pins, keys_at}
 use Rattle.joint_run.specs.Run.{Board, World}
-use Rattle.kbd_model.specs.Keyboard.{is_held}
 use Rattle.board_terms.proofs.Shown.{skip, keep}
 use Rattle.link_model.proofs.Edges.{are_at, filter_same}
+use Rattle.link_model.proofs.Taken.{differ, turned_shown}
+use Rattle.link_model.specs.Debounce.{Switches, is_down_at, settles, turned_all, taken}
 use Rattle.link_model.specs.TickEdges.{by_place, change_at, is_down, shown, shown_at}
 use Rattle.bits.specs.Bits.{bit}
 use Rattle.agreement.proofs.Model.{columns_in}
@@ -171,7 +174,7 @@ rows_read keys c l =
     ap (λ n. if nat_lt n 12 then column_rows keys n else 255) low ∙ ap (λ b. if b then column_rows keys c else 255) one
 
 -- a column's byte has a 1 for each key that is down
-down_read : (edges : List Edge) (events : List HostEvent) (w : World Beside) → 4096 ≤ w.cycle
+pub down_read : (edges : List Edge) (events : List HostEvent) (w : World Beside) → 4096 ≤ w.cycle
     → (c r : ℕ) → c < 12 → r < 8
     → bit r (column_read (joint_board edges events) w c) ≡ columns_in edges w.cycle (8 * c + r)
 down_read edges events w late c r lc lr =
@@ -186,28 +189,26 @@ down_read edges events w late c r lc lr =
     ∙ key_down edges (w.cycle - 4096 + 16 + 16 * c) cycle (8 * c + r) at p
     ∙ ap (λ n. is_down edges (8 * c + r) (w.cycle - 4096 + 16 + 16 * n)) (sym column)
 
--- and a cell of memory has a 1 for each key that is held
-pub held_read : (ram : List ℕ) (c r : ℕ) → c < 12 → r < 8
-    → bit r (slice_index ram (32 + c)) ≡ is_held (shown_by ram) (8 * c + r)
-held_read ram c r lc lr =
+-- and a byte a column has a 1 for each key of the places that it says
+bytes_read : (bytes : ℕ → ℕ) (c r : ℕ) → c < 12 → r < 8 → bit r (bytes c) ≡ is_down_at (held_by bytes) (8 * c + r)
+bytes_read bytes c r lc lr =
     let row : (8 * c + r) % 8 ≡ r = omega (arith, lr) in
     let column : (8 * c + r) / 8 ≡ c = omega (arith, lr) in
-    let held : ℕ → ℕ = λ i. slice_index ram (32 + i) in
-    ap (λ n. bit n (held c)) (sym row) ∙ ap (λ n. bit ((8 * c + r) % 8) (held n)) (sym column)
-    ∙ sym (flags_at (down_at held) 96 (8 * c + r) (omega (arith, lc, lr)))
-
--- whether two Booleans differ
-abbrev differ : Bool → Bool → Bool
-differ true true = false
-differ true false = true
-differ false true = true
-differ false false = false
+    ap (λ n. bit n (bytes c)) (sym row) ∙ ap (λ n. bit ((8 * c + r) % 8) (bytes n)) (sym column)
+    ∙ sym (flags_at (down_at bytes) 96 (8 * c + r) (omega (arith, lc, lr)))
 
 -- a bit of an exclusive or is 1 where two bits differ
 bit_differs : (r a b : ℕ) → bit r (bit_xor a b) ≡ differ (bit r a) (bit r b)
 bit_differs r a b =
     ap (λ v. v == 1) (bit_at_xor a b r)
     ∙ pair_tests 2 2 (λ x y. (x + y) % 2 == 1) (λ x y. differ (x == 1) (y == 1)) refl (a / 2 ^ r % 2) (b / 2 ^ r % 2)
+    (omega arith) (omega arith)
+
+-- and one of both bytes is 1 where it is in both
+bit_both : (r a b : ℕ) → bit r (bit_and a b) ≡ (bit r a && bit r b)
+bit_both r a b =
+    ap (λ v. v == 1) (bit_at_and a b r)
+    ∙ pair_tests 2 2 (λ x y. min x y == 1) (λ x y. (x == 1) && (y == 1)) refl (a / 2 ^ r % 2) (b / 2 ^ r % 2)
     (omega arith) (omega arith)
 
 -- a key that isn't as it was held is a change
@@ -218,21 +219,28 @@ change_is p true false rest = refl
 change_is p false true rest = refl
 change_is p false false rest = refl
 
-module _ (held now : ℕ → Bool) (old new : ℕ → ℕ)
-    (held_is : (c r : ℕ) → c < 12 → r < 8 → bit r (old c) ≡ held (8 * c + r))
-    (now_is : (c r : ℕ) → c < 12 → r < 8 → bit r (new c) ≡ now (8 * c + r)) where
-  abbrev changed : ℕ → ℕ
-  changed c = bit_xor (old c) (new c)
-
+module _ (held now : ℕ → Bool) (changed new : ℕ → ℕ)
+    (changed_is : (c r : ℕ) → c < 12 → r < 8 → bit r (changed c) ≡ differ (held (8 * c + r)) (now (8 * c + r)))
+    (now_is : (c r : ℕ) → c < 12 → r < 8 → bit r (changed c) ≡ true → bit r (new c) ≡ now (8 * c + r)) where
   -- a row
   row_shown : (c r : ℕ) (rest : List (ℕ × Bool)) → c < 12 → r < 8
       → (if bit r (changed c) then (8 * c + r, bit r (new c)) ∷ rest else rest) ≡ shown_at held now (8 * c + r) ++ rest
-  row_shown c r rest lc lr =
-      let p : ℕ = 8 * c + r in
-      ap (λ b. if b then (p, bit r (new c)) ∷ rest else rest) (bit_differs r (old c) (new c))
-      ∙ ap (λ b. if differ b (bit r (new c)) then (p, bit r (new c)) ∷ rest else rest) (held_is c r lc lr)
-      ∙ ap (λ b. if differ (held p) b then (p, b) ∷ rest else rest) (now_is c r lc lr)
-      ∙ change_is p (held p) (now p) rest
+  row_shown c r rest lc lr = by (bit r (changed c)) refl
+    where
+      p : ℕ
+      p = 8 * c + r
+
+      by : (b : Bool) → bit r (changed c) ≡ b
+          → (if bit r (changed c) then (8 * c + r, bit r (new c)) ∷ rest else rest) ≡ shown_at held now (8 * c + r) ++ rest
+      by true e =
+          ap (λ b. if b then (p, bit r (new c)) ∷ rest else rest) e
+          ∙ ap (λ v. (p, v) ∷ rest) (now_is c r lc lr e)
+          ∙ ap (λ b. if b then (p, now p) ∷ rest else rest) (sym e ∙ changed_is c r lc lr)
+          ∙ change_is p (held p) (now p) rest
+      by false e =
+          ap (λ b. if b then (p, bit r (new c)) ∷ rest else rest) e
+          ∙ ap (λ b. if b then (p, now p) ∷ rest else rest) (sym e ∙ changed_is c r lc lr)
+          ∙ change_is p (held p) (now p) rest
 
   -- the rows of a column, after what the places below show
   rows_shown : (c r n : ℕ) → c < 12 → r + n ≡ 8
@@ -272,9 +280,107 @@ module _ (held now : ℕ → Bool) (old new : ℕ → ℕ)
   pub bytes_shown : tick_edges changed new ≡ shown held now
   bytes_shown = columns_shown 0 12 refl
 
--- the edges of a tick that starts at stamp 0 or later
-pub board_edges : (edges : List Edge) (events : List HostEvent) (w : World Beside) → 4096 ≤ w.cycle
-    → edges_now (joint_board edges events) w ≡ shown (is_held (shown_by w.cpu.ram)) (columns_in edges w.cycle)
-board_edges edges events w late =
-    bytes_shown (is_held (shown_by w.cpu.ram)) (columns_in edges w.cycle) (λ c. slice_index w.cpu.ram (32 + c))
-    (column_read (joint_board edges events) w) (held_read w.cpu.ram) (down_read edges events w late)
+-- a key that settles otherwise than held is one of which both readings say so, where what is pending differs from it
+settle_differs : (held pending now : Bool)
+    → (differ held now && pending) ≡ differ held (settles held (differ held pending) now)
+settle_differs true true true = refl
+settle_differs true true false = refl
+settle_differs true false true = refl
+settle_differs true false false = refl
+settle_differs false true true = refl
+settle_differs false true false = refl
+settle_differs false false true = refl
+settle_differs false false false = refl
+
+settle_as_now : (held pending now : Bool) → (differ held now && pending) ≡ true
+    → now ≡ settles held (differ held pending) now
+settle_as_now true true true h = absurd cc
+settle_as_now true true false h = refl
+settle_as_now true false true h = absurd cc
+settle_as_now true false false h = absurd cc
+settle_as_now false true true h = refl
+settle_as_now false true false h = absurd cc
+settle_as_now false false true h = absurd cc
+settle_as_now false false false h = absurd cc
+
+-- the edges of a tick are those that the model's keyboard takes of what the columns show
+module _ (d : Board) (w : World d.State) (now : ℕ → Bool)
+    (now_is : (c r : ℕ) → c < 12 → r < 8 → bit r (column_read d w c) ≡ now (8 * c + r)) (s : Switches) where
+  abbrev ram : List ℕ
+  ram = w.cpu.ram
+
+  abbrev seen : List (ℕ × Bool)
+  seen = shown (is_down_at s.read) now
+
+  module _ (settled : (shown_by ram).held ≡ s.settled) where
+    held_is : (c r : ℕ) → c < 12 → r < 8 → bit r (slice_index ram (32 + c)) ≡ is_down_at s.settled (8 * c + r)
+    held_is c r lc lr =
+        bytes_read (λ i. slice_index ram (32 + i)) c r lc lr ∙ ap (λ h. is_down_at h (8 * c + r)) settled
+
+    differs : (c r : ℕ) → c < 12 → r < 8
+        → bit r (differing_now d w c) ≡ differ (is_down_at s.settled (8 * c + r)) (now (8 * c + r))
+    differs c r lc lr =
+        bit_differs r (slice_index ram (32 + c)) (column_read d w c)
+        ∙ ap (λ b. differ b (bit r (column_read d w c))) (held_is c r lc lr)
+        ∙ ap (λ b. differ (is_down_at s.settled (8 * c + r)) b) (now_is c r lc lr)
+
+    by_edges : (b : Bool) → read_of b (cells_in ram) ≡ s.read → length s.read ≡ 96
+        → tick_edges (λ c. changed_by b (slice_index ram (96 + c)) (differing_now d w c)) (column_read d w)
+        ≡ taken b seen s
+    by_edges false read long =
+        let same : s.settled ≡ s.read =
+        sym settled ∙ held_same (λ c. slice_index ram (32 + c)) (read_cell false (cells_in ram)) (λ c l. refl) ∙ read in
+        bytes_shown (is_down_at s.settled) now (differing_now d w) (column_read d w) differs
+        (λ c r lc lr e. now_is c r lc lr)
+        ∙ ap (λ h. shown (is_down_at h) now) same
+    by_edges true read long =
+        bytes_shown (is_down_at s.settled)
+        (λ p. settles (is_down_at s.settled p) (is_down_at s.read p) (is_down_at (turned_all seen s.read) p))
+        (λ c. bit_and (differing_now d w c) (slice_index ram (96 + c))) (column_read d w)
+        (λ c r lc lr. both_is c r lc lr
+        ∙ settle_differs (is_down_at s.settled (8 * c + r)) (pends c r) (now (8 * c + r))
+        ∙ ap (λ v. differ (is_down_at s.settled (8 * c + r)) v) (settles_is c r lc lr))
+        (λ c r lc lr e. now_is c r lc lr
+        ∙ settle_as_now (is_down_at s.settled (8 * c + r)) (pends c r) (now (8 * c + r)) (sym (both_is c r lc lr) ∙ e)
+        ∙ settles_is c r lc lr)
+      where
+        pends : ℕ → ℕ → Bool
+        pends c r = bit r (slice_index ram (96 + c))
+
+        both_is : (c r : ℕ) → c < 12 → r < 8
+            → bit r (bit_and (differing_now d w c) (slice_index ram (96 + c)))
+            ≡ (differ (is_down_at s.settled (8 * c + r)) (now (8 * c + r)) && pends c r)
+        both_is c r lc lr =
+            bit_both r (differing_now d w c) (slice_index ram (96 + c))
+            ∙ ap (λ b. b && bit r (slice_index ram (96 + c))) (differs c r lc lr)
+
+        read_is : (c r : ℕ) → c < 12 → r < 8
+            → differ (is_down_at s.settled (8 * c + r)) (pends c r) ≡ is_down_at s.read (8 * c + r)
+        read_is c r lc lr =
+            sym (bit_differs r (slice_index ram (32 + c)) (slice_index ram (96 + c))
+            ∙ ap (λ b. differ b (bit r (slice_index ram (96 + c)))) (held_is c r lc lr))
+            ∙ bytes_read (read_cell true (cells_in ram)) c r lc lr ∙ ap (λ h. is_down_at h (8 * c + r)) read
+
+        settles_is : (c r : ℕ) → c < 12 → r < 8
+            → settles (is_down_at s.settled (8 * c + r)) (differ (is_down_at s.settled (8 * c + r)) (pends c r)) (now (8 * c + r))
+            ≡ settles (is_down_at s.settled (8 * c + r)) (is_down_at s.read (8 * c + r))
+            (is_down_at (turned_all seen s.read) (8 * c + r))
+        settles_is c r lc lr =
+            ap (λ b. settles (is_down_at s.settled (8 * c + r)) b (now (8 * c + r))) (read_is c r lc lr)
+            ∙ ap (λ b. settles (is_down_at s.settled (8 * c + r)) (is_down_at s.read (8 * c + r)) b)
+            (sym (turned_shown s.read now (8 * c + r) long (omega (arith, lc, lr))))
+
+    pub edges_taken : (bytes : List ℕ) (debounce : Bool) → debounces bytes ≡ debounce → read_by bytes ram ≡ s.read
+        → length s.read ≡ 96 → edges_now bytes d w ≡ taken debounce seen s
+    edges_taken bytes debounce flag read long =
+        by_edges (debounces bytes) read long ∙ ap (λ b. taken b seen s) flag
+
+-- so it is of the joint board in a tick that starts at stamp 0 or later
+pub board_edges : (edges : List Edge) (events : List HostEvent) (w : World Beside) → 4096 ≤ w.cycle → (s : Switches)
+    → (shown_by w.cpu.ram).held ≡ s.settled → (bytes : List ℕ) (debounce : Bool) → debounces bytes ≡ debounce
+    → read_by bytes w.cpu.ram ≡ s.read → length s.read ≡ 96
+    → edges_now bytes (joint_board edges events) w
+    ≡ taken debounce (shown (is_down_at s.read) (columns_in edges w.cycle)) s
+board_edges edges events w late s settled bytes debounce flag read long =
+    edges_taken (joint_board edges events) w (columns_in edges w.cycle) (down_read edges events w late) s settled bytes debounce
+    flag read long

@@ -24,6 +24,8 @@ use Rattle.fw_keys.proofs.Carried.{SameKeys}
 use Rattle.fw_keys.proofs.Kept.{NoPrefix}
 use Rattle.fw_keys.specs.Edges.{image_keys, IsSilentAlike}
 use Rattle.fw_keys.specs.Frameless.{shown_by, edges_now, latch_now}
+use Rattle.fw_logic.specs.Ticks.{column_read}
+use Rattle.fw_keys.specs.State.{held_by}
 use Rattle.fw_link.proofs.Lets.{lets_at, as_cycle, pulled_look}
 use Rattle.fw_link.proofs.Outside.{sent_lines}
 use Rattle.fw_link.proofs.Over.{IsOver, under}
@@ -38,12 +40,12 @@ use Rattle.joint_run.specs.Joint.{Beside, latch_of, lights_of}
 use Rattle.joint_run.specs.Run.{Board, World}
 use Rattle.joint_run.specs.Starts.{Tick}
 use Rattle.kbd_model.proofs.CodesAreWhole.{IsWhole}
-use Rattle.kbd_model.specs.Keyboard.{Keyboard, offer, is_held}
+use Rattle.kbd_model.specs.Keyboard.{Keyboard, offer}
 use Rattle.kbd_model.specs.declared.meeting.Meeting.TheVariants as kbd
 use Rattle.layout_reader.specs.Layouts.{KeyLayout}
+use Rattle.link_model.specs.Debounce.{turned_all}
 use Rattle.link_model.specs.Expected.{Whole}
 use Rattle.link_model.specs.Machine.{LayeredKeyboard, met_as}
-use Rattle.link_model.specs.TickEdges.{shown}
 use Rattle.ctl_wire.specs.Wires.{Pc}
 use Rattle.wires_agree.proofs.Pending.{flips_stay}
 use Rattle.wires_agree.specs.Flips.{IsFlip}
@@ -61,6 +63,7 @@ use Rattle.agreement.proofs.Happened.{at_look}
 use Rattle.agreement.proofs.Model.{columns_in}
 use Rattle.agreement.proofs.Ran.{Ran}
 use Rattle.agreement.proofs.Sides.{looks_same}
+use Rattle.agreement.proofs.Taking.{sees, takes}
 use Rattle.agreement.proofs.Ties.{Ties}
 use Rattle.agreement.proofs.Ways.{testing, idle, inhibited, sends, is_cut, gets}
 
@@ -74,8 +77,9 @@ module _ (edges : List Edge) (events : List HostEvent) (d : Board) (to : d.State
     (own : IsFnPlaceOf layout (slice_index bytes fn_place_at))
     (w : World d.State) (m : Whole LayeredKeyboard)
     (tie : Ties bytes (silent_keys layout) (under to w) m)
-    (columns : edges_now d w ≡ shown (is_held m.keys.keyboard) (columns_in edges w.cycle))
-    (of_layout : All (IsOfLayout layout) (shown (is_held m.keys.keyboard) (columns_in edges w.cycle)))
+    (columns : edges_now bytes d w ≡ takes layout m (columns_in edges w.cycle))
+    (of_layout : All (IsOfLayout layout) (takes layout m (columns_in edges w.cycle)))
+    (reads : held_by (column_read d w) ≡ turned_all (sees m (columns_in edges w.cycle)) m.keys.switches.read)
     (released : IsReleased (latch_now d w))
     (lamps : m.keys.keyboard.lights ≡ lights_of (latch_now d w))
     (noise : AreFlips events) (offered : (byte : ℕ) → offer m.keys.keyboard ≡ Some byte → byte < 256)
@@ -91,7 +95,7 @@ module _ (edges : List Edge) (events : List HostEvent) (d : Board) (to : d.State
 
   abbrev Goes : Frame → Type 0
   Goes frame = Tick d TICK bytes w
-      (Went edges events d to over bytes layout same codes own w m tie columns of_layout released lamps noise frame)
+      (Went edges events d to over bytes layout same codes own w m tie columns of_layout reads released lamps noise frame)
 
   abbrev tests : Bool
   tests = m.keys.keyboard.test == 0
@@ -114,7 +118,7 @@ module _ (edges : List Edge) (events : List HostEvent) (d : Board) (to : d.State
       → IsNone meeting → IsFrameOf (offer m.keys.keyboard) meeting NoFrame
       → Tick d TICK bytes w (Ran d bytes (met_as meeting) NoFrame w) → Goes NoFrame
   still meeting is none fits t =
-      goes edges events d to over bytes layout same codes own w m tie columns of_layout released lamps noise
+      goes edges events d to over bytes layout same codes own w m tie columns of_layout reads released lamps noise
       (met_as meeting) meeting NoFrame fits refl (λ byte e. elim (subst IsNone e none) [ ])
       (λ rest more k all long.
       still_ticked events v w.cycle released rest k look all tests (offer m.keys.keyboard) meeting idle_look
@@ -164,9 +168,9 @@ module _ (edges : List Edge) (events : List HostEvent) (d : Board) (to : d.State
           subst (λ (k : Keyboard). IsWhole k.queue) (sym tie.keyboard) tie.sound.codes in
           let flip : IsFlip (at_meeting events whole w.cycle look).side.port.flip =
           flips_stay events whole 32 (256 + w.cycle) look noise
-          (flip_at_look edges events d to over bytes layout same codes own w m tie columns of_layout released lamps noise) in
+          (flip_at_look edges events d to over bytes layout same codes own w m tie columns of_layout reads released lamps noise) in
           let there : Free_there = is_there (leaves 46 (inr (inr (0, omega arith, inl refl)))) in
-          goes edges events d to over bytes layout same codes own w m tie columns of_layout released lamps noise kbd.Sent
+          goes edges events d to over bytes layout same codes own w m tie columns of_layout reads released lamps noise kbd.Sent
           (met.Sent byte) (SentFrame byte) refl refl (λ b e. absurd cc)
           (λ rest more k all long.
           at_model whole rest k (Some byte) (met.Sent byte) ended some
@@ -237,7 +241,7 @@ module _ (edges : List Edge) (events : List HostEvent) (d : Board) (to : d.State
         -- it pulls the clock at a look, the first such: the frame is cut there
         cut : Goes (CutFrame byte first.look)
         cut =
-            goes edges events d to over bytes layout same codes own w m tie columns of_layout released lamps noise kbd.Cut met.Cut
+            goes edges events d to over bytes layout same codes own w m tie columns of_layout reads released lamps noise kbd.Cut met.Cut
             (CutFrame byte first.look)
             (some, first.is) refl (λ b e. absurd cc)
             (λ rest more k all long. at_model here rest k (Some byte) met.Cut ended some (ticked rest k all))
@@ -280,7 +284,7 @@ module _ (edges : List Edge) (events : List HostEvent) (d : Board) (to : d.State
   -- the controller requests to send
   when_asked : (byte : ℕ) → tests ≡ true → look.side.port.link ≡ Request byte → Goes ReceivedFrame
   when_asked byte ended request =
-      goes edges events d to over bytes layout same codes own w m tie columns of_layout released lamps noise
+      goes edges events d to over bytes layout same codes own w m tie columns of_layout reads released lamps noise
       (kbd.Got byte true) (met.Got byte) ReceivedFrame refl refl
       (λ b e. let same : byte ≡ b = cc in request ∙ ap (λ n. Request n) same)
       (λ rest more k all long.

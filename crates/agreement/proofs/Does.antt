@@ -26,7 +26,7 @@ use Rattle.agreement.specs.Firmware.{Finds, Does, HasWholeCodes, HasNoPrefix, Ti
 module _ (d : Board) (bytes : List ℕ) (hk : HasKernel bytes) (alike : IsSilentAlike bytes) (codes : HasNoPrefix bytes)
     (small : All IsByte bytes) (low : (p1 p2 c : ℕ) (s : d.State) → (d.pins p1 p2 c s).bus < 256) (w : World d.State)
     (s : IsStarted w.cpu) (repeats : IsRepeating bytes w.cpu.ram) (whole : HasWholeCodes w.cpu.ram)
-    (few : length (edges_now d w) ≤ 4) (frame : Frame) (meeting : Meeting) where
+    (few : length (edges_now bytes d w) ≤ 4) (frame : Frame) (meeting : Meeting) where
   so : (v : World d.State) → Happened d bytes meeting frame w v → v.cpu.p1 ≡ 44 → Does d bytes frame meeting w v
   so v h column =
       let sound : Sound (image_keys bytes) (layers_met bytes meeting w.cpu.ram) (shown_by w.cpu.ram) =
@@ -35,14 +35,15 @@ module _ (d : Board) (bytes : List ℕ) (hk : HasKernel bytes) (alike : IsSilent
         place = pressed_by (image_keys bytes) (layers_by w.cpu.ram) (layers_met bytes meeting w.cpu.ram).fn_down
             (shown_by w.cpu.ram).repeats repeats;
       } in
-      let kept = tick_sound (image_keys bytes) codes meeting (edges_now d w) (layers_met bytes meeting w.cpu.ram)
-      (shown_by w.cpu.ram) (edges_low (changed_now d w) (column_read d w)) refl sound in
+      let kept = tick_sound (image_keys bytes) codes meeting (edges_now bytes d w) (layers_met bytes meeting w.cpu.ram)
+      (shown_by w.cpu.ram) (edges_low (changed_now bytes d w) (column_read d w)) refl sound in
       record {
         goes_on = record {
           started = h.started;
           time = h.time;
           keyboard = h.keyboard;
           layers = h.layers;
+          read = h.read;
           repeating = h.repeating;
           latch = h.latch;
         };

@@ -18,6 +18,7 @@ use Rattle.link_model.specs.Expected.{Whole, meeting_from, whole_tick}
 use Rattle.link_model.specs.Machine.{KeyboardMachine}
 use Rattle.link_model.specs.TickEdges.{change_at, shown, shown_at, downs_in}
 use Rattle.agreement.specs.Agreement.{IsPrompt}
+use Rattle.agreement.specs.AnyKeys.{tick_with}
 use Rattle.agreement.specs.AnyStart.{ShowsFew, model_from}
 use Rattle.agreement.proofs.InTime.{InTime, on_time}
 use Rattle.agreement.proofs.Model.{by_columns, columns_in}
@@ -34,7 +35,7 @@ as_prompt n w t =
 module _ (S : Type 0) (bytes : List ℕ) (edges : List Edge) (events : List HostEvent) (kb : KeyboardMachine S)
     (R : World Beside → Whole S → Type 0)
     (goes_on : (w : World Beside) (m : Whole S) → 4096 ≤ w.cycle → R w m → Tick (joint_board edges events) TICK bytes w
-    (λ e. R e (by_columns kb edges events w.cycle e.cycle m) × Lasted (joint_board edges events) w e))
+    (λ e. R e (by_columns kb edges events w.cycle e.cycle m) × Lasted (joint_board edges events) bytes w e))
     (from begin : World Beside) (model : Whole S) (comes : Comes (joint_board edges events) TICK bytes from (λ e. e ≡ begin))
     (begins_past : 4096 ≤ begin.cycle) (begins_tied : R begin model) where
   abbrev d : Board
@@ -49,7 +50,7 @@ module _ (S : Type 0) (bytes : List ℕ) (edges : List Edge) (events : List Host
 
   -- the run reaches the next start
   onward : (s : Station) → Tick d TICK bytes s.w
-      (λ e. R e (by_columns kb edges events s.w.cycle e.cycle s.m) × Lasted d s.w e)
+      (λ e. R e (by_columns kb edges events s.w.cycle e.cycle s.m) × Lasted d bytes s.w e)
   onward s = goes_on s.w s.m s.past s.ties
 
   first : Station
@@ -116,7 +117,7 @@ module _ (S : Type 0) (bytes : List ℕ) (edges : List Edge) (events : List Host
       record { at = t.at; first = t.first; step = t.step; rest = rest }
 
   -- by a tick that lasts as it should
-  pub lasted : (k : ℕ) → Lasted d (station k).w (station (suc k)).w
+  pub lasted : (k : ℕ) → Lasted d bytes (station k).w (station (suc k)).w
   unfolding station next
   lasted k = (onward (station k)).rest.goal.1
 
@@ -159,28 +160,28 @@ module _ (S : Type 0) (bytes : List ℕ) (edges : List Edge) (events : List Host
       → (k stamp : ℕ) (s : IsStart d TICK bytes from k stamp) → P s.state (model_from kb edges events starts model k)
   at_starts P law = at_each (λ k w m. P w m) (λ k. law (station k).w (station k).m (station k).ties)
 
-  -- the keys that change in a tick
-  abbrev changes : ℕ → List (ℕ × Bool)
-  changes k = shown (kb.held (station k).m.keys) (columns_in edges (station k).w.cycle)
+  -- the keys that a tick's columns show otherwise than the last reading did
+  abbrev seen : ℕ → List (ℕ × Bool)
+  seen k = shown (kb.held (station k).m.keys) (columns_in edges (station k).w.cycle)
 
-  module _ (edges_are : (w : World Beside) (m : Whole S) → 4096 ≤ w.cycle → R w m
-      → edges_now d w ≡ shown (kb.held m.keys) (columns_in edges w.cycle)) where
-    counted : (k : ℕ) → edges_now d (station k).w ≡ changes k
+  -- by the edges that a tick takes of them
+  module _ (takes : S → List (ℕ × Bool) → List (ℕ × Bool))
+      (edges_are : (w : World Beside) (m : Whole S) → 4096 ≤ w.cycle → R w m
+      → edges_now bytes d w ≡ takes m.keys (shown (kb.held m.keys) (columns_in edges w.cycle))) where
+    counted : (k : ℕ) → edges_now bytes d (station k).w ≡ takes (station k).m.keys (seen k)
     counted k = edges_are (station k).w (station k).m (station k).past (station k).ties
 
-    few_now : (k : ℕ) → length (changes k) ≤ 4 → length (edges_now d (station k).w) ≤ 4
-    few_now k few = subst (λ v. length v ≤ 4) (sym (counted k)) few
-
     -- they are those of the model
-    changes_are : (k : ℕ)
-        → changes k ≡ shown (kb.held (model_from kb edges events starts model k).keys) (downs_in starts edges k)
-    changes_are k = ap (λ (m : Whole S). shown (kb.held m.keys) (downs_in starts edges k)) (model_is k)
-
     abbrev changed : ℕ → List (ℕ × Bool)
-    changed k = shown (kb.held (model_from kb edges events starts model k).keys) (downs_in starts edges k)
+    changed k =
+        takes (model_from kb edges events starts model k).keys
+        (shown (kb.held (model_from kb edges events starts model k).keys) (downs_in starts edges k))
 
-    few_of : (k : ℕ) → length (changed k) ≤ 4 → length (edges_now d (station k).w) ≤ 4
-    few_of k few = few_now k (subst (λ v. length v ≤ 4) (sym (changes_are k)) few)
+    changes_are : (k : ℕ) → takes (station k).m.keys (seen k) ≡ changed k
+    changes_are k = ap (λ (m : Whole S). takes m.keys (shown (kb.held m.keys) (downs_in starts edges k))) (model_is k)
+
+    few_of : (k : ℕ) → length (changed k) ≤ 4 → length (edges_now bytes d (station k).w) ≤ 4
+    few_of k few = subst (λ v. length v ≤ 4) (sym (counted k ∙ changes_are k)) few
 
     -- how long a tick lasts
     pub apart : (k : ℕ) → starts k + 2016 ≤ starts (suc k)
@@ -189,14 +190,13 @@ module _ (S : Type 0) (bytes : List ℕ) (edges : List Edge) (events : List Host
         let past : 4096 ≤ (station k).w.cycle = (station k).past in
         omega (arith, long, past)
 
-    pub soon : (k : ℕ) → starts (suc k) ≤ starts k + (2054 + 62 * length (changed k))
+    pub soon : (k : ℕ) → starts (suc k) ≤ starts k + tick_with bytes (length (changed k))
     soon k =
-        let by : (station (suc k)).w.cycle ≤ (station k).w.cycle + (2054 + 62 * length (edges_now d (station k).w)) =
+        let by : (station (suc k)).w.cycle ≤ (station k).w.cycle + tick_with bytes (length (changed k)) =
+        subst (λ v. (station (suc k)).w.cycle ≤ (station k).w.cycle + tick_with bytes (length v)) (counted k ∙ changes_are k)
         (lasted k).by_keys in
-        let same : length (edges_now d (station k).w) ≡ length (changed k) =
-        ap (λ v. length v) (counted k ∙ changes_are k) in
         let past : 4096 ≤ (station k).w.cycle = (station k).past in
-        omega (arith, by, same, past)
+        omega (arith, by, past)
 
     -- once few keys change, the next start is in time, and so are those after it, by a cadence of their own
     module _ (k : ℕ) (calm : (j : ℕ) → length (changed (k + j)) ≤ 4) where
@@ -211,8 +211,8 @@ module _ (S : Type 0) (bytes : List ℕ) (edges : List Edge) (events : List Host
       kept (suc j) =
           let ih : (station (suc (k + j))).w.cycle + late 0 ≡ (station (suc (k + 0))).w.cycle + 2048 * j + late j = kept j in
           let z : suc (k + j) ≡ k + suc j = omega arith in
-          let few : length (edges_now d (station (suc (k + j))).w) ≤ 4 =
-          subst (λ i. length (edges_now d (station i).w) ≤ 4) (sym z) (few_of (k + suc j) (calm (suc j))) in
+          let few : length (edges_now bytes d (station (suc (k + j))).w) ≤ 4 =
+          subst (λ i. length (edges_now bytes d (station i).w) ≤ 4) (sym z) (few_of (k + suc j) (calm (suc j))) in
           let p = (lasted (suc (k + j))).prompt (started j) few in
           let pass : (station (suc (suc (k + j)))).w.cycle + late j
           ≡ (station (suc (k + j))).w.cycle + 2048 + (station (suc (suc (k + j)))).w.cpu.pre = p.1 in
@@ -239,13 +239,19 @@ module _ (S : Type 0) (bytes : List ℕ) (edges : List Edge) (events : List Host
     module _ (Fit : S → Type 0) (fits : (w : World Beside) (m : Whole S) → R w m → Fit m.keys)
         (so : (meeting : Meeting) (k : S) (now : ℕ → Bool) (p : ℕ) → Fit k → p < 96
         → kb.held (kb.ticked meeting (shown (kb.held k) now) k) p ≡ now p)
-        (n : ℕ) (begins_on : IsOnTime n begin) (begins_started : IsStarted begin.cpu)
+        (HasFew : S → Type 0)
+        (few_taken : (k : S) (now : ℕ → Bool) → HasFew k → length (shown (kb.held k) now) ≤ 4
+        → length (takes k (shown (kb.held k) now)) ≤ 4)
+        (few_left : (meeting : Meeting) (k : S) (now : ℕ → Bool) → Fit k → length (shown (kb.held k) now) ≤ 4
+        → HasFew (kb.ticked meeting (shown (kb.held k) now) k))
+        (n : ℕ) (begins_on : IsOnTime n begin) (begins_started : IsStarted begin.cpu) (begins_calm : HasFew model.keys)
         (begins_few : length (shown (kb.held model.keys) (columns_in edges begin.cycle)) ≤ 4)
         (later : (k : ℕ) → ShowsFew edges (suc (n + k))) where
       record Timed (k : ℕ) : Type 0 where
         time : IsOnTime (n + k) (station k).w
         started : IsStarted (station k).w.cpu
-        few : length (changes k) ≤ 4
+        few : length (seen k) ≤ 4
+        calm : HasFew (station k).m.keys
 
       punctual : (k : ℕ) → Timed k → InTime (n + k) (station k).w
       punctual k t = on_time (n + k) (station k).w t.time t.started.entered.early t.started.entered.late
@@ -254,7 +260,7 @@ module _ (S : Type 0) (bytes : List ℕ) (edges : List Edge) (events : List Host
       unfolding station first
       timed_first =
           let t : begin.cycle + 2 ≡ 4096 + 2048 * n + begin.cpu.pre = begins_on in
-          record { time = omega (arith, t); started = begins_started; few = begins_few }
+          record { time = omega (arith, t); started = begins_started; few = begins_few; calm = begins_calm }
 
       -- a key that is held is one that the tick before showed as down
       held_is : (k p : ℕ) → p < 96 → kb.held (station (suc k)).m.keys p ≡ columns_in edges (station k).w.cycle p
@@ -267,7 +273,8 @@ module _ (S : Type 0) (bytes : List ℕ) (edges : List Edge) (events : List Host
       timed_next k t =
           let w : World Beside = (station k).w in
           let e : World Beside = (station (suc k)).w in
-          let p = (lasted k).prompt t.started (few_now k t.few) in
+          let p = (lasted k).prompt t.started (subst (λ v. length v ≤ 4) (sym (counted k))
+          (few_taken (station k).m.keys (columns_in edges w.cycle) t.calm t.few)) in
           let now : w.cycle + 2 ≡ 4096 + 2048 * (n + k) + w.cpu.pre = t.time in
           let pass : e.cycle + w.cpu.pre ≡ w.cycle + 2048 + e.cpu.pre = p.1 in
           let time : IsOnTime (n + suc k) e = omega (arith, now, pass) in
@@ -281,6 +288,10 @@ module _ (S : Type 0) (bytes : List ℕ) (edges : List Edge) (events : List Host
           record {
             time = time;
             started = p.0;
+            calm =
+                subst (λ (m : Whole S). HasFew m.keys) (sym (model_next k))
+                (few_left (meeting_from kb events w.cycle (station k).m) (station k).m.keys (columns_in edges w.cycle)
+                (fits w (station k).m (station k).ties) t.few);
             few =
                 subst (λ (v : List (ℕ × Bool)). length v ≤ 4) (sym same)
                 (later k (w.cycle - 4096) (e.cycle - 4096) (as_prompt (n + k) w (punctual k t))
@@ -295,7 +306,7 @@ module _ (S : Type 0) (bytes : List ℕ) (edges : List Edge) (events : List Host
       prompt k = as_prompt (n + k) (station k).w (punctual k (timed k))
 
       pub in_time : (P : ℕ → World Beside → Whole S → Type 0)
-          → ((k : ℕ) (w : World Beside) (m : Whole S) → IsOnTime (n + k) w → IsStarted w.cpu → R w m → P k w m)
+          → ((k : ℕ) (w : World Beside) (m : Whole S) → IsOnTime (n + k) w → IsStarted w.cpu → HasFew m.keys → R w m → P k w m)
           → (k stamp : ℕ) (s : IsStart d TICK bytes from k stamp) → P k s.state (model_from kb edges events starts model k)
       in_time P law =
-          at_each P (λ k. law k (station k).w (station k).m (timed k).time (timed k).started (station k).ties)
+          at_each P (λ k. law k (station k).w (station k).m (timed k).time (timed k).started (timed k).calm (station k).ties)

@@ -1,5 +1,5 @@
 -- From one tick start to the next, by the tick's meeting: what ties the joint run to the model goes on.
-use Rattle.std.proofs.Common.{◌≡◌, ◌≤◌, ℕ, ◌+◌, ◌-◌, ◌*◌, ◌==◌, not, All, List, Bool, false, length, slice_index, slice_index_or, refl, ap, sym, ◌∙◌, subst, arith}
+use Rattle.std.proofs.Common.{◌≡◌, ◌≤◌, ℕ, ◌+◌, ◌-◌, ◌==◌, not, All, List, Bool, false, length, slice_index, slice_index_or, refl, ap, sym, ◌∙◌, subst, arith}
 use Rattle.board_terms.specs.declared.event.Edge.{Edge}
 use Rattle.board_terms.specs.declared.event.HostEvent.{HostEvent}
 use Rattle.board_terms.specs.declared.lines.Lines.{Lines}
@@ -17,8 +17,9 @@ use Rattle.fw_keys.specs.Healing.{is_fn_held}
 use Rattle.fw_keys.proofs.Healing.{healed_same}
 use Rattle.fw_kernel.specs.Tables.{fn_place_at}
 use Rattle.agreement.proofs.FnFollows.{IsFnPlaceOf, fn_follows}
-use Rattle.agreement.proofs.Holding.{ticked_holds}
+use Rattle.agreement.proofs.Holding.{ticked_holds, same_turned}
 use Rattle.fw_logic.specs.Ticks.{column_read}
+use Rattle.fw_keys.specs.State.{held_by}
 use Rattle.fw_link.proofs.Over.{IsOver, under}
 use Rattle.fw_link.proofs.TickLatch.{lines_by}
 use Rattle.fw_link.proofs.Wired.{IsReleased}
@@ -32,14 +33,14 @@ use Rattle.joint_run.specs.Starts.{Tick}
 use Rattle.kbd_model.proofs.Alike.{layered_same, layers_same, ticked_same}
 use Rattle.kbd_model.specs.Codes.{Keys, keys_of}
 use Rattle.kbd_model.specs.Layers.{Layers, layered, all_layers_after}
-use Rattle.kbd_model.specs.Keyboard.{Keyboard, offer, is_held}
+use Rattle.kbd_model.specs.Keyboard.{Keyboard, offer}
 use Rattle.kbd_model.specs.Tick.{ticked, tested_if, met}
 use Rattle.kbd_model.specs.declared.meeting.Meeting.{Meeting as KeyboardMeeting}
 use Rattle.layout_reader.specs.Layouts.{KeyLayout, is_fn_place}
 use Rattle.link_model.proofs.Known.{layered_known}
+use Rattle.link_model.specs.Debounce.{turned_all}
 use Rattle.link_model.specs.Expected.{Whole, meeting_from}
 use Rattle.link_model.specs.Machine.{LayeredKeyboard, keyboard, met_as}
-use Rattle.link_model.specs.TickEdges.{shown}
 use Rattle.wires_agree.proofs.Pending.{flips_stay}
 use Rattle.wires_agree.specs.Flips.{IsFlip}
 use Rattle.wires_agree.specs.Ticks.{Ticked}
@@ -52,6 +53,7 @@ use Rattle.agreement.proofs.Model.{columns_in, by_columns}
 use Rattle.agreement.proofs.OnWires.{on_wires}
 use Rattle.agreement.proofs.Ran.{Lasted, Ran, lasted}
 use Rattle.agreement.proofs.Sides.{met_is, side_is}
+use Rattle.agreement.proofs.Taking.{sees, takes}
 use Rattle.agreement.proofs.Ties.{Ties}
 
 -- a tick of the image's keyboard is one of the layout's, and keeps what is to be kept
@@ -82,8 +84,9 @@ module _ (edges : List Edge) (events : List HostEvent) (d : Board) (to : d.State
     (same : SameKeys (image_keys bytes) (silent_keys layout)) (codes : NoPrefix (silent_keys layout))
     (fn_is : IsFnPlaceOf layout (slice_index bytes fn_place_at)) (w : World d.State) (m : Whole LayeredKeyboard)
     (tie : Ties bytes (silent_keys layout) (under to w) m)
-    (columns : edges_now d w ≡ shown (is_held m.keys.keyboard) (columns_in edges w.cycle))
-    (of_layout : All (IsOfLayout layout) (shown (is_held m.keys.keyboard) (columns_in edges w.cycle)))
+    (columns : edges_now bytes d w ≡ takes layout m (columns_in edges w.cycle))
+    (of_layout : All (IsOfLayout layout) (takes layout m (columns_in edges w.cycle)))
+    (reads : held_by (column_read d w) ≡ turned_all (sees m (columns_in edges w.cycle)) m.keys.switches.read)
     (released : IsReleased (latch_now d w))
     (lamps : m.keys.keyboard.lights ≡ lights_of (latch_now d w)) (noise : AreFlips events) where
   abbrev u : World Beside
@@ -120,7 +123,7 @@ module _ (edges : List Edge) (events : List HostEvent) (d : Board) (to : d.State
   ends : (meeting : KeyboardMeeting) (met : Meeting) (frame : Frame) → met_as met ≡ meeting → Wires (lines frame) met
       → (e : World d.State) → Ran d bytes meeting frame w e → Goal (under to e)
   ends meeting met frame kind wires e h =
-      let es : List (ℕ × Bool) = shown (is_held m.keys.keyboard) (columns_in edges w.cycle) in
+      let es : List (ℕ × Bool) = takes layout m (columns_in edges w.cycle) in
       let later : w.cycle + 2016 ≤ e.cycle = h.later in
       let rest : ℕ = e.cycle - w.cycle - 609 in
       let k : ℕ = 353 + rest in
@@ -129,7 +132,7 @@ module _ (edges : List Edge) (events : List HostEvent) (d : Board) (to : d.State
       let law = wires rest (rest - 15) k refl long in
       let is : meeting_from (keyboard layout) events w.cycle m ≡ met = meets met frame wires in
       let there = on_wires edges events d to over w tie.lit released frame bytes meeting e h in
-      let low : low_edges es = subst (λ v. low_edges v) columns (edges_low (changed_now d w) (column_read d w)) in
+      let low : low_edges es = subst (λ v. low_edges v) columns (edges_low (changed_now bytes d w) (column_read d w)) in
       let as_met : met_as (meeting_from (keyboard layout) events w.cycle m) ≡ meeting = ap met_as is ∙ kind in
       let l : Layers = m.keys.layers in
       let k0 : Keyboard = m.keys.keyboard in
@@ -143,14 +146,14 @@ module _ (edges : List Edge) (events : List HostEvent) (d : Board) (to : d.State
       healed_same bytes meeting (shown_by w.cpu.ram) (layers_by w.cpu.ram) follows in
       let keys : shown_by e.cpu.ram ≡ ticked b meeting (layered b.is_fn es l) k0 =
       h.keyboard
-      ∙ ap (λ v. ticked img meeting (layered img.is_fn (edges_now d w) v) (shown_by w.cpu.ram)) unhealed
-      ∙ ap (λ v. ticked img meeting (layered img.is_fn (edges_now d w) (layers_by w.cpu.ram)) v) tie.keyboard
-      ∙ ap (λ v. ticked img meeting (layered img.is_fn (edges_now d w) v) k0) tie.layers
+      ∙ ap (λ v. ticked img meeting (layered img.is_fn (edges_now bytes d w) v) (shown_by w.cpu.ram)) unhealed
+      ∙ ap (λ v. ticked img meeting (layered img.is_fn (edges_now bytes d w) (layers_by w.cpu.ram)) v) tie.keyboard
+      ∙ ap (λ v. ticked img meeting (layered img.is_fn (edges_now bytes d w) v) k0) tie.layers
       ∙ ap (λ v. ticked img meeting (layered img.is_fn v l) k0) columns
       ∙ layout_ticks img b same codes meeting es l k0 low tie.sound in
       let layers : layers_by e.cpu.ram ≡ all_layers_after b.is_fn es l =
       h.layers
-      ∙ ap (λ v. all_layers_after img.is_fn (edges_now d w) v) (unhealed ∙ tie.layers)
+      ∙ ap (λ v. all_layers_after img.is_fn (edges_now bytes d w) v) (unhealed ∙ tie.layers)
       ∙ ap (λ v. all_layers_after img.is_fn v l) columns
       ∙ layers_alike img b same es l low in
       let own_tick : ticked b meeting (layered b.is_fn es l) k0
@@ -164,6 +167,11 @@ module _ (edges : List Edge) (events : List HostEvent) (d : Board) (to : d.State
         started = h.started;
         keyboard = keys ∙ own_tick;
         layers = layers ∙ own_after;
+        read = h.read ∙ reads;
+        settled =
+            ticked_holds (keys_of layout) (met_as (meeting_from (keyboard layout) events w.cycle m)) (is_fn_place layout)
+            es l k0
+            ∙ same_turned es k0.held ∙ ap (λ h. turned_all es h) tie.settled;
         fn =
             fn_follows (is_fn_place layout) place fn_is es l k0.held whole low tie.fn
             ∙ ap (λ v. slice_index_or v place false)
@@ -197,7 +205,7 @@ module _ (edges : List Edge) (events : List HostEvent) (d : Board) (to : d.State
   Went frame e =
       Goal (under to e) × GoesBy d frame w e
       × IsFrameOf (offer m.keys.keyboard) (meeting_from (keyboard layout) events w.cycle m) frame × Passes d bytes w
-      × Asks (meeting_from (keyboard layout) events w.cycle m) × Lasted d w e
+      × Asks (meeting_from (keyboard layout) events w.cycle m) × Lasted d bytes w e
 
   by_frame : (meeting : KeyboardMeeting) (frame : Frame) (e : World d.State) → Ran d bytes meeting frame w e
       → GoesBy d frame w e

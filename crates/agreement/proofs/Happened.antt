@@ -5,7 +5,9 @@ use Rattle.board_terms.specs.declared.event.Edge.{Edge}
 use Rattle.board_terms.specs.declared.event.HostEvent.{HostEvent}
 use Rattle.board_terms.specs.declared.lines.Lines.{Lines}
 use Rattle.fw_keys.specs.Edges.{image_keys}
-use Rattle.fw_keys.specs.Frameless.{IsStarted, IsRepeating, shown_by, layers_by, layers_met, edges_now, latch_now}
+use Rattle.fw_keys.specs.Frameless.{IsStarted, IsRepeating, shown_by, layers_by, layers_met, read_by, edges_now, latch_now}
+use Rattle.fw_keys.specs.State.{held_by}
+use Rattle.fw_logic.specs.Ticks.{column_read}
 use Rattle.fw_link.specs.Latch.{Frame, tick_latch}
 use Rattle.fw_link.proofs.Latches.{driven}
 use Rattle.fw_logic.proofs.Passing.{Passes}
@@ -41,9 +43,10 @@ pub record Happened (d : Board) (bytes : List ℕ) (meeting : Meeting) (frame : 
   pub started : IsStarted v.cpu
   pub time : v.cycle + w.cpu.pre ≡ w.cycle + 2048 + v.cpu.pre
   pub keyboard : shown_by v.cpu.ram ≡ ticked (image_keys bytes) meeting
-      (layered (image_keys bytes).is_fn (edges_now d w) (layers_met bytes meeting w.cpu.ram)) (shown_by w.cpu.ram)
+      (layered (image_keys bytes).is_fn (edges_now bytes d w) (layers_met bytes meeting w.cpu.ram)) (shown_by w.cpu.ram)
   pub layers : layers_by v.cpu.ram
-      ≡ all_layers_after (image_keys bytes).is_fn (edges_now d w) (layers_met bytes meeting w.cpu.ram)
+      ≡ all_layers_after (image_keys bytes).is_fn (edges_now bytes d w) (layers_met bytes meeting w.cpu.ram)
+  pub read : read_by bytes v.cpu.ram ≡ held_by (column_read d w)
   pub repeating : IsRepeating bytes v.cpu.ram
   pub latch : v.cpu.p2 ≡ latch_now d w
   pub passes : Passes d bytes w

@@ -1,36 +1,33 @@
 -- A tick's edges become the keys that are held, where each of the 96 places has its Boolean.
-use Rattle.std.proofs.Common.{◌≡◌, ◌≢◌, ◌<◌, ℕ, suc, zero, ◌%◌, ◌==◌, nat_le, nat_lt, not, Bool, true, false}
-use Rattle.std.proofs.Common.{if◌then◌else◌, List, [], ◌∷◌, length, replicate, slice_index_or, slice_set, Some, None}
-use Rattle.std.proofs.Common.{refl, ap, sym, ◌∙◌, arith}
+use Rattle.std.proofs.Common.{◌≡◌, ◌<◌, ℕ, suc, zero, ◌%◌, ◌==◌, nat_le, nat_lt, not, Bool, true, false}
+use Rattle.std.proofs.Common.{if◌then◌else◌, List, [], ◌∷◌, replicate, slice_index_or, Some, None}
+use Rattle.std.proofs.Common.{refl, ap, ◌∙◌}
 use Rattle.std.specs.declared.option.Option.{Option}
-use Rattle.std.proofs.lemmas.Bool.{eqb-true}
-use Rattle.std.proofs.lemmas.Bool.Decides.{nat_tests}
-use Rattle.std.proofs.lemmas.List.{get_or-set_same, get_or-set_other, length-set}
 use Rattle.board_terms.specs.Matrix.{turned}
 use Rattle.fw_keys.proofs.Fold.{turned_all}
-use Rattle.fw_keys.specs.Frameless.{shown_by}
 use Rattle.kbd_model.specs.declared.meeting.Meeting.{Meeting as KeyboardMeeting}
 use Rattle.kbd_model.specs.declared.meeting.Meeting.TheVariants.{Idle, Inhibited, Sent, Cut, Got}
 use Rattle.kbd_model.specs.declared.state.Mode.{Mode}
 use Rattle.kbd_model.specs.declared.state.Mode.TheVariants.{Ready, WantRate, WantLights}
 use Rattle.kbd_model.specs.declared.state.Reply.{Reply}
 use Rattle.kbd_model.specs.declared.state.Repeat.{Repeat}
-use Rattle.kbd_model.specs.Codes.{Keys, keys_of}
+use Rattle.kbd_model.specs.Codes.{Keys}
 use Rattle.kbd_model.specs.Commands.{obeyed_in, parameter, commanded, acknowledges, replies}
-use Rattle.kbd_model.specs.Keyboard.{Keyboard, is_held, offer}
+use Rattle.kbd_model.specs.Keyboard.{Keyboard, offer}
 use Rattle.kbd_model.specs.Queue.{clear}
 use Rattle.kbd_model.specs.Tick.{met, sent_byte, without_offered, reset, tested_if, repeated, repeated_if}
 use Rattle.kbd_model.specs.Layers.{Layers, layer_of, layers_after, layered}
 use Rattle.kbd_model.specs.Tick.{edge_if, edges_if, is_scanning, is_inhibited, ticked}
 use Rattle.byte_time.specs.declared.meeting.Meeting.{Meeting}
-use Rattle.layout_reader.specs.Layouts.{KeyLayout, is_fn_place}
-use Rattle.link_model.proofs.Seen.{last_change, held_is_now}
-use Rattle.link_model.specs.Machine.{LayeredKeyboard, keyboard, met_as}
+use Rattle.layout_reader.specs.Layouts.{KeyLayout}
+use Rattle.link_model.proofs.Taken.{AreWide, turned_shown}
+use Rattle.link_model.specs.Debounce.{turned_all as switches_turned}
+use Rattle.link_model.specs.Machine.{LayeredKeyboard, keyboard}
 use Rattle.link_model.specs.TickEdges.{shown}
 
 -- each place has its Boolean
-abbrev pub HasPlaces : Keyboard → Type 0
-HasPlaces k = length k.held ≡ 96
+abbrev pub HasPlaces : LayeredKeyboard → Type 0
+HasPlaces k = AreWide k.switches
 
 -- a choice of two keyboards that hold the same keys
 chosen : (b : Bool) (x y : Keyboard) (held : List Bool) → x.held ≡ held → y.held ≡ held
@@ -141,33 +138,15 @@ ticked_holds keys meeting is_fn edges l k =
     (repeats_hold keys (is_scanning j) (is_inhibited meeting) j ∙ tested_holds (not (k.test == 0)) (met meeting keys k)
     ∙ met_holds keys meeting k)
 
--- an edge turns the key at its own place
-turned_at : (held : List Bool) (at p : ℕ) (down : Bool) → p < length held → (b : Bool) → (at == p) ≡ b
-    → slice_index_or (turned at down held) p false ≡ (if at == p then down else slice_index_or held p false)
-turned_at held at p down l true h =
-    let same : at ≡ p = eqb-true at p h in
-    ap (λ k. slice_index_or (slice_set held k down) p false) same ∙ get_or-set_same held p down false l
-    ∙ ap (λ b. if b then down else slice_index_or held p false) (sym h)
-turned_at held at p down l false h =
-    let apart : p ≢ at = grind (arith, nat_tests, h) in
-    get_or-set_other held at p down false apart ∙ ap (λ b. if b then down else slice_index_or held p false) (sym h)
+-- the same edges turn the same keys
+pub same_turned : (edges : List (ℕ × Bool)) (held : List Bool) → turned_all edges held ≡ switches_turned edges held
+same_turned [] held = refl
+same_turned (e ∷ es) held = same_turned es (turned e.0 e.1 held)
 
--- the last edge of a place says whether its key is held
-pub turned_is : (edges : List (ℕ × Bool)) (held : List Bool) (p : ℕ) → length held ≡ 96 → p < 96
-    → slice_index_or (turned_all edges held) p false ≡ last_change edges p (slice_index_or held p false)
-turned_is [] held p long l = refl
-turned_is (e ∷ es) held p long l =
-    turned_is es (turned e.0 e.1 held) p (length-set held e.0 e.1 ∙ long) l
-    ∙ ap (λ b. last_change es p b) (turned_at held e.0 p e.1 (omega (arith, long, l)) (e.0 == p) refl)
-
--- what the columns show is held after the tick
-pub holds_now : (layout : KeyLayout) (meeting : Meeting) (k : LayeredKeyboard) (now : ℕ → Bool) (p : ℕ) → HasPlaces k.keyboard → p < 96
+-- what the columns show is what was read after the tick
+pub holds_now : (layout : KeyLayout) (meeting : Meeting) (k : LayeredKeyboard) (now : ℕ → Bool) (p : ℕ) → HasPlaces k → p < 96
     → (keyboard layout).held ((keyboard layout).ticked meeting (shown ((keyboard layout).held k) now) k) p ≡ now p
-holds_now layout meeting k now p has l =
-    let edges : List (ℕ × Bool) = shown (is_held k.keyboard) now in
-    ap (λ h. slice_index_or h p false)
-    (ticked_holds (keys_of layout) (met_as meeting) (is_fn_place layout) edges k.layers k.keyboard)
-    ∙ turned_is edges k.keyboard.held p has l ∙ held_is_now (is_held k.keyboard) now p l
+holds_now layout meeting k now p has l = turned_shown k.switches.read now p has.read l
 
 -- a list of keys that are up
 none_down : (n p : ℕ) → slice_index_or (replicate n false) p false ≡ false
@@ -178,7 +157,3 @@ none_down (suc n) (suc p) = none_down n p
 -- no key is held at power-on
 pub none_held : (layout : KeyLayout) (p : ℕ) → (keyboard layout).held (keyboard layout).start p ≡ false
 none_held layout p = none_down 96 p
-
--- each place has its Boolean in the keyboard that memory shows
-pub places_shown : (ram : List ℕ) → HasPlaces (shown_by ram)
-places_shown ram = refl

@@ -20,6 +20,7 @@ pub mod Sides
 pub mod Offering
 pub mod Compiled
 pub mod Placed
+pub mod Taking
 pub mod Going
 pub mod Frames
 pub mod CutLooks

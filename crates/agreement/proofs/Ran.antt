@@ -2,7 +2,9 @@
 use Rattle.std.specs.Prelude.{◌≡◌, ◌≤◌, ℕ, ◌+◌, List, length}
 use Rattle.fw_keys.proofs.Begun.{IsAnyStart}
 use Rattle.fw_keys.specs.Edges.{image_keys}
-use Rattle.fw_keys.specs.Frameless.{IsStarted, IsRepeating, shown_by, layers_by, layers_met, edges_now, latch_now}
+use Rattle.fw_keys.specs.Frameless.{IsStarted, IsRepeating, shown_by, layers_by, layers_met, read_by, edges_now, latch_now}
+use Rattle.fw_keys.specs.State.{held_by}
+use Rattle.fw_logic.specs.Ticks.{column_read}
 use Rattle.fw_link.proofs.Latches.{driven}
 use Rattle.fw_link.specs.Latch.{Frame, tick_latch}
 use Rattle.fw_logic.proofs.Passing.{Passes}
@@ -17,14 +19,15 @@ use Rattle.agreement.specs.AnyKeys.{longest_tick, shortest_tick, tick_with}
 pub record Ran (d : Board) (bytes : List ℕ) (meeting : Meeting) (frame : Frame) (w v : World d.State) : Type 0 where
   pub started : IsAnyStart v.cpu
   pub later : w.cycle + shortest_tick ≤ v.cycle
-  pub soon : v.cycle ≤ w.cycle + longest_tick
-  pub by_keys : v.cycle ≤ w.cycle + tick_with (length (edges_now d w))
-  pub prompt : IsStarted w.cpu → length (edges_now d w) ≤ 4
+  pub soon : v.cycle ≤ w.cycle + longest_tick bytes
+  pub by_keys : v.cycle ≤ w.cycle + tick_with bytes (length (edges_now bytes d w))
+  pub prompt : IsStarted w.cpu → length (edges_now bytes d w) ≤ 4
       → IsStarted v.cpu × (v.cycle + w.cpu.pre ≡ w.cycle + 2048 + v.cpu.pre)
-  pub settles : length (edges_now d w) ≤ 4 → IsStarted v.cpu
+  pub settles : length (edges_now bytes d w) ≤ 4 → IsStarted v.cpu
   pub keyboard : shown_by v.cpu.ram ≡ ticked (image_keys bytes) meeting
-      (layered (image_keys bytes).is_fn (edges_now d w) (layers_met bytes meeting w.cpu.ram)) (shown_by w.cpu.ram)
-  pub layers : layers_by v.cpu.ram ≡ all_layers_after (image_keys bytes).is_fn (edges_now d w) (layers_met bytes meeting w.cpu.ram)
+      (layered (image_keys bytes).is_fn (edges_now bytes d w) (layers_met bytes meeting w.cpu.ram)) (shown_by w.cpu.ram)
+  pub layers : layers_by v.cpu.ram ≡ all_layers_after (image_keys bytes).is_fn (edges_now bytes d w) (layers_met bytes meeting w.cpu.ram)
+  pub read : read_by bytes v.cpu.ram ≡ held_by (column_read d w)
   pub repeating : IsRepeating bytes v.cpu.ram
   pub latch : v.cpu.p2 ≡ latch_now d w
   pub passes : Passes d bytes w
@@ -32,21 +35,21 @@ pub record Ran (d : Board) (bytes : List ℕ) (meeting : Meeting) (frame : Frame
       → v.board ≡ driven d w.cycle (tick_latch w.cpu.p2 (latch_now d w) frame) n 0 w.board
 
 -- how long the tick was
-pub record Lasted (d : Board) (w v : World d.State) : Type 0 where
+pub record Lasted (d : Board) (bytes : List ℕ) (w v : World d.State) : Type 0 where
   pub later : w.cycle + shortest_tick ≤ v.cycle
-  pub by_keys : v.cycle ≤ w.cycle + tick_with (length (edges_now d w))
-  pub prompt : IsStarted w.cpu → length (edges_now d w) ≤ 4
+  pub by_keys : v.cycle ≤ w.cycle + tick_with bytes (length (edges_now bytes d w))
+  pub prompt : IsStarted w.cpu → length (edges_now bytes d w) ≤ 4
       → IsStarted v.cpu × (v.cycle + w.cpu.pre ≡ w.cycle + 2048 + v.cpu.pre)
-  pub settles : length (edges_now d w) ≤ 4 → IsStarted v.cpu
+  pub settles : length (edges_now bytes d w) ≤ 4 → IsStarted v.cpu
 
 pub lasted : (d : Board) (bytes : List ℕ) (meeting : Meeting) (frame : Frame) (w v : World d.State)
-    → Ran d bytes meeting frame w v → Lasted d w v
+    → Ran d bytes meeting frame w v → Lasted d bytes w v
 lasted d bytes meeting frame w v r =
     record { later = r.later; by_keys = r.by_keys; prompt = r.prompt; settles = r.settles }
 
 -- one that starts in time, with four edges at most, is in time
 pub in_time : (d : Board) (bytes : List ℕ) (meeting : Meeting) (frame : Frame) (w v : World d.State) → IsStarted w.cpu
-    → length (edges_now d w) ≤ 4 → Ran d bytes meeting frame w v → Happened d bytes meeting frame w v
+    → length (edges_now bytes d w) ≤ 4 → Ran d bytes meeting frame w v → Happened d bytes meeting frame w v
 in_time d bytes meeting frame w v started few r =
     let p = r.prompt started few in
     record {
@@ -54,6 +57,7 @@ in_time d bytes meeting frame w v started few r =
       time = p.1;
       keyboard = r.keyboard;
       layers = r.layers;
+      read = r.read;
       repeating = r.repeating;
       latch = r.latch;
       passes = r.passes;

@@ -69,12 +69,12 @@ module _ (layout : KeyLayout) (history : KeyHistory) (fine : IsKeyLayout layout)
 pub every_memory : AnyMemoryLaw
 every_memory layout history fine ok m small = (
   keeps_time LayeredKeyboard (switched_on history.edges history.host m) (image_of layout) history ok.lawful (keyboard layout)
-      (TiedInTime layout history fine (bare layout history ok)) (λ k. HasPlaces k.keyboard) (fits_in_time layout history fine (bare layout history ok)) (λ p l. none_held layout p)
+      (TiedInTime layout history fine (bare layout history ok)) (λ k. HasPlaces k) (fits_in_time layout history fine (bare layout history ok)) (λ p l. none_held layout p)
       (holds_now layout) (tied_first layout history fine (bare layout history ok) m small) (next_in_time layout history fine (bare layout history ok))
       (λ w m t. ap (λ (s : _). s.log) t.tied.ties.side) (λ w m t. (t.started.entered.serves, t.started.entered.bank))
       (λ w m t. (t.started.entered.early, t.started.entered.late)),
   agrees LayeredKeyboard (switched_on history.edges history.host m) (image_of layout) history ok.lawful (keyboard layout)
-      (TiedInTime layout history fine (bare layout history ok)) (λ k. HasPlaces k.keyboard) (fits_in_time layout history fine (bare layout history ok)) (λ p l. none_held layout p)
+      (TiedInTime layout history fine (bare layout history ok)) (λ k. HasPlaces k) (fits_in_time layout history fine (bare layout history ok)) (λ p l. none_held layout p)
       (holds_now layout) (tied_first layout history fine (bare layout history ok) m small) (next_in_time layout history fine (bare layout history ok))
       (λ w m t. ap (λ (s : _). s.log) t.tied.ties.side) (λ w m t. (t.started.entered.serves, t.started.entered.bank))
       (λ w m t. (t.started.entered.early, t.started.entered.late)),
@@ -103,7 +103,7 @@ every_run layout history fine ok = every_memory layout history fine ok reset_cpu
 pub every_start : PromptLaw
 every_start layout history fine ok m small =
     prompt LayeredKeyboard (switched_on history.edges history.host m) (image_of layout) history ok.lawful (keyboard layout)
-    (TiedInTime layout history fine (bare layout history ok)) (λ k. HasPlaces k.keyboard) (fits_in_time layout history fine (bare layout history ok)) (λ p l. none_held layout p)
+    (TiedInTime layout history fine (bare layout history ok)) (λ k. HasPlaces k) (fits_in_time layout history fine (bare layout history ok)) (λ p l. none_held layout p)
     (holds_now layout) (tied_first layout history fine (bare layout history ok) m small) (next_in_time layout history fine (bare layout history ok))
     (λ w m t. ap (λ (s : _). s.log) t.tied.ties.side) (λ w m t. (t.started.entered.serves, t.started.entered.bank))
     (λ w m t. (t.started.entered.early, t.started.entered.late))
@@ -112,7 +112,7 @@ every_start layout history fine ok m small =
 pub every_wire : WiresLaw
 every_wire layout history fine ok m small =
     drives LayeredKeyboard (switched_on history.edges history.host m) (image_of layout) history ok.lawful (keyboard layout)
-    (TiedInTime layout history fine (bare layout history ok)) (λ k. HasPlaces k.keyboard) (fits_in_time layout history fine (bare layout history ok)) (λ p l. none_held layout p)
+    (TiedInTime layout history fine (bare layout history ok)) (λ k. HasPlaces k) (fits_in_time layout history fine (bare layout history ok)) (λ p l. none_held layout p)
     (holds_now layout) (tied_first layout history fine (bare layout history ok) m small) (next_in_time layout history fine (bare layout history ok))
     (λ w m t. ap (λ (s : _). s.log) t.tied.ties.side) (λ w m t. (t.started.entered.serves, t.started.entered.bank))
     (λ w m t. (t.started.entered.early, t.started.entered.late))
@@ -126,7 +126,7 @@ every_holding layout history fine ok m small =
     let a =
     at_starts LayeredKeyboard (switched_on history.edges history.host m) (image_of layout) history ok.lawful
     (keyboard layout)
-    (TiedInTime layout history fine (bare layout history ok)) (λ k. HasPlaces k.keyboard) (fits_in_time layout history fine (bare layout history ok)) (λ p l. none_held layout p)
+    (TiedInTime layout history fine (bare layout history ok)) (λ k. HasPlaces k) (fits_in_time layout history fine (bare layout history ok)) (λ p l. none_held layout p)
     (holds_now layout) (tied_first layout history fine (bare layout history ok) m small) (next_in_time layout history fine (bare layout history ok))
     (λ w m t. ap (λ (s : _). s.log) t.tied.ties.side)
     (λ w m t. (t.started.entered.serves, t.started.entered.bank))

@@ -6,7 +6,11 @@ use Rattle.std.proofs.lemmas.Bool.Decides.{nat_tests}
 use Rattle.fw_compile.specs.Image.{image_of}
 use Rattle.fw_kernel.specs.declared.cells.TheConstants.{LIGHTS}
 use Rattle.fw_kernel.specs.declared.labels.TheConstants.{TICK}
-use Rattle.fw_keys.specs.Frameless.{IsStarted, edges_now}
+use Rattle.fw_keys.proofs.Held.{held_same}
+use Rattle.fw_keys.proofs.Keyboard.{flags_long}
+use Rattle.fw_keys.specs.Frameless.{IsStarted, cells_in, edges_now}
+use Rattle.fw_keys.specs.State.{down_at, held_by, debounces, read_cell}
+use Rattle.fw_logic.specs.Ticks.{column_read}
 use Rattle.fw_link.proofs.Over.{IsOver, itself, under}
 use Rattle.fw_link.proofs.Watching.{watching, watched, driven_good, drives_tick}
 use Rattle.fw_link.proofs.Wired.{IsReleased}
@@ -21,21 +25,22 @@ use Rattle.board_terms.specs.declared.event.HostEvent.{HostEvent}
 use Rattle.joint_run.specs.Joint.{Beside, joint_board}
 use Rattle.joint_run.specs.Run.{Board, World}
 use Rattle.joint_run.specs.Starts.{at_tick, Comes, Tick}
-use Rattle.kbd_model.specs.Keyboard.{Keyboard, offer, is_held}
+use Rattle.kbd_model.specs.Keyboard.{Keyboard, offer}
 use Rattle.key_file.specs.Histories.{KeyHistory}
 use Rattle.layout_reader.specs.Layouts.{KeyLayout, IsKeyLayout, HasEntry}
+use Rattle.link_model.proofs.Taken.{AreWide, shown_known, switched_known, turned_long, turned_shown}
+use Rattle.link_model.specs.Debounce.{is_down_at, turned_all, AreKnown}
 use Rattle.link_model.specs.Expected.{Whole, meeting_from}
 use Rattle.link_model.specs.Machine.{LayeredKeyboard, keyboard}
-use Rattle.link_model.specs.TickEdges.{shown}
 use Rattle.mcs48_core.specs.Cpu.{Cpu}
 use Rattle.mcs48_ranges.specs.Sizes.{IsFine}
 use Rattle.agreement.specs.Agreement.{switched_on}
 use Rattle.agreement.specs.AnyStart.{AreFor}
 use Rattle.agreement.specs.Bytes.{IsInBytes}
 use Rattle.agreement.specs.Wires.{DrivesFrame}
-use Rattle.agreement.proofs.Above.{edges_over, low_over}
+use Rattle.agreement.proofs.Above.{down_over, edges_over, low_over}
 use Rattle.agreement.proofs.Beginning.{begins, is_tick}
-use Rattle.agreement.proofs.Columns.{bus_low, board_edges}
+use Rattle.agreement.proofs.Columns.{bus_low, board_edges, down_read}
 use Rattle.agreement.proofs.Compiled.{has_kernel, has_rate, is_alike, are_bytes, silent_keys, same_keys, no_prefix}
 use Rattle.agreement.proofs.Cutting.{cut_since, is_cut_by}
 use Rattle.agreement.proofs.Deciding.{every_tick}
@@ -43,14 +48,15 @@ use Rattle.agreement.proofs.FnFollows.{image_fn}
 use Rattle.agreement.proofs.Frames.{frame_in}
 use Rattle.agreement.proofs.Going.{Went}
 use Rattle.agreement.proofs.Happened.{lit_latch, at_look}
-use Rattle.agreement.proofs.Holding.{HasPlaces, none_held, holds_now, places_shown}
+use Rattle.agreement.proofs.Holding.{HasPlaces, none_held}
 use Rattle.agreement.proofs.InBytes.{look_in_bytes, tick_in_bytes, first_in_bytes, request_in_bytes}
 use Rattle.fw_logic.specs.Ticks.{IsOnTime}
 use Rattle.agreement.proofs.Model.{at_first, by_columns, columns_in}
 use Rattle.agreement.proofs.Offering.{offers_byte, lit_released, lit_shows}
 use Rattle.agreement.proofs.Ran.{Lasted}
 use Rattle.agreement.proofs.Sides.{model_looks}
-use Rattle.agreement.proofs.Placed.{IsOfLayout, down_placed, shown_placed}
+use Rattle.agreement.proofs.Placed.{IsOfLayout, down_placed}
+use Rattle.agreement.proofs.Taking.{sees, takes, is_debounced, flags_are, takes_few, takes_placed, HasFewWaiting, few_wait}
 use Rattle.agreement.proofs.Ties.{Ties}
 use Rattle.agreement.proofs.Together.{together, goes_with, asks_for}
 
@@ -70,18 +76,24 @@ module _ (layout : KeyLayout) (history : KeyHistory) (fine : IsKeyLayout layout)
   pub record Tied (w : World Beside) (m : Whole LayeredKeyboard) : Type 0 where
     pub ties : Ties bytes (silent_keys layout) w m
     pub in_bytes : IsInBytes m.side
-    pub placed : (p : ℕ) → p < 96 → is_held m.keys.keyboard p ≡ true → HasEntry layout p
+    pub placed : AreKnown layout m.keys.switches
     pub column : w.cpu.p1 ≡ (if nat_le w.cycle 4097 then 255 else 44)
 
-  -- and the start is in time
+  -- and the start is in time, with few keys that wait to settle
   pub record TiedInTime (w : World Beside) (m : Whole LayeredKeyboard) : Type 0 where
     pub tied : Tied w m
     pub started : IsStarted w.cpu
+    pub waits : HasFewWaiting layout m.keys
 
-  pub fits : (w : World Beside) (m : Whole LayeredKeyboard) → Tied w m → HasPlaces m.keys.keyboard
-  fits w m t = subst (λ k. HasPlaces k) t.ties.keyboard (places_shown w.cpu.ram)
+  pub fits : (w : World Beside) (m : Whole LayeredKeyboard) → Tied w m → HasPlaces m.keys
+  fits w m t = record {
+    read = ap length (sym t.ties.read) ∙ flags_long (down_at (read_cell (debounces bytes) (cells_in w.cpu.ram))) 96;
+    settled =
+        ap length (sym t.ties.settled) ∙ ap (λ (k : Keyboard). length k.held) (sym t.ties.keyboard)
+        ∙ flags_long (down_at (λ c. slice_index w.cpu.ram (32 + c))) 96;
+  }
 
-  pub fits_in_time : (w : World Beside) (m : Whole LayeredKeyboard) → TiedInTime w m → HasPlaces m.keys.keyboard
+  pub fits_in_time : (w : World Beside) (m : Whole LayeredKeyboard) → TiedInTime w m → HasPlaces m.keys
   fits_in_time w m t = fits w m t.tied
 
   pub tied_first : (m : Cpu) → IsFine m → Comes (joint_board edges events) TICK bytes (switched_on edges events m)
@@ -95,10 +107,14 @@ module _ (layout : KeyLayout) (history : KeyHistory) (fine : IsKeyLayout layout)
         h.0,
         record {
           started = h.1;
+          waits = λ on. omega arith;
           tied = record {
             ties = h.2;
             in_bytes = first_in_bytes events ok.written LayeredKeyboard (keyboard layout) e.cycle;
-            placed = λ p l held. absurd (let off : false ≡ true = sym (none_held layout p) ∙ held in cc);
+            placed = λ p l. (
+              λ down. absurd (let off : false ≡ true = sym (none_held layout p) ∙ down in cc),
+              λ down. absurd (let off : false ≡ true = sym (none_held layout p) ∙ down in cc),
+            );
             column =
                 let pre : e.cpu.pre ≤ 3 = h.1.entered.late in
                 let time : e.cycle + 2 ≡ 4096 + 2048 * 0 + e.cpu.pre = h.0 in
@@ -115,10 +131,29 @@ module _ (layout : KeyLayout) (history : KeyHistory) (fine : IsKeyLayout layout)
     abbrev tie : Ties bytes (silent_keys layout) w m
     tie = tied.ties
 
-    pub columns : edges_now (joint_board edges events) w ≡ shown (is_held m.keys.keyboard) (columns_in edges w.cycle)
+    abbrev wide : AreWide m.keys.switches
+    wide = fits w m tied
+
+    pub columns : edges_now bytes (joint_board edges events) w ≡ takes layout m (columns_in edges w.cycle)
     columns =
-        board_edges edges events w past
-        ∙ ap (λ k. shown (is_held k) (columns_in edges w.cycle)) tie.keyboard
+        board_edges edges events w past m.keys.switches (ap (λ (k : Keyboard). k.held) tie.keyboard ∙ tie.settled) bytes
+        layout.debounce (is_debounced layout) tie.read wide.read
+
+    -- what the columns show is what was read after the tick
+    read_there : (place : ℕ) → place < 96 → down_at (column_read (joint_board edges events) w) place
+        ≡ is_down_at (turned_all (sees m (columns_in edges w.cycle)) m.keys.switches.read) place
+    read_there place l =
+        let own : 8 * (place / 8) + place % 8 ≡ place = omega arith in
+        down_read edges events w past (place / 8) (place % 8) (omega (arith, l)) (omega arith)
+        ∙ ap (columns_in edges w.cycle) own
+        ∙ sym (turned_shown m.keys.switches.read (columns_in edges w.cycle) place wide.read l)
+
+    reads : held_by (column_read (joint_board edges events) w)
+        ≡ turned_all (sees m (columns_in edges w.cycle)) m.keys.switches.read
+    reads =
+        flags_are (down_at (column_read (joint_board edges events) w)) 96
+        (turned_all (sees m (columns_in edges w.cycle)) m.keys.switches.read)
+        (turned_long (sees m (columns_in edges w.cycle)) m.keys.switches.read ∙ wide.read) read_there
 
     lamps : m.keys.keyboard.lights ≡ Rattle.joint_run.specs.Joint.lights_of (lit_latch edges events w)
     lamps = ap (λ (k : Keyboard). k.lights) (sym tie.keyboard) ∙ lit_shows edges events w tie.started
@@ -127,9 +162,10 @@ module _ (layout : KeyLayout) (history : KeyHistory) (fine : IsKeyLayout layout)
     now_placed : (p : ℕ) → columns_in edges w.cycle p ≡ true → HasEntry layout p
     now_placed p is = down_placed layout p (w.cycle - 4096 + 16 + 16 * (p / 8)) edges ok.places is
 
-    of_layout : All (IsOfLayout layout) (shown (is_held m.keys.keyboard) (columns_in edges w.cycle))
+    of_layout : All (IsOfLayout layout) (takes layout m (columns_in edges w.cycle))
     of_layout =
-        shown_placed layout fine (is_held m.keys.keyboard) (columns_in edges w.cycle) tied.placed (λ p l is. now_placed p is)
+        takes_placed layout fine layout.debounce (columns_in edges w.cycle) m.keys.switches wide tied.placed
+        (λ p l. now_placed p)
 
     -- a byte that the controller asks to be taken is one of the host's
     asked : (byte : ℕ) → (at_look edges events w).side.port.link ≡ Request byte → byte < 256
@@ -160,11 +196,11 @@ module _ (layout : KeyLayout) (history : KeyHistory) (fine : IsKeyLayout layout)
 
     went : Tick joint TICK bytes w
         (Went edges events joint (λ b. b) (itself edges events) bytes layout (same_keys layout) (no_prefix layout fine) (image_fn layout) w m
-        tie columns of_layout released lamps ok.flips frame)
+        tie columns of_layout reads released lamps ok.flips frame)
     went =
         every_tick edges events joint (λ b. b) (itself edges events) bytes (has_kernel layout)
         (is_alike layout fine) (are_bytes layout fine) (bus_low edges events) layout (same_keys layout)
-        (no_prefix layout fine) (image_fn layout) w m tie columns of_layout
+        (no_prefix layout fine) (image_fn layout) w m tie columns of_layout reads
         released lamps ok.flips
         (λ byte is. offers_byte w.cpu tie.started.fine byte (ap offer tie.keyboard ∙ is)) asked
 
@@ -181,7 +217,7 @@ module _ (layout : KeyLayout) (history : KeyHistory) (fine : IsKeyLayout layout)
         went.rest.run (is_tick edges events next went.rest.goal.0.started)
 
     pub tied_next : Tick joint TICK bytes w
-        (λ e. Tied e (by_columns (keyboard layout) edges events w.cycle e.cycle m) × Lasted joint w e)
+        (λ e. Tied e (by_columns (keyboard layout) edges events w.cycle e.cycle m) × Lasted joint bytes w e)
     tied_next = record {
       at = went.at;
       first = went.first;
@@ -193,12 +229,11 @@ module _ (layout : KeyLayout) (history : KeyHistory) (fine : IsKeyLayout layout)
         there = record {
           ties = went.rest.goal.0;
           in_bytes = tick_in_bytes events ok.written LayeredKeyboard (keyboard layout)
-              (shown (is_held m.keys.keyboard) (columns_in edges w.cycle)) w.cycle (next.cycle - w.cycle - 609) m
+              (sees m (columns_in edges w.cycle)) w.cycle (next.cycle - w.cycle - 609) m
               tied.in_bytes;
-          placed = λ p l held.
-              now_placed p
-              (sym (holds_now layout (meeting_from (keyboard layout) events w.cycle m) m.keys (columns_in edges w.cycle) p
-              (fits w m tied) l) ∙ held);
+          placed = switched_known layout layout.debounce (sees m (columns_in edges w.cycle)) m.keys.switches
+              (shown_known (HasEntry layout) (is_down_at m.keys.switches.read) (columns_in edges w.cycle)
+              (λ p l. (tied.placed p l).0) (λ p l. now_placed p)) tied.placed;
           column =
               let long : w.cycle + 2016 ≤ next.cycle = went.rest.goal.5.later in
               let high : 4097 < next.cycle = omega (arith, past, long) in
@@ -215,8 +250,14 @@ module _ (layout : KeyLayout) (history : KeyHistory) (fine : IsKeyLayout layout)
     above : IsOver edges events W beneath
     above = record { pins = λ p1 p2 cycle s. refl; cycle = λ p2 cycle s. refl }
 
-    columns_above : edges_now W (watched w) ≡ shown (is_held m.keys.keyboard) (columns_in edges w.cycle)
-    columns_above = edges_over edges events W beneath above (watched w) ∙ columns
+    columns_above : edges_now bytes W (watched w) ≡ takes layout m (columns_in edges w.cycle)
+    columns_above = edges_over edges events W beneath above (watched w) bytes ∙ columns
+
+    reads_above : held_by (column_read W (watched w))
+        ≡ turned_all (sees m (columns_in edges w.cycle)) m.keys.switches.read
+    reads_above =
+        held_same (column_read W (watched w)) (column_read joint w) (λ c l. down_over edges events W beneath above (watched w) c)
+        ∙ reads
 
     pub tick_drives : DrivesFrame edges events bytes (offer m.keys.keyboard) (meeting_from (keyboard layout) events w.cycle m) w
     tick_drives =
@@ -224,7 +265,7 @@ module _ (layout : KeyLayout) (history : KeyHistory) (fine : IsKeyLayout layout)
         every_tick edges events W beneath above bytes (has_kernel layout) (is_alike layout fine)
         (are_bytes layout fine) (low_over edges events W beneath above) layout (same_keys layout)
         (no_prefix layout fine) (image_fn layout) (watched w) m
-        tie columns_above of_layout released lamps ok.flips
+        tie columns_above of_layout reads_above released lamps ok.flips
         (λ byte is. offers_byte w.cpu tie.started.fine byte (ap offer tie.keyboard ∙ is)) asked in
         record {
           frame = frame;
@@ -250,7 +291,7 @@ module _ (layout : KeyLayout) (history : KeyHistory) (fine : IsKeyLayout layout)
               (offer m.keys.keyboard));
           drives = drives_tick joint latch TICK bytes w
               (Went edges events W beneath above bytes layout (same_keys layout) (no_prefix layout fine) (image_fn layout) (watched w) m
-              tie columns_above of_layout released lamps ok.flips frame)
+              tie columns_above of_layout reads_above released lamps ok.flips frame)
               (λ e. (at_tick joint TICK e ≡ true) × (e.cpu.p2 ≡ lit))
               (λ e g. (
                 (is_tick edges events (under beneath e) g.0.started, g.1.latch),
@@ -264,12 +305,14 @@ module _ (layout : KeyLayout) (history : KeyHistory) (fine : IsKeyLayout layout)
 
   -- and a tick in time, with four edges at most, comes to one in time
   module _ (n : ℕ) (w : World Beside) (m : Whole LayeredKeyboard) (time : IsOnTime n w) (t : TiedInTime w m)
-      (four : length (shown (is_held m.keys.keyboard) (columns_in edges w.cycle)) ≤ 4) where
+      (four : length (sees m (columns_in edges w.cycle)) ≤ 4) where
     past : 4096 ≤ w.cycle
     past = let early : 2 ≤ w.cpu.pre = t.started.entered.early in omega (arith, time, early)
 
-    few : length (edges_now (joint_board edges events) w) ≤ 4
-    few = subst (λ v. length v ≤ 4) (sym (columns w m past t.tied)) four
+    few : length (edges_now bytes (joint_board edges events) w) ≤ 4
+    few =
+        subst (λ v. length v ≤ 4) (sym (columns w m past t.tied))
+        (takes_few layout.debounce (columns_in edges w.cycle) m.keys.switches four t.waits)
 
     pub next_in_time : Tick (joint_board edges events) TICK bytes w
         (λ e. IsOnTime (suc n) e × TiedInTime e (by_columns (keyboard layout) edges events w.cycle e.cycle m))
@@ -281,13 +324,19 @@ module _ (layout : KeyLayout) (history : KeyHistory) (fine : IsKeyLayout layout)
           step = next.step;
           rest = comes_as (joint_board edges events) TICK bytes
               (λ e. Tied e (by_columns (keyboard layout) edges events w.cycle e.cycle m)
-              × Lasted (joint_board edges events) w e)
+              × Lasted (joint_board edges events) bytes w e)
               (λ e. IsOnTime (suc n) e × TiedInTime e (by_columns (keyboard layout) edges events w.cycle e.cycle m)) next.first
               (λ e h.
               let p = h.1.prompt t.started few in
               let now : w.cycle + 2 ≡ 4096 + 2048 * n + w.cpu.pre = time in
-              let pass : e.cycle + w.cpu.pre ≡ w.cycle + 2048 + e.cpu.pre = p.1 in
-              (omega (arith, now, pass), record { tied = h.0; started = p.0 }))
+              let pass : e.cycle + w.cpu.pre ≡ w.cycle + 2048 + e.cpu.pre = p.1 in (
+                omega (arith, now, pass),
+                record {
+                  tied = h.0;
+                  started = p.0;
+                  waits = few_wait layout.debounce (columns_in edges w.cycle) m.keys.switches (fits w m t.tied) four;
+                },
+              ))
               next.rest;
         }
 

@@ -18,7 +18,7 @@ use Rattle.agreement.specs.Firmware.{Finds, HasWholeCodes}
 
 module _ (d : Board) (bytes : List ℕ) (hk : HasKernel bytes) (alike : IsSilentAlike bytes) (small : All IsByte bytes)
     (low : (p1 p2 c : ℕ) (s : d.State) → (d.pins p1 p2 c s).bus < 256) (w : World d.State)
-    (s : IsStarted w.cpu) (repeats : IsRepeating bytes w.cpu.ram) (few : length (edges_now d w) ≤ 4) where
+    (s : IsStarted w.cpu) (repeats : IsRepeating bytes w.cpu.ram) (few : length (edges_now bytes d w) ≤ 4) where
   timely : (meeting : Meeting) (frame : Frame) → Tick d TICK bytes w (Ran d bytes meeting frame w)
       → Tick d TICK bytes w (Happened d bytes meeting frame w)
   timely meeting frame t = record {

@@ -8,6 +8,7 @@ use Rattle.joint_run.specs.Joint.{Beside, joint_board, log_of}
 use Rattle.joint_run.specs.Run.{World, run_at}
 use Rattle.joint_run.specs.Starts.{IsStart}
 use Rattle.layout_reader.specs.Layouts.{KeyLayout, IsKeyLayout}
+use Rattle.link_model.specs.Debounce.{taken}
 use Rattle.link_model.specs.Expected.{Whole, whole_at}
 use Rattle.link_model.specs.Machine.{LayeredKeyboard, keyboard}
 use Rattle.link_model.specs.TickEdges.{downs_in, shown}
@@ -18,10 +19,13 @@ use Rattle.agreement.specs.AnyKeys.{shortest_tick, tick_with}
 use Rattle.agreement.specs.AnyStart.{AreFor, model_from}
 use Rattle.agreement.specs.Memory.{Holds}
 
--- the keys that a tick finds changed: those whose columns differ from those that the model holds
+-- the keys that a tick takes as changed: those whose columns differ from those that were read last, or with a debounce
+-- those that both readings show otherwise than before
 abbrev pub changes_in : KeyLayout → List Edge → List HostEvent → (ℕ → ℕ) → Whole LayeredKeyboard → ℕ → List (ℕ × Bool)
 changes_in layout edges events starts m k =
-    shown ((keyboard layout).held (model_from (keyboard layout) edges events starts m k).keys) (downs_in starts edges k)
+    taken layout.debounce
+    (shown ((keyboard layout).held (model_from (keyboard layout) edges events starts m k).keys) (downs_in starts edges k))
+    (model_from (keyboard layout) edges events starts m k).keys.switches
 
 -- from tick k on at most four keys change in each
 abbrev pub IsCalmFrom : KeyLayout → List Edge → List HostEvent → (ℕ → ℕ) → Whole LayeredKeyboard → ℕ → Type 0
@@ -34,14 +38,15 @@ KeepsStepFrom starts k = (origin : ℕ)
 
 -- the run from a state is never stuck. At each tick start data memory shows the model's keyboard, which goes on from what it
 -- is at the first by what the columns show; and what was said up to there is what the model says. A tick lasts at least 2,016
--- cycles, and at most 2,054 and 62 for each key that changed. Once at most four change, the starts keep step again
+-- cycles, and at most 2,054 and 62 for each key that changed, with a debounce 314 more. Once at most four change, the starts
+-- keep step again
 pub record GoesByColumns (layout : KeyLayout) (edges : List Edge) (events : List HostEvent) (from : World Beside)
     (at : ℕ → Whole LayeredKeyboard) : Type 0 where
   pub goes_on : (k : ℕ) → (w : World Beside) × (run_at (joint_board edges events) (image_of layout) from k ≡ Some w)
   pub starts : ℕ → ℕ
   pub each : (k : ℕ) → IsStart (joint_board edges events) TICK (image_of layout) from k (starts k)
   pub apart : (k : ℕ) → starts k + shortest_tick ≤ starts (suc k)
-  pub soon : (k : ℕ) → starts (suc k) ≤ starts k + tick_with (length (changes_in layout edges events starts (at (starts 0)) k))
+  pub soon : (k : ℕ) → starts (suc k) ≤ starts k + tick_with (image_of layout) (length (changes_in layout edges events starts (at (starts 0)) k))
   pub steady : (k : ℕ) → IsCalmFrom layout edges events starts (at (starts 0)) k → KeepsStepFrom starts k
   pub holds : (k stamp : ℕ) (s : IsStart (joint_board edges events) TICK (image_of layout) from k stamp)
       → Holds s.state (model_from (keyboard layout) edges events starts (at (starts 0)) k).keys

@@ -1,5 +1,5 @@
 -- The run from any tick start on, and the run under keys that bounce: the model goes by what the columns show.
-use Rattle.std.specs.Prelude.{◌≡◌, ◌≤◌, ◌<◌, ℕ, zero, suc, ◌+◌, ◌-◌, ◌*◌, ◌/◌, Bool, true, false, nat_le, nat_lt}
+use Rattle.std.specs.Prelude.{◌≡◌, ◌≤◌, ℕ, zero, suc, ◌+◌, ◌-◌, ◌*◌, ◌/◌, Bool, true, false, nat_le, nat_lt}
 use Rattle.std.specs.Prelude.{if◌then◌else◌, List, All, length, Some}
 use Rattle.std.specs.List.{filter}
 use Rattle.board_terms.specs.declared.event.Edge.{Edge}
@@ -10,7 +10,7 @@ use Rattle.board_terms.specs.Laws.{ArePlaces}
 use Rattle.ctl_link.specs.Link.{is_busy}
 use Rattle.fw_compile.specs.Image.{image_of}
 use Rattle.fw_kernel.specs.declared.labels.TheConstants.{TICK}
-use Rattle.fw_keys.specs.Frameless.{IsStarted, IsRepeating, shown_by, layers_by}
+use Rattle.fw_keys.specs.Frameless.{IsStarted, IsRepeating, shown_by, layers_by, read_by}
 use Rattle.fw_keys.specs.Healing.{is_fn_held}
 use Rattle.fw_logic.specs.Ticks.{IsOnTime}
 use Rattle.joint_run.specs.Joint.{Beside, joint_board, lights_of, log_of}
@@ -19,6 +19,7 @@ use Rattle.joint_run.specs.Starts.{IsStart}
 use Rattle.kbd_model.specs.Keyboard.{is_held}
 use Rattle.key_file.specs.Accepted.{AreWritten, IsPlaceOf, IsThin}
 use Rattle.layout_reader.specs.Layouts.{KeyLayout, IsKeyLayout}
+use Rattle.link_model.specs.Debounce.{Switches, is_down_at, AreKnown}
 use Rattle.link_model.specs.Expected.{Whole, whole_at, whole_tick}
 use Rattle.link_model.specs.Machine.{KeyboardMachine, LayeredKeyboard, keyboard}
 use Rattle.link_model.specs.TickEdges.{is_down, shown, downs_in}
@@ -52,24 +53,28 @@ ShowsFew edges (suc n) =
     (before now : ℕ) → IsPrompt n before → IsPrompt (suc n) now
     → length (shown (columns_at edges before) (columns_at edges now)) ≤ 4
 
--- the model from a start on, by the stamps of the starts: each tick gets the keys whose columns differ from those held
+-- the model from a start on, by the stamps of the starts: each tick gets the keys whose columns differ from those read
 abbrev pub model_from : {S : Type 0} → KeyboardMachine S → List Edge → List HostEvent → (ℕ → ℕ) → Whole S → ℕ → Whole S
 model_from kb edges events starts m zero = m
 model_from kb edges events starts m (suc k) =
     whole_tick kb events (shown (kb.held (model_from kb edges events starts m k).keys) (downs_in starts edges k))
     (4096 + starts k) (starts (suc k) - starts k - 609) (model_from kb edges events starts m k)
 
--- what a state of the run shows as the model's: the keyboard and layers in data memory, the PC's side in byte time, the
--- lights
-abbrev pub model_at : World Beside → Whole LayeredKeyboard
-model_at w = record {
-  keys = record { keyboard = shown_by w.cpu.ram; layers = layers_by w.cpu.ram };
+-- what a state of the run shows as the model's: the keyboard, layers and switches in data memory, the PC's side in byte
+-- time, the lights
+abbrev pub switches_by : KeyLayout → World Beside → Switches
+switches_by layout w = record { read = read_by (image_of layout) w.cpu.ram; settled = (shown_by w.cpu.ram).held }
+
+abbrev pub model_at : KeyLayout → World Beside → Whole LayeredKeyboard
+model_at layout w = record {
+  keys = record { keyboard = shown_by w.cpu.ram; layers = layers_by w.cpu.ram; switches = switches_by layout w };
   side = seen_in_bytes w.board.pc.side;
   shown = w.board.shown;
 }
 
 -- the state is a tick start at which data memory shows a keyboard of the layout, at its multiple of 2,048 or one cycle
--- past it: what repeats is pressed, the Fn key is down if it is held, the queue breaks no code, and the keys held are the layout's. No byte is on the way,
+-- past it: what repeats is pressed, the Fn key is down if it is held, the queue breaks no code, the keys that are held
+-- or were read down are the layout's, and with a debounce at most four wait to settle. No byte is on the way,
 -- what the PC has for the keyboard is a byte, the latch of port 2 pulls neither wire and shows the lights that were shown
 -- last, and port 1 selects no column
 pub record ShowsKeyboard (layout : KeyLayout) (n : ℕ) (w : World Beside) : Type 0 where
@@ -78,7 +83,9 @@ pub record ShowsKeyboard (layout : KeyLayout) (n : ℕ) (w : World Beside) : Typ
   pub repeating : IsRepeating (image_of layout) w.cpu.ram
   pub fn : (layers_by w.cpu.ram).fn_down ≡ is_fn_held (image_of layout) (shown_by w.cpu.ram)
   pub codes : HasWholeCodes w.cpu.ram
-  pub placed : (p : ℕ) → p < 96 → is_held (shown_by w.cpu.ram) p ≡ true → IsPlaceOf layout p
+  pub placed : AreKnown layout (switches_by layout w)
+  pub waits : layout.debounce ≡ true
+      → length (shown (is_held (shown_by w.cpu.ram)) (is_down_at (switches_by layout w).read)) ≤ 4
   pub idle : is_busy w.board.pc.side.port.link ≡ false
   pub flip : IsFlip w.board.pc.side.port.flip
   pub in_bytes : IsInBytes (seen_in_bytes w.board.pc.side)
@@ -101,15 +108,15 @@ pub record GoesOnAs (layout : KeyLayout) (edges : List Edge) (events : List Host
   pub log : (k stamp : ℕ) (s : IsStart (joint_board edges events) TICK (image_of layout) from k stamp)
       → log_of s.state.board ≡ (model_from (keyboard layout) edges events starts (at (starts 0)) k).side.log
 
--- so it is from any tick start at which data memory shows a keyboard, if at most four keys differ there from those held,
+-- so it is from any tick start at which data memory shows a keyboard, if at most four keys differ there from those read,
 -- and each later tick shows few
 abbrev pub FromAnyStart : Type 0
 FromAnyStart =
     (layout : KeyLayout) (edges : List Edge) (events : List HostEvent) (n : ℕ) (w : World Beside) → IsKeyLayout layout
     → AreFor layout edges events → ShowsKeyboard layout n w
-    → length (shown (is_held (shown_by w.cpu.ram)) (columns_at edges (w.cycle - 4096))) ≤ 4
+    → length (shown (is_down_at (switches_by layout w).read) (columns_at edges (w.cycle - 4096))) ≤ 4
     → ((k : ℕ) → ShowsFew edges (suc (n + k)))
-    → GoesOnAs layout edges events w n (λ stamp. model_at w)
+    → GoesOnAs layout edges events w n (λ stamp. model_at layout w)
 
 -- and of the run of a part that held anything when it was switched on, from the model at power-on, whether or not keys
 -- bounce, if each tick shows few

@@ -77,7 +77,7 @@ abbrev pub KeepsTicks : List ℕ → Type 0
 KeepsTicks bytes = (pins : ℕ → ℕ → ℕ → ℕ → Pins) (tick : ℕ → ℕ → ℕ → ℕ)
     → ((p1 p2 c s : ℕ) → (pins p1 p2 c s).bus < 256)
     → (w : World ℕ) → IsStarted w.cpu → IsRepeating bytes w.cpu.ram → HasWholeCodes w.cpu.ram
-    → length (edges_now (numbered pins tick) w) ≤ 4
+    → length (edges_now bytes (numbered pins tick) w) ≤ 4
     → (frame : Frame) (meeting : Meeting) → Finds (numbered pins tick) w frame meeting
     → Tick (numbered pins tick) TICK bytes w (Does (numbered pins tick) bytes frame meeting w)
     × Selects (numbered pins tick) TICK bytes w (λ c. column_latch w.cpu.p1 (c - w.cycle))

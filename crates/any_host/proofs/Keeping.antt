@@ -13,7 +13,7 @@ use Rattle.fw_keys.proofs.Healing.{healed_same}
 use Rattle.fw_keys.proofs.Kept.{Sound, tick_sound}
 use Rattle.fw_keys.specs.Edges.{image_keys}
 use Rattle.fw_keys.specs.Frameless.{IsRepeating, changed_now, edges_now, latch_now}
-use Rattle.fw_keys.specs.Frameless.{layers_by, layers_met, shown_by}
+use Rattle.fw_keys.specs.Frameless.{layers_by, layers_met, read_by, shown_by}
 use Rattle.fw_keys.specs.Healing.{is_fn_held}
 use Rattle.fw_link.proofs.Watching.{bare, drives_tick, driven_good, watched, watching}
 use Rattle.fw_link.proofs.Wired.{IsReleased, lights_leave}
@@ -27,19 +27,20 @@ use Rattle.joint_run.specs.Starts.{Tick, at_tick}
 use Rattle.kbd_model.proofs.Alike.{layered_same, layers_same, ticked_same}
 use Rattle.kbd_model.proofs.CodesAreWhole.{IsWhole}
 use Rattle.kbd_model.specs.Codes.{Keys, keys_of}
-use Rattle.kbd_model.specs.Keyboard.{Keyboard, is_held, offer}
+use Rattle.kbd_model.specs.Keyboard.{Keyboard, offer}
 use Rattle.kbd_model.specs.Layers.{Layers, all_layers_after, layered}
 use Rattle.kbd_model.specs.Tick.{ticked}
 use Rattle.kbd_model.specs.declared.meeting.Meeting.{Meeting}
-use Rattle.layout_reader.specs.Layouts.{HasEntry, IsKeyLayout, KeyLayout, is_fn_place}
+use Rattle.layout_reader.specs.Layouts.{IsKeyLayout, KeyLayout, is_fn_place}
 use Rattle.link_model.proofs.Known.{layered_known}
+use Rattle.link_model.specs.Debounce.{AreKnown, taken, turned_all}
 use Rattle.link_model.specs.Machine.{LayeredKeyboard}
 use Rattle.mcs48_core.specs.Cpu.{Cpu}
 use Rattle.mcs48_core.specs.Step.{takes_external, takes_timer}
 use Rattle.agreement.proofs.Compiled.{are_bytes, has_kernel, is_alike, is_silent, no_prefix, same_keys, silent_keys}
 use Rattle.agreement.proofs.FnFollows.{fn_follows, image_fn}
 use Rattle.agreement.proofs.Going.{layout_ticks}
-use Rattle.agreement.proofs.Holding.{ticked_holds}
+use Rattle.agreement.proofs.Holding.{ticked_holds, same_turned}
 use Rattle.agreement.proofs.Offering.{offers_byte}
 use Rattle.agreement.proofs.Placed.{IsOfLayout}
 use Rattle.agreement.proofs.AnyTick.{every}
@@ -47,7 +48,7 @@ use Rattle.agreement.proofs.Ran.{Ran}
 use Rattle.fw_logic.proofs.Sweep.{selects_from}
 use Rattle.agreement.specs.Firmware.{Finds, HasNoPrefix}
 use Rattle.any_host.proofs.Above.{finds_same}
-use Rattle.any_host.proofs.OwnKeys.{edges_placed, next_placed}
+use Rattle.any_host.proofs.OwnKeys.{edges_by, edges_placed, next_known, next_read, seen as seen_edges}
 use Rattle.any_host.specs.AnyPins.{ShowsOwnKeys, TicksBy, keyboard_tick}
 
 -- at places of the layout the kernel's Fn key is the layout's: the layers and the tick are those of the layout
@@ -110,18 +111,27 @@ module _ (layout : KeyLayout) (fine : IsKeyLayout layout) (d : Board)
     pub repeating : IsRepeating bytes w.cpu.ram
     pub sound : Sound own k.layers k.keyboard
     pub released : IsReleased w.cpu.p2
-    pub placed : (p : ℕ) → p < 96 → is_held k.keyboard p ≡ true → HasEntry layout p
+    pub read : read_by bytes w.cpu.ram ≡ k.switches.read
+    pub settled : k.keyboard.held ≡ k.switches.settled
+    pub placed : AreKnown layout k.switches
 
   module _ (w : World d.State) (k : LayeredKeyboard) (g : Keeps w k) (shows : ShowsOwnKeys layout d w) (frame : Frame)
       (meeting : Meeting) (finds : Finds d w frame meeting) where
+    -- the edges that its columns show, and those that it takes
+    abbrev pub es0 : List (ℕ × Bool)
+    es0 = seen_edges layout fine d w k g.keyboard g.read g.settled
+
     abbrev es : List (ℕ × Bool)
-    es = edges_now d w
+    es = taken layout.debounce es0 k.switches
+
+    columns : edges_now bytes d w ≡ es
+    columns = edges_by layout fine d w k g.keyboard g.read g.settled
 
     whole : IsWhole (shown_by w.cpu.ram).queue
     whole = subst (λ (k : Keyboard). IsWhole k.queue) (sym g.keyboard) g.sound.codes
 
     of_layout : All (IsOfLayout layout) es
-    of_layout = edges_placed layout fine d w k g.keyboard shows g.placed
+    of_layout = edges_placed layout fine d w k g.keyboard g.read g.settled shows g.placed
 
     pub tick : Tick d TICK bytes w (Ran d bytes meeting frame w)
     tick =
@@ -129,9 +139,9 @@ module _ (layout : KeyLayout) (fine : IsKeyLayout layout) (d : Board)
         whole finds
 
     -- the next start
-    pub kept : (v : World d.State) → Ran d bytes meeting frame w v → Keeps v (keyboard_tick layout meeting es k)
+    pub kept : (v : World d.State) → Ran d bytes meeting frame w v → Keeps v (keyboard_tick layout meeting es0 k)
     kept v h =
-        let lows : low_edges es = edges_low (changed_now d w) (column_read d w) in
+        let lows : low_edges es = subst (λ v. low_edges v) columns (edges_low (changed_now bytes d w) (column_read d w)) in
         let l : Layers = k.layers in
         let k0 : Keyboard = k.keyboard in
         let wide : IsWide l = subst IsWide g.layers refl in
@@ -142,11 +152,13 @@ module _ (layout : KeyLayout) (fine : IsKeyLayout layout) (d : Board)
         healed_same bytes meeting (shown_by w.cpu.ram) (layers_by w.cpu.ram) follows ∙ g.layers in
         let keys : shown_by v.cpu.ram ≡ ticked own meeting (layered own.is_fn es l) k0 =
         h.keyboard
+        ∙ ap (λ e. ticked img meeting (layered img.is_fn e (layers_met bytes meeting w.cpu.ram)) (shown_by w.cpu.ram)) columns
         ∙ ap (λ x. ticked img meeting (layered img.is_fn es x) (shown_by w.cpu.ram)) unhealed
         ∙ ap (λ x. ticked img meeting (layered img.is_fn es l) x) g.keyboard
         ∙ layout_ticks img own (same_keys layout) (no_prefix layout fine) meeting es l k0 lows g.sound in
         let layers : layers_by v.cpu.ram ≡ all_layers_after own.is_fn es l =
         h.layers
+        ∙ ap (λ e. all_layers_after img.is_fn e (layers_met bytes meeting w.cpu.ram)) columns
         ∙ ap (λ x. all_layers_after img.is_fn es x) unhealed
         ∙ layers_alike img own (same_keys layout) es l lows in
         let own_tick : ticked own meeting (layered own.is_fn es l) k0
@@ -167,7 +179,11 @@ module _ (layout : KeyLayout) (fine : IsKeyLayout layout) (d : Board)
               (subst (λ x. Sound own (all_layers_after own.is_fn es l) x) own_tick
               (tick_sound own (no_prefix layout fine) meeting es l k0 lows wide g.sound));
           released = subst (λ x. IsReleased x) (sym h.latch) (lit_let_go w.cpu g.started);
-          placed = next_placed layout fine d w k g.keyboard shows meeting;
+          read = h.read ∙ next_read layout fine d w k g.keyboard g.read g.settled;
+          settled =
+              ticked_holds (keys_of layout) meeting (is_fn_place layout) es l k0 ∙ same_turned es k0.held
+              ∙ ap (λ h. turned_all es h) g.settled;
+          placed = next_known layout fine d w k g.keyboard g.read g.settled shows g.placed;
         }
 
     -- in each cycle the latch of port 2
@@ -197,13 +213,15 @@ module _ (layout : KeyLayout) (fine : IsKeyLayout layout) (d : Board)
         (λ p1 p2 c s. low p1 p2 c s.under) (watched w) g.started g.repeating frame meeting whole
         (finds_same d latch w frame meeting finds))
 
-    pub ticks_by : TicksBy layout d k frame meeting es w
+    pub ticks_by : TicksBy layout d k frame meeting es0 w
     ticks_by =
         let r = lit_let_go w.cpu g.started in
         record {
           keyboard = g.keyboard;
           layers = g.layers;
+          read = g.read;
           edges_shown = refl;
+          takes = columns;
           finds = finds;
           before = (g.released.byte, g.released.clock, g.released.data_wire);
           afterwards = (r.byte, r.clock, r.data_wire);

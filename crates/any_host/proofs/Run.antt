@@ -1,5 +1,5 @@
 -- The run from power-on at any host: from tick to tick.
-use Rattle.std.proofs.Common.{◌≡◌, ◌≤◌, ◌<◌, ℕ, zero, suc, ◌+◌, ◌-◌, ◌*◌, Bool, true, false, List, length}
+use Rattle.std.proofs.Common.{◌≡◌, ◌≤◌, ◌<◌, ℕ, zero, suc, ◌+◌, ◌-◌, ◌*◌, Bool, true, List, length}
 use Rattle.std.proofs.Common.{slice_index, refl, ap, sym, ◌∙◌, subst, arith}
 use Rattle.fw_compile.specs.Image.{image_of}
 use Rattle.fw_kernel.specs.Tables.{fn_place_at}
@@ -21,7 +21,10 @@ use Rattle.joint_run.specs.Starts.{Comes, IsNth, IsStart, at_tick}
 use Rattle.kbd_model.specs.Keyboard.{Keyboard, at_power_on}
 use Rattle.kbd_model.specs.declared.meeting.Meeting.{Meeting}
 use Rattle.layout_reader.specs.Layouts.{IsKeyLayout, KeyLayout}
+use Rattle.link_model.proofs.Taken.{open_known}
+use Rattle.link_model.specs.Debounce.{is_down_at, taken}
 use Rattle.link_model.specs.Machine.{LayeredKeyboard, keyboard}
+use Rattle.link_model.specs.TickEdges.{shown}
 use Rattle.mcs48_core.specs.Cpu.{Cpu}
 use Rattle.mcs48_ranges.specs.Sizes.{IsFine}
 use Rattle.agreement.proofs.Compiled.{are_bytes, has_kernel, has_rate}
@@ -31,7 +34,9 @@ use Rattle.agreement.proofs.Ran.{Ran}
 use Rattle.agreement.specs.Agreement.{IsPrompt}
 use Rattle.agreement.specs.AnyKeys.{tick_with}
 use Rattle.any_host.proofs.Keeping.{Keeps, kept, starts_tick, tick, ticks_by}
-use Rattle.any_host.specs.AnyPins.{AnyPinsLaw, ShowsOwnKeys, TicksBy, WorksAlone, keyboard_after, keyboard_tick}
+use Rattle.any_host.proofs.OwnKeys.{edges_by}
+use Rattle.any_host.specs.AnyPins.{AnyPinsLaw, ShowsOwnKeys, TicksBy, WorksAlone, is_shown, keyboard_after, keyboard_tick}
+use Rattle.any_host.specs.AnyPins.{takes_at}
 
 module _ (layout : KeyLayout) (fine : IsKeyLayout layout) (d : Board)
     (low : (p1 p2 c : ℕ) (s : d.State) → (d.pins p1 p2 c s).bus < 256) (m : Cpu) (small : IsFine m) (board : d.State) where
@@ -63,7 +68,9 @@ module _ (layout : KeyLayout) (fine : IsKeyLayout layout) (d : Board)
           released =
               subst (λ v. Rattle.fw_link.proofs.Wired.IsReleased v) (sym f.latch)
               (record { byte = omega arith; clock = refl; data_wire = refl });
-          placed = λ p l held. absurd (let off : false ≡ true = sym (none_held layout p) ∙ held in cc);
+          read = f.read;
+          settled = refl;
+          placed = open_known layout;
         },
       )
 
@@ -127,7 +134,7 @@ module _ (layout : KeyLayout) (fine : IsKeyLayout layout) (d : Board)
         record { steps = c.steps; end = c.end; run = c.run; goal = refl } in
         record {
           w = c.end;
-          k = keyboard_tick layout f.meeting (edges_now d s.w) s.k;
+          k = keyboard_tick layout f.meeting (shown (is_down_at s.k.switches.read) (is_shown d s.w)) s.k;
           nth = (s.w, s.nth, record { at = t.at; first = t.first; step = t.step; rest = rest });
           past = (let l : s.w.cycle + 2016 ≤ c.end.cycle = c.goal.later in let p : 4096 ≤ s.w.cycle = s.past in omega (arith, l, p));
           keeps = kept layout fine d low s.w s.k s.keeps (shows n s) f.frame f.meeting f.finds c.end c.goal;
@@ -156,7 +163,7 @@ module _ (layout : KeyLayout) (fine : IsKeyLayout layout) (d : Board)
     frames n = (at n).frame
 
     abbrev edges : ℕ → List (ℕ × Bool)
-    edges n = edges_now d (station n).w
+    edges n = shown (is_down_at (station n).k.switches.read) (is_shown d (station n).w)
 
     -- the model's keyboard there is the one after the ticks before
     model_first : (station 0).k ≡ kb0
@@ -184,9 +191,21 @@ module _ (layout : KeyLayout) (fine : IsKeyLayout layout) (d : Board)
         let p : 4096 ≤ (station n).w.cycle = (station n).past in
         omega (arith, l, p)
 
-    soon : (n : ℕ) → (station (suc n)).w.cycle - 4096 ≤ (station n).w.cycle - 4096 + tick_with (length (edges n))
+    -- the edges that it takes there, by the model and in the run
+    abbrev takes : ℕ → List (ℕ × Bool)
+    takes n = takes_at layout meetings edges n
+
+    takes_are : (n : ℕ) → edges_now bytes d (station n).w ≡ takes n
+    takes_are n =
+        let g = (station n).keeps in
+        edges_by layout fine d (station n).w (station n).k g.keyboard g.read g.settled
+        ∙ ap (λ (k : LayeredKeyboard). taken layout.debounce (edges n) k.switches) (model_is n)
+
+    soon : (n : ℕ) → (station (suc n)).w.cycle - 4096 ≤ (station n).w.cycle - 4096 + tick_with bytes (length (takes n))
     soon n =
-        let l : (station (suc n)).w.cycle ≤ (station n).w.cycle + (2054 + 62 * length (edges n)) = (ran_on n).by_keys in
+        let most : ℕ = tick_with bytes (length (takes n)) in
+        let l : (station (suc n)).w.cycle ≤ (station n).w.cycle + most =
+        subst (λ e. (station (suc n)).w.cycle ≤ (station n).w.cycle + tick_with bytes (length e)) (takes_are n) (ran_on n).by_keys in
         let p : 4096 ≤ (station n).w.cycle = (station n).past in
         omega (arith, l, p)
 
@@ -194,16 +213,16 @@ module _ (layout : KeyLayout) (fine : IsKeyLayout layout) (d : Board)
     unfolding station first
     first_punctual = (first_comes.goal.0, first_comes.goal.1)
 
-    punctual : ((n : ℕ) → length (edges n) ≤ 4) → (n : ℕ) → IsStarted (station n).w.cpu × IsOnTime n (station n).w
+    punctual : ((n : ℕ) → length (takes n) ≤ 4) → (n : ℕ) → IsStarted (station n).w.cpu × IsOnTime n (station n).w
     punctual few zero = first_punctual
     punctual few (suc n) =
         let before = punctual few n in
-        let p = (ran_on n).prompt before.0 (few n) in
+        let p = (ran_on n).prompt before.0 (subst (λ e. length e ≤ 4) (sym (takes_are n)) (few n)) in
         let now : (station n).w.cycle + 2 ≡ 4096 + 2048 * n + (station n).w.cpu.pre = before.1 in
         let pass : (station (suc n)).w.cycle + (station n).w.cpu.pre ≡ (station n).w.cycle + 2048 + (station (suc n)).w.cpu.pre = p.1 in
         (p.0, omega (arith, now, pass))
 
-    prompt : ((n : ℕ) → length (edges n) ≤ 4) → (n : ℕ) → IsPrompt n ((station n).w.cycle - 4096)
+    prompt : ((n : ℕ) → length (takes n) ≤ 4) → (n : ℕ) → IsPrompt n ((station n).w.cycle - 4096)
     prompt few n =
         let p = punctual few n in
         let early : 2 ≤ (station n).w.cpu.pre = p.0.entered.early in

@@ -9,7 +9,7 @@ use Rattle.layout_reader.specs.Layouts.{KeyLayout}
 use Rattle.link_model.specs.declared.line.LogLine.{LogLine}
 use Rattle.link_times.specs.Coming.{keyboard_at}
 use Rattle.link_times.specs.Flowing.{IsHostQuiet, IsQuietFrom}
-use Rattle.link_times.specs.Latency.{IsListedAt, Strikes, put_out_in, read_stamp}
+use Rattle.link_times.specs.Latency.{IsListedAt, Strikes, put_out_in, read_stamp, settling}
 use Rattle.pc_tables.specs.declared.item.Item.TheVariants.{Port}
 use Rattle.quiet_log.specs.Once.{at_tick}
 use Rattle.subsystem.specs.LayoutOutcomes.{Outcome}
@@ -33,10 +33,10 @@ pub record HasLine (text : List ℕ) (line : LogLine) : Type 0 where
   pub afterwards : List ℕ
   pub is : text ≡ before ++ (line_text line ++ afterwards)
 
--- tick n of a run sees an edge, whose code waits at the next tick's start after so many bytes. What the controller puts
+-- tick n of a run takes an edge, whose code waits at the next tick's start after so many bytes. What the controller puts
 -- out for byte i of it INT 09h reads at the stamp `read_stamp`, and it has its line, as a `port` with the tick of that read.
 -- The stamp is at most two ticks and 656 cycles after the edge, which is 4,752, and a tick for each byte before it, less 16
--- cycles for each column before the key's
+-- cycles for each column before the key's. With a debounce all of it is a tick later
 pub record IsPrintedInTime (layout : KeyLayout) (history : KeyHistory) (run : Outcome) (text : List ℕ) (n : ℕ)
     (edge : Edge) (code : List ℕ) : Type 0 where
   pub place : ℕ
@@ -50,7 +50,7 @@ pub record IsPrintedInTime (layout : KeyLayout) (history : KeyHistory) (run : Ou
       → HasLine text (record { tick = i + place + suc n; item = Port put })
   pub soon : (i : ℕ) → i + place + suc n ≤ length run.starts - 1
       → read_stamp (listed run.starts) (i + place + suc n) + 16 * (edge.place / 8)
-      ≤ edge.stamp + 2 * 2048 + 656 + 2048 * (i + place)
+      ≤ edge.stamp + 2 * 2048 + 656 + 2048 * (i + place + settling layout)
 
 -- `run`, with its options or without, and `expect`
 abbrev pub PrintsLog : RunCommand → Type 0

@@ -3,7 +3,7 @@ use Rattle.std.specs.Prelude.{ℕ, zero, suc, ◌+◌, ◌*◌, ◌^◌, Bool, i
 use Rattle.std.specs.Prelude.{length, unwrap_or}
 use Rattle.std.specs.List.{range_with_len}
 use Rattle.fw_kernel.specs.declared.bytes.TheConstants.{KERNEL}
-use Rattle.fw_kernel.specs.Tables.{codes_at, rate_at, fn_codes_at, make_only_at, fn_place_at}
+use Rattle.fw_kernel.specs.Tables.{codes_at, rate_at, fn_codes_at, make_only_at, fn_place_at, debounce_at}
 use Rattle.layout_reader.specs.Layouts.{KeyLayout, code_at, fn_code_at, is_make_only, fn_place}
 
 -- the bytes for a place: its codes in the two layers, or 00 if it has none
@@ -37,6 +37,10 @@ make_only_of layout = map (make_only_byte layout) (range_with_len 0 12)
 abbrev pub fn_byte : KeyLayout → ℕ
 fn_byte layout = unwrap_or (fn_place layout) 0xff
 
+-- whether keys are debounced
+abbrev pub debounce_byte : KeyLayout → ℕ
+debounce_byte layout = if layout.debounce then 1 else 0
+
 -- bytes that hold a table at a place, and are else as they were
 abbrev pub with_table : ℕ → List ℕ → List ℕ → List ℕ
 with_table at table bytes = take at bytes ++ table ++ drop (at + length table) bytes
@@ -44,8 +48,9 @@ with_table at table bytes = take at bytes ++ table ++ drop (at + length table) b
 -- the image of a layout
 abbrev pub image_of : KeyLayout → List ℕ
 image_of layout =
-    with_table fn_place_at (fn_byte layout ∷ [])
+    with_table debounce_at (debounce_byte layout ∷ [])
+    (with_table fn_place_at (fn_byte layout ∷ [])
     (with_table make_only_at (make_only_of layout)
     (with_table fn_codes_at (fn_codes_of layout)
     (with_table rate_at (layout.rate ∷ [])
-    (with_table codes_at (codes_of layout) KERNEL))))
+    (with_table codes_at (codes_of layout) KERNEL)))))

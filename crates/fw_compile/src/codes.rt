@@ -2,7 +2,7 @@
 
 ghost use Rattle.std.specs.Prelude.{◌≡◌, ◌<◌, ◌+◌, ◌*◌};
 ghost use Rattle.fw_compile.specs.Image.{code_byte, codes_of, fn_code_byte, fn_codes_of, make_only_byte, make_only_of};
-ghost use Rattle.fw_compile.specs.Image.{fn_byte};
+ghost use Rattle.fw_compile.specs.Image.{fn_byte, debounce_byte};
 ghost use Rattle.layout_reader.specs.Layouts.{is_make_only};
 
 use board_terms::Place;
@@ -90,4 +90,11 @@ pub(crate) fn fn_byte(layout: &Layout) -> u8
         Some(place) => place.number(),
         None => 0xff,
     }
+}
+
+/// 1 if keys are debounced, else 00.
+pub(crate) fn debounce_byte(layout: &Layout) -> u8
+    ensures { result ≡ debounce_byte layout.now }
+{
+    u8::from(layout.debounces())
 }

@@ -18,3 +18,7 @@ make_only_at = 961
 
 abbrev pub fn_place_at : ℕ
 fn_place_at = 973
+
+-- whether the keys are debounced: 1, or else 0 (3F2)
+abbrev pub debounce_at : ℕ
+debounce_at = 1010

@@ -50,3 +50,6 @@ pub const FN: u8 = 0x4e;
 
 /// The layers of the keys' last presses: a byte a column.
 pub const LAYER: u8 = 0x50;
+
+/// With a debounce, the keys that the last reading alone showed otherwise than they are held: a byte a column.
+pub const PENDING: u8 = 0x60;

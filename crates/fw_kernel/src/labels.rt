@@ -188,3 +188,6 @@ pub const FOOT: u16 = 0x4c7;
 
 /// In a reset: is the Fn key held?
 pub const FN_HELD: u16 = 0x4d6;
+
+/// With a debounce: what two readings show changes.
+pub const SETTLE: u16 = 0x500;

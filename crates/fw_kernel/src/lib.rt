@@ -11,12 +11,12 @@
 //! cycles, so a tick starts in the cycle of its multiple of 2,048 or in the next. No block of the tick makes a call
 //! or returns. Places 300 to 3CD (hexadecimal) hold no code: they are the layout's tables, its codes at 300 and
 //! its rate at 360, and from 361 on those of the second layer. From 3CE on are the delays and periods that MOVP3
-//! reads.
+//! reads, and at 3F2 is whether the layout's keys are debounced.
 //!
 //! **A tick** reads the twelve columns, finds what is to be sent, puts the lights, and looks at both wires. If the
 //! power-on test runs it counts one of the test's ticks. Otherwise it sends a byte, receives one, or does neither. Then
-//! what was sent goes from where it was, or the command is obeyed; the repeating key is counted; and the edges enter
-//! the queue in the order of their places.
+//! what was sent goes from where it was, or the command is obeyed; the repeating key is counted; and the edges, debounced
+//! if the layout says so, enter the queue in the order of their places.
 //!
 //! **What is proved of it** is above. Here are bytes, labels and a text, and no function, so this crate's own check
 //! refuses none of them. `fw_logic` proves what is at `TICK` and what the blocks do, `fw_keys`, `fw_link` and

@@ -31,6 +31,7 @@ pub const SOURCE: &str = r"
 ;   4D      LIGHTS    bits 4..6: Scroll, Num, Caps are lit
 ;   4E      FN        FF where the Fn key is down, else 00
 ;   50..5B  LAYER     byte c: bit r is 1 where the key of column c, row r was last pressed in the Fn layer
+;   60..6B  PENDING   byte c: the keys that the last reading alone showed otherwise than HELD; 00 without a debounce
 ;   70..7F  ring      the queue's bytes
 ;
 ; F0: scanning is on; set by block scan alone.
@@ -564,7 +565,7 @@ scan:   CLR F0
         JZ on
         MOV R1,#RCOUNT
         MOV @R1,#0
-        JMP edges
+        JMP settle
 on:     CPL F0
 
 ; -- repeat: the count of the repeating key falls.
@@ -607,11 +608,11 @@ again:  MOV R1,#COUNT
         MOV R1,A
         MOV A,R2
         MOV @R1,A
-rest:   JMP edges
+rest:   JMP settle
 a_over: MOV A,@R1
         ORL A,#80H
         MOV @R1,A
-        JMP edges
+        JMP settle
 
 ; -- power: what isn't 00 at power-on. Times are the cycles since reset.
 ; needs: nothing. leaves: TEST, LAST, RATE, R0.
@@ -670,6 +671,8 @@ heal:   MOV R1,#STARTED
         DB 13, 15, 16, 18, 20, 21, 23, 24
         DB 26, 29, 33, 36, 39, 42, 46, 49
         DB 52, 59, 65, 72, 78, 85, 91, 98
+
+; -- the place 3F2 is the layout's too: 1 with a debounce, else 0.
 
 ; -- the bit of a row, by the rows left.
         ORG 401H
@@ -926,4 +929,37 @@ fn_held: MOV A,#0CDH
 fn_put: MOV R1,#FN
         MOV @R1,A
         JMP reset
+
+; -- settle: with a debounce a key changes once two readings in a row showed it otherwise than held. In pass c a key that
+; this reading alone showed so is pending, and isn't changed; HELD has it as it was.
+; needs: HELD, CHANGED of read; PENDING. leaves: HELD, CHANGED, PENDING.
+; cycles: 8, or 10 and 26 a pass.
+        ORG 500H
+settle: MOV A,#0F2H
+        MOVP3 A,@A
+        JZ settled          ; no debounce
+        MOV R0,#CHANGED
+pass: MOV A,R0
+        ADD A,#30H          ; PENDING + c
+        MOV R1,A
+        MOV A,@R1
+        CPL A
+        MOV R2,A
+        MOV A,@R0
+        ANL A,R2
+        MOV @R1,A           ; this reading alone
+        MOV R2,A
+        XRL A,@R0
+        MOV @R0,A           ; both
+        MOV A,R0
+        XRL A,#10H          ; HELD + c
+        MOV R1,A
+        MOV A,@R1
+        XRL A,R2
+        MOV @R1,A
+        INC R0
+        MOV A,R0
+        XRL A,#3CH
+        JNZ pass
+settled: JMP edges
 ";

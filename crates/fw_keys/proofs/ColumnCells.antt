@@ -8,7 +8,7 @@ use Rattle.mcs48_core.specs.Status.{digit}
 use Rattle.fw_logic.proofs.Block.{memory, put}
 use Rattle.fw_keys.proofs.Blocks.{cell-get}
 use Rattle.fw_keys.proofs.Fold.{Decks}
-use Rattle.fw_keys.proofs.Laid.{laid, laid_low}
+use Rattle.fw_keys.proofs.Laid.{laid, laid_low, laid_high}
 use Rattle.fw_keys.proofs.Patch.{Patch, self, struck}
 use Rattle.fw_keys.proofs.Rows.{marks, rows_time}
 use Rattle.fw_keys.specs.Edges.{image_keys}
@@ -32,6 +32,9 @@ spread f w = laid (wide f w) w.bytes
 pub kept_wide : (f : ℕ → ℕ) (w : Wide) (i : ℕ) → 32 ≤ i → i < 60 → wide f w i ≡ f i
 kept_wide f w i l u = grind (arith, nat_tests, l, u)
 
+kept_above : (f : ℕ → ℕ) (w : Wide) (i : ℕ) → 92 ≤ i → wide f w i ≡ f i
+kept_above f w i l = grind (arith, nat_tests, l)
+
 pub kept_cells : (f : ℕ → ℕ) (w : Wide) (i : ℕ) → 32 ≤ i → i < 60 → spread f w i ≡ f i
 kept_cells f w i l u = laid_low (wide f w) w.bytes i (omega (arith, u)) ∙ kept_wide f w i l u
 
@@ -40,6 +43,10 @@ kept_changes f w i l = kept_cells f w (48 + i) (omega arith) (omega (arith, l))
 
 pub kept_helds : (f : ℕ → ℕ) (w : Wide) (i : ℕ) → i < 12 → spread f w (32 + i) ≡ f (32 + i)
 kept_helds f w i l = kept_cells f w (32 + i) (omega arith) (omega (arith, l))
+
+-- and those above the layers
+pub kept_pendings : (f : ℕ → ℕ) (w : Wide) (i : ℕ) → i < 12 → spread f w (96 + i) ≡ f (96 + i)
+kept_pendings f w i l = laid_high (wide f w) w.bytes (96 + i) (omega arith) ∙ kept_above f w (96 + i) (omega arith)
 
 -- the cell that a register points to
 pub cell_at : (f : ℕ → ℕ) (ring : List ℕ) (v i : ℕ) → v ≡ i → i < 112 → slice_index (memory f ring) (v % 128) ≡ f i

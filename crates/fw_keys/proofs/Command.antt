@@ -47,7 +47,7 @@ three_alone = by_byte (λ b. bit_and (b % 16 * 16 + b / 16) 112)
 mode_kept : (f : ℕ → ℕ) (i : ℕ) → 32 ≤ i → i < 60 → put f 70 0 i ≡ f i
 mode_kept f i l u = grind (arith, nat_tests, l, u)
 
-layer_kept : (f : ℕ → ℕ) (i : ℕ) → 78 ≤ i → i < 92 → put f 70 0 i ≡ f i
+layer_kept : (f : ℕ → ℕ) (i : ℕ) → 78 ≤ i → i < 108 → put f 70 0 i ≡ f i
 layer_kept f i l u = grind (arith, nat_tests, l, u)
 
 module _ (d : Board) (bytes : List ℕ) (hk : HasKernel bytes) (small : All IsByte bytes)
@@ -58,7 +58,7 @@ module _ (d : Board) (bytes : List ℕ) (hk : HasKernel bytes) (small : All IsBy
       (Ends d x m board SCAN 68 (Keeps held (obeyed (image_keys bytes) (f 28) (not (f 29 == 0))) f ring))
 
   facts_of : (g : ℕ → ℕ) → g 66 ≡ f 66 → g 68 ≡ f 68 → g 70 ≤ 2 → g LIGHTS ≡ 16 * (g LIGHTS / 16 % 8) → IsFnCell (g 78)
-      → ((i : ℕ) → 32 ≤ i → i < 60 → g i ≡ f i) → ((i : ℕ) → 78 ≤ i → i < 92 → g i ≡ f i) → (g 8 ≡ f 8) × (g 9 ≡ f 9)
+      → ((i : ℕ) → 32 ≤ i → i < 60 → g i ≡ f i) → ((i : ℕ) → 78 ≤ i → i < 108 → g i ≡ f i) → (g 8 ≡ f 8) × (g 9 ≡ f 9)
       → kbd_of held g ring ≡ obeyed (image_keys bytes) (f 28) (not (f 29 == 0)) (kbd_of held f ring) → (a : ℕ)
       → Keeps held (obeyed (image_keys bytes) (f 28) (not (f 29 == 0))) f ring a g ring
   facts_of g e66 e68 e70 e77 e78 cells layers stack kbd a =

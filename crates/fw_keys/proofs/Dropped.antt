@@ -81,5 +81,5 @@ xor_is k l b m = pair_tests 256 256 (λ b k. bit_xor b k == 0) (λ b k. b == k) 
 pub kept_last : (f : ℕ → ℕ) (u v i : ℕ) → 32 ≤ i → i < 60 → put (put f 25 u) 76 v i ≡ f i
 kept_last f u v i l m = grind (arith, nat_tests, l, m)
 
-pub kept_layers : (f : ℕ → ℕ) (u v i : ℕ) → 78 ≤ i → i < 92 → put (put f 25 u) 76 v i ≡ f i
+pub kept_layers : (f : ℕ → ℕ) (u v i : ℕ) → 78 ≤ i → i < 108 → put (put f 25 u) 76 v i ≡ f i
 kept_layers f u v i l m = grind (arith, nat_tests, l, m)

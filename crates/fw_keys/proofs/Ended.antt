@@ -22,7 +22,7 @@ use Rattle.fw_keys.specs.Edges.{image_keys, IsSilentAlike}
 use Rattle.fw_keys.specs.Healing.{healed, makes_reset}
 use Rattle.fw_keys.proofs.Block.{Safe}
 use Rattle.fw_keys.proofs.Scan.{after, edges_most, keyed}
-use Rattle.fw_keys.proofs.Tick.{down, changed, begun, lit, shining, Ticked, TickLaw, idle_tick}
+use Rattle.fw_keys.proofs.Tick.{reads, down, changed, pending, begun, lit, shining, Ticked, TickLaw, idle_tick}
 use Rattle.fw_keys.proofs.Healing.{not_healed}
 use Rattle.fw_keys.proofs.KeyedTick.{keyed_tick}
 use Rattle.kbd_model.specs.Layers.{Layers}
@@ -31,6 +31,12 @@ use Rattle.fw_keys.proofs.Tick.{glitch_tick, inhibited_tick, test_tick, IsFreeAt
 module _ (d : Board) (bytes : List ℕ) (hk : HasKernel bytes) (alike : IsSilentAlike bytes) (small : All IsByte bytes)
     (low : (p1 p2 c : ℕ) (s : d.State) → (d.pins p1 p2 c s).bus < 256) (held : List Bool)
     (y : ℕ) (m : Cpu) (board : d.State) (f : ℕ → ℕ) (ring : List ℕ) where
+  abbrev pub reads_now : ℕ → ℕ
+  reads_now = reads d bytes hk alike small low held y m board f ring
+
+  abbrev pub pending_now : ℕ → ℕ
+  pending_now = pending d bytes hk alike small low held y m board f ring
+
   abbrev pub downs_now : ℕ → ℕ
   downs_now = down d bytes hk alike small low held y m board f ring
 
@@ -58,6 +64,7 @@ module _ (d : Board) (bytes : List ℕ) (hk : HasKernel bytes) (alike : IsSilent
         (kbd_of held f ring)
     pub layers : layers_of now ≡ after (image_keys bytes) changes_now downs_now (layers_from meeting)
     pub downs : (i : ℕ) → i < 12 → now (32 + i) ≡ downs_now i
+    pub pendings : (i : ℕ) → i < 12 → now (96 + i) ≡ pending_now i
     pub inv : Inv now
     pub stack : (now 8 ≡ f 8) × (now 9 ≡ f 9)
     pub facts : F from
@@ -78,18 +85,18 @@ module _ (d : Board) (bytes : List ℕ) (hk : HasKernel bytes) (alike : IsSilent
   silent : (meeting : Meeting) (inhibited : Bool) (max : ℕ) (step : Keyboard → Keyboard)
       → makes_reset meeting (kbd_of held f ring) ≡ false
       → TickLaw d bytes hk alike small low held y m board f ring meeting inhibited max step
-      → Works meeting (231 + (max + (56 + (2 + edges_most changes_now)))) AtHead
+      → Works meeting (231 + (max + (56 + (2 + edges_most bytes changes_now)))) AtHead
   silent meeting inhibited max step none h =
       weaken d (kernel_in true bytes) (has_rows true bytes hk) y
       (λ e. Ticked d bytes hk alike small low held y m board f ring inhibited max step e
       × (keyed (image_keys bytes) inhibited changes_now downs_now (layers_of f) (step (kbd_of held f ring))
       ≡ keyed_tick (image_keys bytes) meeting changes_now downs_now (layers_of f) (kbd_of held f ring)))
-      (Ended meeting (231 + (max + (56 + (2 + edges_most changes_now)))) AtHead)
+      (Ended meeting (231 + (max + (56 + (2 + edges_most bytes changes_now)))) AtHead)
       (begun d bytes hk alike small low held y m board f ring)
       (λ e a.
       let t = a.0 in
       let off : e.off ≡ 231 + t.used = t.off in
-      let short : t.used ≤ max + (56 + (2 + edges_most changes_now)) = t.short in
+      let short : t.used ≤ max + (56 + (2 + edges_most bytes changes_now)) = t.short in
       let same : layers_of f ≡ layers_from meeting = sym (not_healed bytes meeting (kbd_of held f ring) (layers_of f) none) in
       record {
         now = t.now;
@@ -104,6 +111,7 @@ module _ (d : Board) (bytes : List ℕ) (hk : HasKernel bytes) (alike : IsSilent
             ∙ ap (λ l. keyed_tick (image_keys bytes) meeting changes_now downs_now l (kbd_of held f ring)) same;
         layers = t.layers ∙ ap (λ l. after (image_keys bytes) changes_now downs_now l) same;
         downs = t.downs;
+        pendings = t.pendings;
         inv = t.inv;
         stack = t.stack;
         facts = record { off = refl; p2 = refl; board_is = refl };
@@ -115,14 +123,14 @@ module _ (d : Board) (bytes : List ℕ) (hk : HasKernel bytes) (alike : IsSilent
   -- nothing is offered, and both wires are high
   pub idle_works : Inv f → (f 69 == 0) ≡ true → offer (kbd_of held f ring) ≡ None
       → IsFreeAt d bytes hk alike small low held y m board f ring → Safe m 10 f ring
-      → Works Idle (231 + (31 + (56 + (2 + edges_most changes_now)))) AtHead
+      → Works Idle (231 + (31 + (56 + (2 + edges_most bytes changes_now)))) AtHead
   idle_works inv no_test nothing wires safe =
       silent Idle false 31 (same_kbd d bytes hk alike small low held y m board f ring) refl
       (idle_tick d bytes hk alike small low held y m board f ring inv no_test nothing wires safe)
 
   -- data is low at the first look alone
   pub glitch_works : Inv f → (f 69 == 0) ≡ true → IsGlitchAt d bytes hk alike small low held y m board f ring
-      → Safe m 10 f ring → Works Idle (231 + (56 + (56 + (2 + edges_most changes_now)))) AtHead
+      → Safe m 10 f ring → Works Idle (231 + (56 + (56 + (2 + edges_most bytes changes_now)))) AtHead
   glitch_works inv no_test levels safe =
       silent Idle false 56 (same_kbd d bytes hk alike small low held y m board f ring) refl
       (glitch_tick d bytes hk alike small low held y m board f ring inv no_test levels safe)
@@ -133,13 +141,13 @@ module _ (d : Board) (bytes : List ℕ) (hk : HasKernel bytes) (alike : IsSilent
       (after_cycles 22 0 (λ o. d.cycle (255 - f LIGHTS) (y + 231 + o)) (shining d bytes hk alike small low held y m board f
       ring))).t0
       ≡ false → Safe m 10 f ring
-      → Works Inhibited (231 + (31 + (56 + (2 + edges_most changes_now)))) AtHead
+      → Works Inhibited (231 + (31 + (56 + (2 + edges_most bytes changes_now)))) AtHead
   inhibited_works inv no_test clock safe =
       silent Inhibited true 31 (same_kbd d bytes hk alike small low held y m board f ring) refl
       (inhibited_tick d bytes hk alike small low held y m board f ring inv no_test clock safe)
 
   -- the power-on test runs, whatever the wires show
   pub test_works : Inv f → (f 69 == 0) ≡ false → Safe m 10 f ring
-      → Works Idle (231 + (36 + (56 + (2 + edges_most changes_now)))) AtHead
+      → Works Idle (231 + (36 + (56 + (2 + edges_most bytes changes_now)))) AtHead
   test_works inv runs safe = silent Idle false 36 (tested_if true) refl
       (test_tick d bytes hk alike small low held y m board f ring inv runs safe)

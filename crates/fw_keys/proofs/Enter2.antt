@@ -6,7 +6,7 @@ use Rattle.fw_keys.proofs.Blocks.{leaf, bytes_of}
 use Rattle.fw_keys.proofs.Enter.{Entered, in_ring, next_place, over_one, over_two, entered_over, entered_one}
 use Rattle.fw_keys.proofs.Enter.{entered_two, not_over}
 use Rattle.fw_kernel.specs.Places.{HasKernel}
-use Rattle.fw_kernel.specs.declared.labels.TheConstants.{AGAIN, EDGES, ENTER2, ENTERED}
+use Rattle.fw_kernel.specs.declared.labels.TheConstants.{AGAIN, SETTLE, ENTER2, ENTERED}
 use Rattle.fw_keys.proofs.Block.{Ends, Safe}
 use Rattle.fw_keys.proofs.Ring.{ring-set}
 use Rattle.fw_logic.proofs.Block.{begin_at, memory, put}
@@ -65,14 +65,14 @@ module _ (d : Board) (bytes : List ℕ) (hk : HasKernel bytes) (small : All IsBy
       (Ends d x m board ENTERED 23 (λ a. Entered (240 ∷ f 26 ∷ []) f ring))
   enters_two = enters_two_by (nat_le 256 (f 66 + 241)) refl
 
-  -- the byte of a key that repeats, at AGAIN, on to EDGES
+  -- the byte of a key that repeats, at AGAIN, on to SETTLE
   again_by : (over : Bool) → nat_le 256 (f 66 + 240) ≡ over → Safe m AGAIN f ring → f 66 % 128 ≤ 16
       → Leads d (kernel_in true bytes) x (begin_at d AGAIN f ring m board)
-      (Ends d x m board EDGES 17 (λ a. Entered (f 26 ∷ []) f ring))
+      (Ends d x m board SETTLE 17 (λ a. Entered (f 26 ∷ []) f ring))
   again_by true is safe most =
       let h = bytes_of m AGAIN f ring safe in
       leaf d (kernel_in true bytes) (has_rows true bytes hk) small low (λ a. Entered (f 26 ∷ []) f ring)
-      (Until 648 ∷ Go true ∷ Until EDGES ∷ []) AGAIN EDGES 17 (put (put f 66 (bit_or (f 66) 128)) 25 66) ring x m m
+      (Until 648 ∷ Go true ∷ Until SETTLE ∷ []) AGAIN SETTLE 17 (put (put f 66 (bit_or (f 66) 128)) 25 66) ring x m m
       board f ring safe.0
       (λ a. entered_over (f 26 ∷ []) f ring 66 (h.cell 66 (omega arith)) most
       (sym (over_one (f 66) (h.cell 66 (omega arith))) ∙ is))
@@ -85,10 +85,10 @@ module _ (d : Board) (bytes : List ℕ) (hk : HasKernel bytes) (small : All IsBy
       let g : ℕ → ℕ = put (put f 66 ((f 66 + 1) % 256)) 25 (bit_or z 112) in
       leaf d (kernel_in true bytes) (has_rows true bytes hk) small low (λ a. Entered (f 26 ∷ []) f ring)
       (Until 648 ∷ Go false ∷ Until 657 ∷ Run 1 ∷ Ram (memory g (slice_set ring ((f 67 + f 66) % 16) (f 26))) ∷ Until
-      EDGES ∷ []) AGAIN EDGES 17 g (slice_set ring ((f 67 + f 66) % 16) (f 26)) x m m board f ring safe.0
+      SETTLE ∷ []) AGAIN SETTLE 17 g (slice_set ring ((f 67 + f 66) % 16) (f 26)) x m m board f ring safe.0
       (λ a. entered_one (f 26) f ring (bit_or z 112) h.size below)
       (is, (in_ring g ring z (f 67 + f 66) (f 26) (omega arith) j, (refl, refl, refl)))
 
   pub again : Safe m AGAIN f ring → f 66 % 128 ≤ 16 → Leads d (kernel_in true bytes) x (begin_at d AGAIN f ring m board)
-      (Ends d x m board EDGES 17 (λ a. Entered (f 26 ∷ []) f ring))
+      (Ends d x m board SETTLE 17 (λ a. Entered (f 26 ∷ []) f ring))
   again = again_by (nat_le 256 (f 66 + 240)) refl

@@ -1,5 +1,5 @@
 -- Ticks without a frame in the words of the joint run.
-use Rattle.std.proofs.Common.{◌≡◌, ◌≤◌, ◌<◌, ℕ, ◌+◌, ◌-◌, ◌*◌, Bool}
+use Rattle.std.proofs.Common.{◌≡◌, ◌≤◌, ◌<◌, ℕ, ◌+◌, ◌-◌, ◌*◌, Bool, true, false}
 use Rattle.std.proofs.Common.{List, All, length, drop, bit_xor, refl, ap, sym, ◌∙◌, subst, arith}
 use Rattle.std.proofs.Common.{inl, inr}
 use Rattle.mcs48_core.specs.Cpu.{Cpu}
@@ -27,16 +27,25 @@ use Rattle.kbd_model.specs.Layers.{Layers, layered, all_layers_after}
 use Rattle.kbd_model.specs.Tick.{ticked}
 use Rattle.fw_keys.proofs.Keyboard.{IsPressedAt, frameless_pressed}
 use Rattle.fw_keys.proofs.Patch.{still}
-use Rattle.fw_keys.specs.State.{keyboard_of, layers_of, Inv}
+use Rattle.fw_keys.specs.State.{keyboard_of, held_by, debounces, read_of, Inv}
 use Rattle.fw_keys.specs.Edges.{image_keys, tick_edges, IsSilentAlike}
-use Rattle.fw_keys.specs.Frameless.{cells_in, shown_by, IsStarted, changed_now, edges_now, latch_now}
+use Rattle.fw_keys.specs.Frameless.{cells_in, shown_by, read_by, IsStarted, differing_now, edges_now, latch_now}
 use Rattle.fw_keys.specs.Frameless.{IsFrameless, GoesOn, IsRepeating, layers_by, layers_met}
 use Rattle.fw_keys.proofs.Step5.{all_edges}
-use Rattle.fw_keys.proofs.Scan.{edges_most}
+use Rattle.fw_keys.proofs.Held.{held_same}
+use Rattle.fw_keys.proofs.Scan.{columns_most, edges_most, changes_same, holds_same}
+use Rattle.fw_keys.proofs.Settle.{changes_by, holds_by, settle_cycles, settle_short}
+use Rattle.fw_keys.proofs.Settled.{changes_is, changed_small, settled_edges}
 use Rattle.fw_keys.proofs.Ended.{AtHead, idle_works, glitch_works, inhibited_works, test_works}
 use Rattle.std.proofs.lemmas.List.Elements.{All-get_or}
-use Rattle.fw_keys.proofs.Serve.{found, kept_on, down, changed, held, first, first_board, fit, Goes, Work, tick, tick_passes, edges_by, four_edges}
+use Rattle.fw_keys.proofs.Serve.{found, kept_on, stacked_at, reads, down, changed, held, first, first_board, fit, Goes, Work, tick, tick_passes, edges_by, four_edges}
 use Rattle.fw_keys.proofs.Begun.{IsAnyStart, columns_same, columns_count, start_entering, entering_start, started_is, xor_small}
+
+-- what was read last, in data memory as the tick left it
+read_entering : (b : Bool) (t : TimerState) (now : ℕ → ℕ) (ring : List ℕ) (m : Cpu)
+    → read_of b (cells_in (entering t now ring m).ram) ≡ read_of b (stacked now)
+read_entering true t now ring m = refl
+read_entering false t now ring m = refl
 
 module _ (d : Board) (bytes : List ℕ) (hk : HasKernel bytes) (alike : IsSilentAlike bytes) (small : All IsByte bytes)
     (low : (p1 p2 c : ℕ) (s : d.State) → (d.pins p1 p2 c s).bus < 256)
@@ -56,6 +65,9 @@ module _ (d : Board) (bytes : List ℕ) (hk : HasKernel bytes) (alike : IsSilent
   abbrev pub timer : TimerState
   timer = timer_of m
 
+  abbrev reads_in : ℕ → ℕ
+  reads_in = reads d bytes hk alike small low w.cycle timer f ring m w.board
+
   abbrev pub down_in : ℕ → ℕ
   down_in = down d bytes hk alike small low w.cycle timer f ring m w.board
 
@@ -68,8 +80,8 @@ module _ (d : Board) (bytes : List ℕ) (hk : HasKernel bytes) (alike : IsSilent
   abbrev new : ℕ → d.State → d.State
   new = d.cycle (latch_now d w)
 
-  down_is : (c : ℕ) → down_in c ≡ column_read d w c
-  down_is c =
+  reads_is : (c : ℕ) → reads_in c ≡ column_read d w c
+  reads_is c =
       let x = w.cycle in
       let a : x + 3 + (13 + 16 * c) ≡ x + (16 + 16 * c) = omega arith in
       let n : 3 + (13 + 16 * c) ≡ 16 + 16 * c = omega arith in
@@ -79,29 +91,65 @@ module _ (d : Board) (bytes : List ℕ) (hk : HasKernel bytes) (alike : IsSilent
       ap (λ b. 255 - (d.pins (32 + c) m.p2 (x + 3 + (13 + 16 * c)) b).bus) state
       ∙ ap (λ k. 255 - (d.pins (32 + c) m.p2 k (in_tick d w (16 + 16 * c))).bus) a
 
-  changed_is : (c : ℕ) → changed_in c ≡ changed_now d w c
-  changed_is c = ap (λ v. bit_xor v (down_in c)) (kept_on f c) ∙ ap (λ v. bit_xor (f (32 + c)) v) (down_is c)
+  differing_is : (c : ℕ) → bit_xor (stacked f (32 + c)) (reads_in c) ≡ differing_now d w c
+  differing_is c = ap (λ v. bit_xor v (reads_in c)) (kept_on f c) ∙ ap (λ v. bit_xor (f (32 + c)) v) (reads_is c)
 
-  edges_is : tick_edges changed_in down_in ≡ edges_now d w
-  edges_is = columns_same changed_in (changed_now d w) down_in (column_read d w) 0 12 refl (λ i l. changed_is i) (λ i l. down_is i)
+  pending_is : (c : ℕ) → stacked f (96 + c) ≡ f (96 + c)
+  pending_is c = stacked_at f (96 + c) (omega arith)
 
-  counted : all_edges changed_in 0 12 ≡ length (edges_now d w)
+  abbrev debounce : Bool
+  debounce = debounces bytes
+
+  changed_is : (c : ℕ) → changed_in c ≡ changes_by debounce (f (96 + c)) (differing_now d w c)
+  changed_is c =
+      changes_same debounce (stacked f (96 + c)) (f (96 + c)) (bit_xor (stacked f (32 + c)) (reads_in c))
+      (differing_now d w c) (pending_is c) (differing_is c)
+
+  down_is : (c : ℕ) → down_in c ≡ holds_by debounce (f (96 + c)) (differing_now d w c) (column_read d w c)
+  down_is c =
+      holds_same debounce (stacked f (96 + c)) (f (96 + c)) (bit_xor (stacked f (32 + c)) (reads_in c))
+      (differing_now d w c) (reads_in c) (column_read d w c) (pending_is c) (differing_is c) (reads_is c)
+
+  cell_small : (i : ℕ) → i < 112 → f i < 256
+  cell_small i l =
+      All-get_or IsByte m.ram i 0 (let n : length m.ram ≡ 128 = s.fine.long in omega (arith, n, l)) s.fine.ram
+
+  differing_small : (c : ℕ) → c < 12 → differing_now d w c < 256
+  differing_small c l = xor_small (f (32 + c)) (column_read d w c) (cell_small (32 + c) (omega (arith, l))) (omega arith)
+
+  edges_is : tick_edges changed_in down_in ≡ edges_now bytes d w
+  edges_is =
+      columns_same changed_in (λ c. changes_by debounce (f (96 + c)) (differing_now d w c)) down_in
+      (λ c. holds_by debounce (f (96 + c)) (differing_now d w c) (column_read d w c)) 0 12 refl (λ i l. changed_is i)
+      (λ i l. down_is i)
+      ∙ settled_edges debounce (λ c. f (96 + c)) (differing_now d w) (column_read d w)
+      (λ i l. cell_small (96 + i) (omega (arith, l))) differing_small
+
+  read_is : held_by reads_in ≡ held_by (column_read d w)
+  read_is = held_same reads_in (column_read d w) (λ c l. reads_is c)
+
+  counted : all_edges changed_in 0 12 ≡ length (edges_now bytes d w)
   counted = sym (columns_count changed_in down_in 0 12) ∙ ap length edges_is
 
   -- the time of the edges, by how many they are
-  pub by_count : edges_most changed_in ≤ 1224 + 62 * length (edges_now d w)
-  by_count = subst (λ n. edges_most changed_in ≤ 1224 + 62 * n) counted (edges_by changed_in)
+  pub columns_by : columns_most changed_in ≤ 1224 + 62 * length (edges_now bytes d w)
+  columns_by = subst (λ n. columns_most changed_in ≤ 1224 + 62 * n) counted (edges_by changed_in)
 
   -- a tick with four edges at most has its time
-  pub four : length (edges_now d w) ≤ 4 → edges_most changed_in ≤ 728
+  pub four : length (edges_now bytes d w) ≤ 4 → edges_most bytes changed_in ≤ settle_cycles (debounces bytes) + 728
   four few =
-      let count : all_edges changed_in 0 12 ≡ length (edges_now d w) = counted in
+      let count : all_edges changed_in 0 12 ≡ length (edges_now bytes d w) = counted in
+      let most : columns_most changed_in ≤ 728 =
       four_edges changed_in (λ i l.
-      let cell : f (32 + i) < 256 =
-      All-get_or IsByte m.ram (32 + i) 0 (let n : length m.ram ≡ 128 = s.fine.long in omega (arith, n, l)) s.fine.ram in
-      let byte : down_in i < 256 = omega arith in
-      subst (λ v. v < 256) (sym (ap (λ v. bit_xor v (down_in i)) (kept_on f i))) (xor_small (f (32 + i)) (down_in i) cell byte))
-      (omega (arith, count, few))
+      subst (λ v. v < 256)
+      (sym (changed_is i
+      ∙ changes_is debounce (f (96 + i)) (differing_now d w i) (cell_small (96 + i) (omega (arith, l))) (differing_small i l)))
+      (changed_small debounce (f (96 + i)) (differing_now d w i) (differing_small i l)))
+      (omega (arith, count, few)) in
+      more (settle_cycles (debounces bytes)) (columns_most changed_in) most
+    where
+      more : (k a : ℕ) → a ≤ 728 → k + a ≤ k + 728
+      more k a l = omega (arith, l)
 
   is : m ≡ entering timer f ring m
   is = start_entering m s
@@ -151,7 +199,7 @@ module _ (d : Board) (bytes : List ℕ) (hk : HasKernel bytes) (alike : IsSilent
 
   pub works : (meeting : Meeting) → IsFrameless d w meeting
       → (max : ℕ) × (max ≤ 56) × ((l : TimerState) → IsInRange l → Work d bytes hk alike small low w.cycle timer f ring m
-      w.board l meeting (231 + (max + (56 + (2 + edges_most changed_in)))) (IsAtHead l))
+      w.board l meeting (231 + (max + (56 + (2 + edges_most bytes changed_in)))) (IsAtHead l))
   works Idle (inl runs) = (
     36,
     omega arith,
@@ -191,15 +239,16 @@ module _ (d : Board) (bytes : List ℕ) (hk : HasKernel bytes) (alike : IsSilent
   -- of which G is known
   pub record Came (meeting : Meeting) (last_off : ℕ) (G : TimerState → Stage d.State → Type 0) (v : World d.State)
       : Type 0 where
-    pub started : 3 + last_off ≤ 8000 → IsAnyStart v.cpu
+    pub started : 3 + last_off ≤ 8400 → IsAnyStart v.cpu
     pub long : w.cycle + 2016 ≤ v.cycle
     pub settles : 3 + last_off ≤ 2000 → IsStarted v.cpu
     pub within : (n : ℕ) → 2054 ≤ n → 7 + last_off ≤ n → v.cycle ≤ w.cycle + n
     pub prompt : IsStarted m → 3 + last_off ≤ 2040
         → IsStarted v.cpu × (v.cycle + m.pre ≡ w.cycle + 2048 + v.cpu.pre)
     pub keyboard : shown_by v.cpu.ram
-        ≡ ticked keys meeting (layered keys.is_fn (edges_now d w) (layers_met bytes meeting m.ram)) (shown_by m.ram)
-    pub layers : layers_by v.cpu.ram ≡ all_layers_after keys.is_fn (edges_now d w) (layers_met bytes meeting m.ram)
+        ≡ ticked keys meeting (layered keys.is_fn (edges_now bytes d w) (layers_met bytes meeting m.ram)) (shown_by m.ram)
+    pub layers : layers_by v.cpu.ram ≡ all_layers_after keys.is_fn (edges_now bytes d w) (layers_met bytes meeting m.ram)
+    pub read : read_by bytes v.cpu.ram ≡ held_by (column_read d w)
     pub repeating : IsRepeating bytes v.cpu.ram
     pub passes : Passes d bytes w
     pub l : TimerState
@@ -277,6 +326,9 @@ module _ (d : Board) (bytes : List ℕ) (hk : HasKernel bytes) (alike : IsSilent
         layers =
             ap (λ (c : Cpu). layers_by c.ram) vcpu ∙ g.kbd.layers
             ∙ ap (λ es. all_layers_after keys.is_fn es (from_layers meeting)) edges_is;
+        read =
+            ap (λ (c : Cpu). read_by bytes c.ram) vcpu ∙ read_entering (debounces bytes) n.timer n.now n.ring e.cpu ∙ g.read
+            ∙ read_is;
         repeating = subst (λ (c : Cpu). IsRepeating bytes c.ram) (sym vcpu) g.kbd.pressed;
         passes = passes;
         l = g.l;
@@ -316,13 +368,14 @@ module _ (d : Board) (bytes : List ℕ) (hk : HasKernel bytes) (alike : IsSilent
       } in
       subst (λ u. Tick d TICK bytes u (Came meeting last_off G)) same done
 
-  pub frameless_tick : IsStarted m → length (edges_now d w) ≤ 4 → IsRepeating bytes m.ram → (meeting : Meeting)
+  pub frameless_tick : IsStarted m → length (edges_now bytes d w) ≤ 4 → IsRepeating bytes m.ram → (meeting : Meeting)
       → IsFrameless d w meeting → Tick d TICK bytes w (GoesOn d bytes meeting w)
   frameless_tick started few repeats meeting q =
       let a = works meeting q in
       let max : a.0 ≤ 56 = a.1 in
-      let edges : edges_most changed_in ≤ 728 = four few in
-      let last_off : ℕ = 231 + (a.0 + (56 + (2 + edges_most changed_in))) in
+      let edges : edges_most bytes changed_in ≤ settle_cycles (debounces bytes) + 728 = four few in
+      let settle : settle_cycles (debounces bytes) ≤ 322 = settle_short (debounces bytes) in
+      let last_off : ℕ = 231 + (a.0 + (56 + (2 + edges_most bytes changed_in))) in
       let t = any_tick meeting last_off (frameless_pressed d w keys meeting q repeats) IsAtHead a.2 in
       record {
         at = t.at;
@@ -330,12 +383,13 @@ module _ (d : Board) (bytes : List ℕ) (hk : HasKernel bytes) (alike : IsSilent
         step = t.step;
         rest = comes_as d TICK bytes (Came meeting last_off IsAtHead) (GoesOn d bytes meeting w) t.first
             (λ v c.
-            let p = c.prompt started (omega (arith, max, edges)) in
+            let p = c.prompt started (omega (arith, max, edges, settle)) in
             record {
               started = p.0;
               time = p.1;
               keyboard = c.keyboard;
               layers = c.layers;
+              read = c.read;
               repeating = c.repeating;
               latch = c.p2 ∙ c.facts.p2;
             })

@@ -20,14 +20,14 @@ use Rattle.kbd_model.specs.Keyboard.{Keyboard, offer}
 use Rattle.kbd_model.specs.Commands.{obeyed}
 use Rattle.kbd_model.specs.Tick.{sent_byte, met, tested_if, is_inhibited, is_scanning}
 use Rattle.kbd_model.proofs.CodesAreWhole.{IsWhole}
-use Rattle.fw_keys.specs.State.{held_by, kbd_of, layers_of, queue_of, reply_of, Inv}
+use Rattle.fw_keys.specs.State.{held_by, kbd_of, layers_of, queue_of, reply_of, debounces, Inv}
 use Rattle.fw_keys.specs.Healing.{healed, makes_reset}
-use Rattle.fw_keys.proofs.Healing.{lifted, lifted_below, lifted_layers, not_healed, xor_back}
+use Rattle.fw_keys.proofs.Healing.{lifted, lifted_below, lifted_above, lifted_layers, not_healed, xor_back}
 use Rattle.kbd_model.specs.Layers.{Layers}
 use Rattle.fw_keys.specs.Edges.{image_keys, IsSilentAlike}
 use Rattle.fw_keys.proofs.Block.{Ends, Safe}
 use Rattle.fw_keys.proofs.Blocks.{bytes_of, fine_end, from_stage, safe_at, here}
-use Rattle.fw_keys.proofs.Scan.{after, edges_most, keyed}
+use Rattle.fw_keys.proofs.Scan.{after, edges_most, keyed, changes_same, holds_same, pends_same}
 use Rattle.fw_keys.proofs.Held.{layers_same}
 use Rattle.fw_keys.proofs.Head.{head_changes, head_helds, offered_in, Headed, head_law}
 use Rattle.fw_keys.proofs.Tick.{begun, shining, headed_by}
@@ -35,7 +35,7 @@ use Rattle.fw_keys.proofs.After.{Over, tail_law}
 use Rattle.fw_keys.proofs.Sent.{sent_law}
 use Rattle.fw_keys.proofs.Command.{command_law}
 use Rattle.fw_keys.proofs.Offered.{offered_byte, first_of_law, code_law}
-use Rattle.fw_keys.proofs.Ended.{downs_now, changes_now, layers_from, lights_on, Ended, Works}
+use Rattle.fw_keys.proofs.Ended.{reads_now, pending_now, downs_now, changes_now, layers_from, lights_on, Ended, Works}
 use Rattle.fw_keys.proofs.SameCells.{same_cells, same_inv, head_keeps}
 
 module _ (d : Board) (bytes : List ℕ) (hk : HasKernel bytes) (alike : IsSilentAlike bytes) (small : All IsByte bytes)
@@ -59,7 +59,7 @@ module _ (d : Board) (bytes : List ℕ) (hk : HasKernel bytes) (alike : IsSilent
       (e : Stage d.State) : Type 0 where
     pub now : ℕ → ℕ
     pub cpu : e.cpu ≡ scratched (record lights { f1 = false; p2 = e.cpu.p2 }) to (memory now ring) e.cpu
-    pub kept : (i : ℕ) → 32 ≤ i → i < 92 → now i ≡ g i
+    pub kept : (i : ℕ) → 32 ≤ i → i < 108 → now i ≡ g i
     pub stack : (now 8 ≡ g 8) × (now 9 ≡ g 9)
     pub short : e.off ≤ max
     pub registers : R now
@@ -79,7 +79,7 @@ module _ (d : Board) (bytes : List ℕ) (hk : HasKernel bytes) (alike : IsSilent
   abbrev pub StepLaw : ℕ → ℕ → (ℕ → ℕ → (ℕ → ℕ) → Type 0) → ((ℕ → ℕ) → Keyboard → Keyboard) → ((ℕ → ℕ) → ℕ → ℕ) → Type 0
   StepLaw to most R step lifts =
       (r4 r5 x : ℕ) (m1 : Cpu) (board1 : d.State) (g : ℕ → ℕ) → offered_in r4 r5 ≡ offer (kbd_of held f ring)
-      → R r4 r5 g → ((i : ℕ) → 64 ≤ i → i < 92 → g i ≡ f i) → Inv g → Safe m1 to g ring
+      → R r4 r5 g → ((i : ℕ) → 64 ≤ i → i < 108 → g i ≡ f i) → Inv g → Safe m1 to g ring
       → Leads d (kernel_in true bytes) x (begin_at d to g ring m1 board1)
       (Ends d x m1 board1 SCAN most (Keeps held (step g) (lifts g) ring))
 
@@ -90,16 +90,17 @@ module _ (d : Board) (bytes : List ℕ) (hk : HasKernel bytes) (alike : IsSilent
       → step g (kbd_of held f ring) ≡ tested_if (not (f 69 == 0)) (met meeting (image_keys bytes) (kbd_of held f ring))
 
   -- what is lifted is no cell of the keyboard, and it makes the layers those that the edges find
-  abbrev downs : ℕ → ℕ
-  downs = downs_now d bytes hk alike small low held y m board f ring
+  abbrev reads : ℕ → ℕ
+  reads = reads_now d bytes hk alike small low held y m board f ring
 
   abbrev pub from : Meeting → Layers
   from meeting = layers_from d bytes hk alike small low held y m board f ring meeting
 
   pub record Lifts (meeting : Meeting) (lifts : (ℕ → ℕ) → ℕ → ℕ) : Type 0 where
     pub below : (g : ℕ → ℕ) (i : ℕ) → i < 78 → lifts g i ≡ g i
-    pub layers : (g : ℕ → ℕ) → ((i : ℕ) → i < 12 → g (48 + i) ≡ bit_xor (f (32 + i)) (downs i))
-        → ((i : ℕ) → i < 12 → g (32 + i) ≡ downs i) → ((i : ℕ) → 64 ≤ i → i < 92 → g i ≡ f i)
+    pub above : (g : ℕ → ℕ) (i : ℕ) → 79 ≤ i → lifts g i ≡ g i
+    pub layers : (g : ℕ → ℕ) → ((i : ℕ) → i < 12 → g (48 + i) ≡ bit_xor (f (32 + i)) (reads i))
+        → ((i : ℕ) → i < 12 → g (32 + i) ≡ reads i) → ((i : ℕ) → 64 ≤ i → i < 108 → g i ≡ f i)
         → layers_of (lifts g) ≡ from meeting
 
   module _ (meeting : Meeting) (to max most : ℕ) (F : Stage d.State → Type 0) (R : ℕ → ℕ → (ℕ → ℕ) → Type 0)
@@ -107,26 +108,23 @@ module _ (d : Board) (bytes : List ℕ) (hk : HasKernel bytes) (alike : IsSilent
       (quiet : is_inhibited meeting ≡ false) (frame : FrameLaw to max F R) (law : StepLaw to most R step lifts)
       (model : ModelLaw meeting R step) (inv : Inv f) where
     abbrev last_off : ℕ
-    last_off = 231 + (max + (most + (56 + (2 + edges_most (changes_now d bytes hk alike small low held y m board f
+    last_off = 231 + (max + (most + (56 + (2 + edges_most bytes (changes_now d bytes hk alike small low held y m board f
         ring)))))
 
     abbrev Goal : Stage d.State → Type 0
     Goal = Ended d bytes hk alike small low held y m board f ring meeting last_off F
 
-    changes : (r4 r5 : ℕ) (now : ℕ → ℕ) → ((i : ℕ) → 32 ≤ i → i < 92 → now i ≡ cells r4 r5 i) → (i : ℕ) → i < 12
-        → now (48 + i) ≡ changes_now d bytes hk alike small low held y m board f ring i
-    changes r4 r5 now kept i l = kept (48 + i) (omega arith) (omega (arith, l))
-        ∙ head_changes (downs_now d bytes hk alike small low held y m board f ring) f r4 r5 i l
+    changes : (r4 r5 : ℕ) (now : ℕ → ℕ) → ((i : ℕ) → 32 ≤ i → i < 108 → now i ≡ cells r4 r5 i) → (i : ℕ) → i < 12
+        → now (48 + i) ≡ bit_xor (f (32 + i)) (reads i)
+    changes r4 r5 now kept i l = kept (48 + i) (omega arith) (omega (arith, l)) ∙ head_changes reads f r4 r5 i l
 
-    helds : (r4 r5 : ℕ) (now : ℕ → ℕ) → ((i : ℕ) → 32 ≤ i → i < 92 → now i ≡ cells r4 r5 i) → (i : ℕ) → i < 12
-        → now (32 + i) ≡ downs_now d bytes hk alike small low held y m board f ring i
-    helds r4 r5 now kept i l = kept (32 + i) (omega arith) (omega (arith, l))
-        ∙ head_helds (downs_now d bytes hk alike small low held y m board f ring) f r4 r5 i l
+    helds : (r4 r5 : ℕ) (now : ℕ → ℕ) → ((i : ℕ) → 32 ≤ i → i < 108 → now i ≡ cells r4 r5 i) → (i : ℕ) → i < 12
+        → now (32 + i) ≡ reads i
+    helds r4 r5 now kept i l = kept (32 + i) (omega arith) (omega (arith, l)) ∙ head_helds reads f r4 r5 i l
 
-    same : (r4 r5 : ℕ) (now : ℕ → ℕ) → ((i : ℕ) → 32 ≤ i → i < 92 → now i ≡ cells r4 r5 i) → (i : ℕ) → 64 ≤ i → i < 92
+    same : (r4 r5 : ℕ) (now : ℕ → ℕ) → ((i : ℕ) → 32 ≤ i → i < 108 → now i ≡ cells r4 r5 i) → (i : ℕ) → 64 ≤ i → i < 108
         → now i ≡ f i
-    same r4 r5 now kept i l u = kept i (omega (arith, l)) u
-        ∙ head_keeps (downs_now d bytes hk alike small low held y m board f ring) f r4 r5 i (omega (arith, l))
+    same r4 r5 now kept i l u = kept i (omega (arith, l)) u ∙ head_keeps reads f r4 r5 i (omega (arith, l))
 
     from_frame : (r4 r5 : ℕ) → offered_in r4 r5 ≡ offer (kbd_of held f ring) → (e : Stage d.State)
         → Framed to max F (R r4 r5) (cells r4 r5) e → IsFree e.cpu → IsFine e.cpu
@@ -134,6 +132,8 @@ module _ (d : Board) (bytes : List ℕ) (hk : HasKernel bytes) (alike : IsSilent
     from_frame r4 r5 offers e a free fine =
         let ch = changes_now d bytes hk alike small low held y m board f ring in
         let hd = downs_now d bytes hk alike small low held y m board f ring in
+        let pd = pending_now d bytes hk alike small low held y m board f ring in
+        let b : Bool = debounces bytes in
         let n : Cpu = record lights { f1 = false; p2 = e.cpu.p2 } in
         let k : Keyboard = kbd_of held f ring in
         let keys = image_keys bytes in
@@ -149,21 +149,31 @@ module _ (d : Board) (bytes : List ℕ) (hk : HasKernel bytes) (alike : IsSilent
         safe_at d (kernel_in true bytes) (has_rows true bytes hk) small low to n now ring e.cpu a.cpu free fine in
         let on : Bool = is_scanning (step now (kbd_of held (lifts now) ring)) in
         let x : ℕ = y + 231 + e.off in
-        let tail = tail_law d bytes hk alike small low held (step now) ch hd to most x e.cpu e.board now (lifts now) ring
-        safe (λ i l. lift.below now (48 + i) (omega (arith, l)) ∙ changes r4 r5 now a.kept i l)
-        (λ i l. lift.below now (32 + i) (omega (arith, l)) ∙ helds r4 r5 now a.kept i l)
+        let differ : (i : ℕ) → i < 12 → lifts now (48 + i) ≡ bit_xor (f (32 + i)) (reads i) =
+        λ i l. lift.below now (48 + i) (omega (arith, l)) ∙ changes r4 r5 now a.kept i l in
+        let pend : (i : ℕ) → i < 12 → lifts now (96 + i) ≡ f (96 + i) =
+        λ i l. lift.above now (96 + i) (omega arith) ∙ as_was (96 + i) (omega arith) (omega (arith, l)) in
+        let tail = tail_law d bytes hk alike small low held (step now) ch hd pd to most x e.cpu e.board now (lifts now) ring
+        safe
+        (λ i l. changes_same b (lifts now (96 + i)) (f (96 + i)) (lifts now (48 + i)) (bit_xor (f (32 + i)) (reads i))
+        (pend i l) (differ i l))
+        (λ i l. holds_same b (lifts now (96 + i)) (f (96 + i)) (lifts now (48 + i)) (bit_xor (f (32 + i)) (reads i))
+        (lifts now (32 + i)) (reads i) (pend i l) (differ i l)
+        (lift.below now (32 + i) (omega (arith, l)) ∙ helds r4 r5 now a.kept i l))
+        (λ i l. pends_same b (lifts now (96 + i)) (f (96 + i)) (lifts now (48 + i)) (bit_xor (f (32 + i)) (reads i))
+        (pend i l) (differ i l))
         (law r4 r5 x e.cpu e.board now offers a.registers as_was (same_inv now f
         (λ i l u. as_was i l (omega (arith, u))) inv) safe) in
         from_stage d (kernel_in true bytes) (has_rows true bytes hk) small low (y + 231) to n now ring e
-        (Ends d x (record e.cpu { f0 = on }) e.board DONE (most + (56 + (2 + edges_most ch)))
-        (Over d bytes hk alike small low held e.cpu.f1 ch hd (step now) (lifts now) ring))
+        (Ends d x (record e.cpu { f0 = on }) e.board DONE (most + (56 + (2 + edges_most bytes ch)))
+        (Over d bytes hk alike small low held e.cpu.f1 ch hd pd (step now) (lifts now) ring))
         (λ e2. Goal (afterwards e2)) a.cpu
         (λ e2 b.
         let is : e2.cpu ≡ scratched (record lights { f0 = on; f1 = false; p2 = e.cpu.p2 }) DONE (memory b.now b.ring)
         e2.cpu =
         b.cpu ∙ ap (λ (c : Cpu). scratched (record c { f0 = on }) DONE (memory b.now b.ring) e2.cpu) a.cpu in
         let first : e.off ≤ max = a.short in
-        let second : e2.off ≤ most + (56 + (2 + edges_most ch)) = b.short in
+        let second : e2.off ≤ most + (56 + (2 + edges_most bytes ch)) = b.short in
         let at : y + 231 + e.off ≡ y + (231 + e.off) = omega arith in
         record {
           now = b.now;
@@ -184,6 +194,7 @@ module _ (d : Board) (bytes : List ℕ) (hk : HasKernel bytes) (alike : IsSilent
               (model r4 r5 now offers a.registers);
           layers = b.facts.layers ∙ ap (λ l. after keys ch hd l) layers_was;
           downs = b.facts.downs;
+          pendings = b.facts.pendings;
           inv = b.facts.inv;
           stack = (
             b.facts.stack.0 ∙ lift.below now 8 (omega arith) ∙ a.stack.0,
@@ -257,8 +268,9 @@ module _ (d : Board) (bytes : List ℕ) (hk : HasKernel bytes) (alike : IsSilent
   unlifts : (meeting : Meeting) → makes_reset meeting (kbd_of held f ring) ≡ false → Lifts meeting unlifted
   unlifts meeting none = record {
     below = λ g i l. refl;
+    above = λ g i l. refl;
     layers = λ g changes helds as_was.
-        layers_same g f (λ i l u. as_was i (omega (arith, l)) u)
+        layers_same g f (λ i l u. as_was i (omega (arith, l)) (omega (arith, u)))
         ∙ sym (not_healed bytes meeting (kbd_of held f ring) (layers_of f) none);
   }
 
@@ -266,19 +278,20 @@ module _ (d : Board) (bytes : List ℕ) (hk : HasKernel bytes) (alike : IsSilent
   sent_lifts : held ≡ held_by (λ c. f (32 + c)) → Lifts Sent (lifted bytes)
   sent_lifts held_is = record {
     below = λ g i l. lifted_below bytes g i l;
+    above = λ g i l. lifted_above bytes g i l;
     layers = λ g changes helds as_was.
         let due : g 64 ≡ f 64 = as_was 64 (omega arith) (omega arith) in
         lifted_layers bytes g (kbd_of held f ring) (f 75) (λ c. f (32 + c)) (ap (λ v. reply_of v (f 75)) (sym due)) held_is
-        (λ c l. ap (λ v. bit_xor v (g (48 + c))) (helds c l) ∙ ap (λ v. bit_xor (downs c) v) (changes c l)
-        ∙ xor_back (f (32 + c)) (downs c))
-        ∙ ap (λ l. healed bytes Sent (kbd_of held f ring) l) (layers_same g f (λ i l u. as_was i (omega (arith, l)) u));
+        (λ c l. ap (λ v. bit_xor v (g (48 + c))) (helds c l) ∙ ap (λ v. bit_xor (reads c) v) (changes c l)
+        ∙ xor_back (f (32 + c)) (reads c))
+        ∙ ap (λ l. healed bytes Sent (kbd_of held f ring) l) (layers_same g f (λ i l u. as_was i (omega (arith, l)) (omega (arith, u))));
   }
 
   -- the byte that was offered was sent
   pub sent_works : (max : ℕ) (F : Stage d.State → Type 0) → held ≡ held_by (λ c. f (32 + c)) → Inv f → (f 69 == 0) ≡ true → IsWhole (queue_of f ring)
       → FrameLaw SENT max F IsSent → Safe m 10 f ring
       → Works d bytes hk alike small low held y m board f ring Sent
-      (231 + (max + (9 + 98 + (56 + (2 + edges_most (changes_now d bytes hk alike small low held y m board f
+      (231 + (max + (9 + 98 + (56 + (2 + edges_most bytes (changes_now d bytes hk alike small low held y m board f
       ring)))))) F
   sent_works max F held_is inv no_test codes frame safe =
       framed Sent SENT max (9 + 98) F IsSent sent_step (lifted bytes) (sent_lifts held_is) refl frame (sends codes)
@@ -292,7 +305,7 @@ module _ (d : Board) (bytes : List ℕ) (hk : HasKernel bytes) (alike : IsSilent
   pub got_works : (byte : ℕ) (good : Bool) (max : ℕ) (F : Stage d.State → Type 0) → Inv f → (f 69 == 0) ≡ true
       → FrameLaw COMMAND max F (IsGot byte good) → Safe m 10 f ring
       → Works d bytes hk alike small low held y m board f ring (Got byte good)
-      (231 + (max + (68 + (56 + (2 + edges_most (changes_now d bytes hk alike small low held y m board f ring)))))) F
+      (231 + (max + (68 + (56 + (2 + edges_most bytes (changes_now d bytes hk alike small low held y m board f ring)))))) F
   got_works byte good max F inv no_test frame safe =
       framed (Got byte good) COMMAND max 68 F (IsGot byte good)
       (λ g. obeyed (image_keys bytes) (g 28) (not (g 29 == 0))) unlifted (unlifts (Got byte good) refl) refl frame
@@ -307,7 +320,7 @@ module _ (d : Board) (bytes : List ℕ) (hk : HasKernel bytes) (alike : IsSilent
   pub cut_works : (max : ℕ) (F : Stage d.State → Type 0) → Inv f → (f 69 == 0) ≡ true → FrameLaw SCAN max F IsCut
       → Safe m 10 f ring
       → Works d bytes hk alike small low held y m board f ring Cut
-      (231 + (max + (0 + (56 + (2 + edges_most (changes_now d bytes hk alike small low held y m board f ring)))))) F
+      (231 + (max + (0 + (56 + (2 + edges_most bytes (changes_now d bytes hk alike small low held y m board f ring)))))) F
   cut_works max F inv no_test frame safe =
       framed Cut SCAN max 0 F IsCut (λ g k. k) unlifted (unlifts Cut refl) refl frame
       (λ r4 r5 x m1 board1 g offers is as_was inv1 safe1.

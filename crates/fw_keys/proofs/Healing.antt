@@ -93,6 +93,10 @@ pub lifted_below : (bytes : List ℕ) (f : ℕ → ℕ) (i : ℕ) → i < 78 →
 lifted_below bytes f i l =
     let e : (i == 78) ≡ false = grind (arith, nat_tests, l) in rw e refl
 
+pub lifted_above : (bytes : List ℕ) (f : ℕ → ℕ) (i : ℕ) → 79 ≤ i → lifted bytes f i ≡ f i
+lifted_above bytes f i l =
+    let e : (i == 78) ≡ false = grind (arith, nat_tests, l) in rw e refl
+
 pub not_lifted : (bytes : List ℕ) (f : ℕ → ℕ) → bit 1 (f 64) ≡ false → (i : ℕ) → lifted bytes f i ≡ f i
 not_lifted bytes f none i =
     ap (λ b. put f 78 (if b then fn_cell (was_held bytes f) else f 78) i) none ∙ by (i == 78) refl

@@ -7,7 +7,7 @@ use Rattle.kbd_model.specs.Codes.{Keys}
 use Rattle.kbd_model.specs.Keyboard.{Keyboard}
 use Rattle.kbd_model.specs.Layers.{Layers, layered, all_layers_after}
 use Rattle.kbd_model.specs.Tick.{met, tested_if, ticked}
-use Rattle.fw_keys.specs.State.{flags, down_at, kbd_of, held_by, keyboard_of, layers_of}
+use Rattle.fw_keys.specs.State.{flags, kbd_of, held_by, keyboard_of, layers_of}
 use Rattle.fw_keys.specs.Frameless.{IsPressed, IsFrameless, shown_by, layers_by}
 use Rattle.joint_run.specs.Run.{Board, World}
 use Rattle.kbd_model.specs.declared.meeting.Meeting.TheVariants.{Idle, Inhibited, Sent, Cut, Got}
@@ -49,23 +49,22 @@ frameless_pressed d w keys Sent q h = elim q [ ]
 frameless_pressed d w keys Cut q h = elim q [ ]
 
 pub keyboard_goes : (keys : Keys) (meeting : Meeting) (from : Layers) (s : ℕ → ℕ) (ring : List ℕ) (now : ℕ → ℕ)
-    (last : List ℕ) (down : ℕ → ℕ)
+    (last : List ℕ) (changed down : ℕ → ℕ)
     → length from.pressed_in ≡ 96
     → ((i : ℕ) → i < 12 → now (32 + i) ≡ down i)
-    → kbd_of (held_by (λ c. s (32 + c))) now last ≡ keyed_tick keys meeting (λ i. bit_xor (s (32 + i)) (down i)) down
-    from (keyboard_of s ring)
-    → layers_of now ≡ all_layers_after keys.is_fn (tick_edges (λ i. bit_xor (s (32 + i)) (down i)) down) from
+    → ((i : ℕ) → i < 12 → bit_xor (s (32 + i)) (down i) ≡ changed i)
+    → kbd_of (held_by (λ c. s (32 + c))) now last ≡ keyed_tick keys meeting changed down from (keyboard_of s ring)
+    → layers_of now ≡ all_layers_after keys.is_fn (tick_edges changed down) from
     → IsPressedAt keys meeting from (keyboard_of s ring)
-    → Gone keys meeting (λ i. bit_xor (s (32 + i)) (down i)) down from s ring now last
-keyboard_goes keys meeting from s ring now last down long downs is layers pressed =
-    let changed : ℕ → ℕ = λ i. bit_xor (s (32 + i)) (down i) in
+    → Gone keys meeting changed down from s ring now last
+keyboard_goes keys meeting from s ring now last changed down long downs changes is layers pressed =
     let es : List (ℕ × Bool) = tick_edges changed down in
     let held : List Bool = held_by (λ c. s (32 + c)) in
     let k : Keyboard = keyboard_of s ring in
     let t = ticked_is keys meeting changed down from k long pressed in
     let goes : keyboard_of now last ≡ ticked keys meeting (layered keys.is_fn es from) k =
     ap (λ h. kbd_of h now last) (held_same (λ c. now (32 + c)) down downs)
-    ∙ ap (λ h. kbd_of h now last) (sym (held_turns (λ c. s (32 + c)) down changed (λ i l. refl)))
+    ∙ ap (λ h. kbd_of h now last) (sym (held_turns (λ c. s (32 + c)) down changed changes))
     ∙ ap (λ (k : Keyboard). record k { held = turned_all es k.held }) is
     ∙ sym t.is in
     record {

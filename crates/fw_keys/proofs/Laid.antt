@@ -11,6 +11,12 @@ laid f bytes i = if nat_lt i 80 then f i else if nat_lt i 92 then bytes (i - 80)
 pub laid_low : (f bytes : ℕ → ℕ) (i : ℕ) → i < 80 → laid f bytes i ≡ f i
 laid_low f bytes i l = let e : nat_lt i 80 ≡ true = grind (arith, nat_tests, l) in rw e refl
 
+pub laid_high : (f bytes : ℕ → ℕ) (i : ℕ) → 92 ≤ i → laid f bytes i ≡ f i
+laid_high f bytes i l =
+    let a : nat_lt i 80 ≡ false = grind (arith, nat_tests, l) in
+    let b : nat_lt i 92 ≡ false = grind (arith, nat_tests, l) in
+    rw (a, b) refl
+
 pub laid_at : (f bytes : ℕ → ℕ) (c : ℕ) → c < 12 → laid f bytes (80 + c) ≡ bytes c
 laid_at f bytes c l =
     let a : nat_lt (80 + c) 80 ≡ false = (let n : 80 ≤ 80 + c = omega arith in grind (arith, nat_tests, n)) in

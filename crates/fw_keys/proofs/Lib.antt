@@ -20,6 +20,7 @@ pub mod Healing
 pub mod Renewing
 pub mod Sent
 pub mod AnyReset
+pub mod Settle
 pub mod Scan
 pub mod Testing
 pub mod Ready
@@ -33,6 +34,7 @@ pub mod Held
 pub mod Ended
 pub mod Frames
 pub mod Keyboard
+pub mod Settled
 pub mod Serve
 pub mod FramelessTick
 pub mod PowerOn

@@ -61,13 +61,14 @@ pub record AfterEdge (held : List Bool) (step : Deck → Deck) (a : ℕ) (f : �
   pub r4 : p.r4 ≡ a
   pub r6 : p.r6 ≡ f 30
 
--- a block that does a step of the model, keeps that, and leaves what the columns showed and the service's way back
+-- a block that does a step of the model, keeps that, and leaves what the columns showed, the layers, what is pending, and
+-- the service's way back
 pub record Keeps (held : List Bool) (step : Keyboard → Keyboard) (f : ℕ → ℕ) (ring : List ℕ) (acc : ℕ)
     (g : ℕ → ℕ) (r : List ℕ) : Type 0 where
   pub kbd : kbd_of held g r ≡ step (kbd_of held f ring)
   pub inv : Inv g
   pub cells : (i : ℕ) → 32 ≤ i → i < 60 → g i ≡ f i
-  pub layers : (i : ℕ) → 78 ≤ i → i < 92 → g i ≡ f i
+  pub layers : (i : ℕ) → 78 ≤ i → i < 108 → g i ≡ f i
   pub stack : (g 8 ≡ f 8) × (g 9 ≡ f 9)
 
 -- what holds between blocks is a matter of these cells

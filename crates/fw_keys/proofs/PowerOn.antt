@@ -1,5 +1,5 @@
 -- From power-on, or from any state at 000, to the first tick start.
-use Rattle.std.proofs.Common.{◌≡◌, ◌≤◌, ◌<◌, ℕ, ◌+◌, true, false, List, All, refl, inl, ap, sym, subst, arith}
+use Rattle.std.proofs.Common.{◌≡◌, ◌≤◌, ◌<◌, ℕ, ◌+◌, Bool, true, false, List, All, refl, inl, ap, sym, ◌∙◌, subst, arith}
 use Rattle.mcs48_core.specs.Cpu.{Cpu}
 use Rattle.mcs48_core.specs.Reset.{reset_in}
 use Rattle.mcs48_core.specs.Step.{takes_timer}
@@ -14,8 +14,16 @@ use Rattle.fw_logic.proofs.Service.{begun}
 use Rattle.fw_logic.proofs.Laws.{comes_as}
 use Rattle.fw_logic.proofs.Restarting.{restarts}
 use Rattle.fw_logic.proofs.Starting.{IsFirst, first_start, powered, empty_ring, reset_by}
-use Rattle.fw_keys.specs.Frameless.{IsStarted, FromPowerOn, shown_by, layers_by}
+use Rattle.board_terms.specs.Matrix.{all_up}
+use Rattle.fw_keys.specs.State.{debounces, read_of}
+use Rattle.fw_keys.specs.Frameless.{IsStarted, FromPowerOn, cells_in, shown_by, layers_by, read_by}
 use Rattle.fw_keys.proofs.Begun.{started_is}
+
+-- cleared memory shows no key
+read_none : (b : Bool) (late : ℕ) (tf last : Bool) (bytes : List ℕ) (m : Cpu)
+    → read_of b (cells_in (begun late tf last (powered bytes) empty_ring m).ram) ≡ all_up
+read_none false late tf last bytes m = refl
+read_none true late tf last bytes m = refl
 
 module _ (d : Board) (bytes : List ℕ) (small : All IsByte bytes)
     (low : (p1 p2 c : ℕ) (s : d.State) → (d.pins p1 p2 c s).bus < 256) (board : d.State) (from : World d.State)
@@ -47,6 +55,7 @@ module _ (d : Board) (bytes : List ℕ) (small : All IsByte bytes)
                 }));
             keyboard = ap (λ (c : Cpu). shown_by c.ram) cpu;
             layers = ap (λ (c : Cpu). layers_by c.ram) cpu;
+            read = ap (λ (c : Cpu). read_by bytes c.ram) cpu ∙ read_none (debounces bytes) a.late a.tf a.last bytes (record (reset_by a.base) { a = 142 });
             latch = ap (λ (c : Cpu). c.p2) cpu;
           },
         );

@@ -26,7 +26,7 @@ use Rattle.fw_logic.proofs.Returning.{IsOver, Next}
 use Rattle.fw_logic.proofs.Serves.{work_cpu, work_at, serves}
 use Rattle.kbd_model.specs.declared.meeting.Meeting.{Meeting}
 use Rattle.fw_keys.proofs.Patch.{still}
-use Rattle.fw_keys.specs.State.{down_at, held_by, keyboard_of, Inv, layers_of}
+use Rattle.fw_keys.specs.State.{down_at, held_by, keyboard_of, Inv, layers_of, debounces, read_of}
 use Rattle.fw_keys.specs.Edges.{image_keys, IsSilentAlike}
 use Rattle.fw_keys.specs.Healing.{healed}
 use Rattle.fw_keys.proofs.Healing.{pressed_healed}
@@ -34,7 +34,9 @@ use Rattle.kbd_model.specs.Layers.{Layers}
 use Rattle.fw_keys.proofs.Block.{Safe}
 use Rattle.fw_keys.proofs.Rows.{marks}
 use Rattle.fw_keys.proofs.Step5.{changed_columns, all_edges}
-use Rattle.fw_keys.proofs.Scan.{edges_most}
+use Rattle.fw_keys.proofs.Scan.{columns_most}
+use Rattle.fw_keys.proofs.Settle.{changes_by, holds_by, pends_by}
+use Rattle.fw_keys.proofs.Settled.{held_changes, read_after}
 use Rattle.fw_keys.proofs.Head.{shown}
 use Rattle.fw_keys.proofs.Ended.{Ended, Works}
 use Rattle.fw_keys.proofs.Held.{layers_same}
@@ -86,30 +88,30 @@ edges_all ch c (suc n) = eight_more (marks 0 8 (ch c)) (all_edges ch (suc c) n) 
     eight_more : (a b k : ℕ) → a ≤ 8 → b ≤ 8 * k → a + b ≤ 8 * suc k
     eight_more a b k h g = omega (arith, h, g)
 
-columns_most : (ch : ℕ → ℕ) (c n : ℕ) → c + n ≡ 12 → ((i : ℕ) → i < 12 → ch i < 256)
+columns_few : (ch : ℕ → ℕ) (c n : ℕ) → c + n ≡ 12 → ((i : ℕ) → i < 12 → ch i < 256)
     → changed_columns ch c n ≤ all_edges ch c n
-columns_most ch c zero sum l = omega arith
-columns_most ch c (suc n) sum l =
+columns_few ch c zero sum l = omega arith
+columns_few ch c (suc n) sum l =
     plus (if ch c == 0 then 0 else 1) (changed_columns ch (suc c) n) (marks 0 8 (ch c)) (all_edges ch (suc c) n)
     (one_column (ch c) (l c (omega (arith, sum))) (ch c == 0) refl)
-    (columns_most ch (suc c) n (omega (arith, sum)) l)
+    (columns_few ch (suc c) n (omega (arith, sum)) l)
 
 -- and with any edges the columns and their rows are all that there are
-pub any_edges : (ch : ℕ → ℕ) → edges_most ch ≤ 7176
+pub any_edges : (ch : ℕ → ℕ) → columns_most ch ≤ 7176
 any_edges ch = by (changed_columns ch 0 12) (all_edges ch 0 12) (columns_all ch 0 12) (edges_all ch 0 12)
   where
     by : (m e : ℕ) → m ≤ 12 → e ≤ 8 * 12 → 9 * 12 + 93 * m + 62 * e ≤ 7176
     by m e h g = omega (arith, h, g)
 
 -- by how many they are
-pub edges_by : (ch : ℕ → ℕ) → edges_most ch ≤ 1224 + 62 * all_edges ch 0 12
+pub edges_by : (ch : ℕ → ℕ) → columns_most ch ≤ 1224 + 62 * all_edges ch 0 12
 edges_by ch = by (changed_columns ch 0 12) (all_edges ch 0 12) (columns_all ch 0 12)
   where
     by : (m e : ℕ) → m ≤ 12 → 9 * 12 + 93 * m + 62 * e ≤ 1224 + 62 * e
     by m e h = omega (arith, h)
 
-pub four_edges : (ch : ℕ → ℕ) → ((i : ℕ) → i < 12 → ch i < 256) → all_edges ch 0 12 ≤ 4 → edges_most ch ≤ 728
-four_edges ch l few = sum (changed_columns ch 0 12) (all_edges ch 0 12) (columns_most ch 0 12 refl l) few
+pub four_edges : (ch : ℕ → ℕ) → ((i : ℕ) → i < 12 → ch i < 256) → all_edges ch 0 12 ≤ 4 → columns_most ch ≤ 728
+four_edges ch l few = sum (changed_columns ch 0 12) (all_edges ch 0 12) (columns_few ch 0 12 refl l) few
   where
     sum : (m e : ℕ) → m ≤ e → e ≤ 4 → 9 * 12 + 93 * m + 62 * e ≤ 728
     sum m e h g = omega (arith, h, g)
@@ -120,7 +122,7 @@ kept_on f c =
     let b : (32 + c == 8) ≡ false = grind (arith, nat_tests) in
     put_other (put f 8 252) 9 16 (32 + c) a ∙ put_other f 8 252 (32 + c) b
 
-stacked_at : (f : ℕ → ℕ) (i : ℕ) → 78 ≤ i → stacked f i ≡ f i
+pub stacked_at : (f : ℕ → ℕ) (i : ℕ) → 78 ≤ i → stacked f i ≡ f i
 stacked_at f i l =
     let a : (i == 9) ≡ false = grind (arith, nat_tests, l) in
     let b : (i == 8) ≡ false = grind (arith, nat_tests, l) in
@@ -139,12 +141,22 @@ module _ (d : Board) (bytes : List ℕ) (hk : HasKernel bytes) (alike : IsSilent
   abbrev pub first_board : d.State
   first_board = after_cycles 3 x (d.cycle m.p2) board
 
-  -- the keys that are down as each column is read, and what differs from the tick before
+  -- the keys that are down as each column is read, and what differs from what is held
+  abbrev pub reads : ℕ → ℕ
+  reads = shown d (x + 3) m.p2 first_board
+
+  abbrev pub differing : ℕ → ℕ
+  differing i = bit_xor (stacked f (32 + i)) (reads i)
+
+  -- what is held then, what changed, and what is pending
   abbrev pub down : ℕ → ℕ
-  down = shown d (x + 3) m.p2 first_board
+  down i = holds_by (debounces bytes) (stacked f (96 + i)) (differing i) (reads i)
 
   abbrev pub changed : ℕ → ℕ
-  changed i = bit_xor (stacked f (32 + i)) (down i)
+  changed i = changes_by (debounces bytes) (stacked f (96 + i)) (differing i)
+
+  abbrev pub pending : ℕ → ℕ
+  pending i = pends_by (debounces bytes) (stacked f (96 + i)) (differing i)
 
   abbrev pub held : List Bool
   held = held_by (λ c. stacked f (32 + c))
@@ -166,7 +178,7 @@ module _ (d : Board) (bytes : List ℕ) (hk : HasKernel bytes) (alike : IsSilent
     pub from : Stage d.State
     pub n : ℕ
     pub kbd : Gone (image_keys bytes) meeting changed down (found meeting) (stacked f) ring (stacked now) ring'
-    pub downs : (i : ℕ) → i < 12 → now (32 + i) ≡ down i
+    pub read : read_of (debounces bytes) (stacked now) ≡ held_by reads
     pub inv : Inv (stacked now)
     pub stack : (now 8 ≡ WAIT) × (now 9 ≡ 16)
     pub fine : IsFine e.cpu
@@ -221,11 +233,14 @@ module _ (d : Board) (bytes : List ℕ) (hk : HasKernel bytes) (alike : IsSilent
             from = b.from;
             n = b.n;
             kbd =
-                keyboard_goes (image_keys bytes) meeting (found meeting) (stacked f) ring (stacked b.now) b.last down
-                (flags_long (down_at (λ c. stacked f (80 + c))) 96) (λ i l. kept_on b.now i ∙ b.downs i l) b.kbd
+                keyboard_goes (image_keys bytes) meeting (found meeting) (stacked f) ring (stacked b.now) b.last changed down
+                (flags_long (down_at (λ c. stacked f (80 + c))) 96) (λ i l. kept_on b.now i ∙ b.downs i l)
+                (λ i l. held_changes (debounces bytes) (stacked f (96 + i)) (stacked f (32 + i)) (reads i)) b.kbd
                 (layers_same (stacked b.now) b.now (λ i l u. stacked_at b.now i l) ∙ b.layers)
                 (pressed_healed bytes meeting (layers_of (stacked f)) (keyboard_of (stacked f) ring) pressed);
-            downs = b.downs;
+            read = read_after (debounces bytes) (stacked b.now) (λ i. stacked f (96 + i)) differing reads
+                (λ i l. kept_on b.now i ∙ b.downs i l)
+                (λ i l. stacked_at b.now (96 + i) (omega arith) ∙ b.pendings i l);
             inv = still (refl, refl, refl, refl, refl) b.inv;
             stack = b.stack;
             fine = bf.1;

@@ -2,7 +2,8 @@
 use Rattle.fw_keys.proofs.Patch.{Keeps, still}
 use Rattle.fw_keys.proofs.Head.{board_lit, headed, head_changes, head_helds, offered_in, look, started, shone, Headed}
 use Rattle.fw_keys.proofs.Head.{head_law}
-use Rattle.fw_keys.proofs.Scan.{after, keyed, Scanned, scan_law, edges_most}
+use Rattle.fw_keys.proofs.Scan.{after, keyed, Scanned, scan_law, edges_most, changes_same, holds_same, pends_same}
+use Rattle.fw_keys.proofs.Settle.{changes_by, holds_by, pends_by}
 use Rattle.fw_logic.proofs.Path.{Fork, Go, Stage, Until}
 use Rattle.std.proofs.Common.{◌≡◌, ◌≤◌, ◌<◌, ℕ, ◌+◌, ◌-◌, ◌%◌, List, [], ◌∷◌, All, Bool, true, false, not, ◌==◌}
 use Rattle.std.proofs.Common.{bit_xor, refl, ap, sym, ◌∙◌, subst, arith, None}
@@ -10,7 +11,7 @@ use Rattle.mcs48_core.specs.Cpu.{Cpu}
 use Rattle.mcs48_core.specs.declared.levels.Pins.{Pins}
 use Rattle.fw_keys.proofs.Blocks.{leaf, recast, bytes_of, from_stage, safe_at, fine_end, seq_f0}
 use Rattle.fw_logic.proofs.Sound.{weaken, chain}
-use Rattle.fw_keys.proofs.ColumnCells.{spread, kept_helds}
+use Rattle.fw_keys.proofs.ColumnCells.{spread, kept_helds, kept_pendings}
 use Rattle.fw_keys.proofs.Held.{layers_same}
 use Rattle.fw_keys.proofs.SameCells.{head_keeps}
 use Rattle.fw_keys.proofs.Offered.{unoffered}
@@ -20,7 +21,7 @@ use Rattle.fw_kernel.specs.Places.{HasKernel}
 use Rattle.fw_kernel.specs.declared.labels.TheConstants.{DONE, SCAN, TESTED}
 use Rattle.fw_keys.proofs.Block.{Ends, Safe}
 use Rattle.fw_keys.specs.Edges.{image_keys, IsSilentAlike}
-use Rattle.fw_keys.specs.State.{Inv, kbd_of, layers_of}
+use Rattle.fw_keys.specs.State.{Inv, kbd_of, layers_of, debounces}
 use Rattle.fw_logic.proofs.Block.{begin_at, memory, put, scratched}
 use Rattle.fw_logic.proofs.Kernel.{kernel_in}
 use Rattle.fw_logic.proofs.Leads.{Leads}
@@ -37,11 +38,22 @@ use Rattle.fw_keys.proofs.KeyedTick.{passed, keyed_tick, below_cells, counted_ce
 module _ (d : Board) (bytes : List ℕ) (hk : HasKernel bytes) (alike : IsSilentAlike bytes) (small : All IsByte bytes)
     (low : (p1 p2 c : ℕ) (s : d.State) → (d.pins p1 p2 c s).bus < 256) (held : List Bool) where
   module _ (y : ℕ) (m : Cpu) (board : d.State) (f : ℕ → ℕ) (ring : List ℕ) where
+    -- what the columns show, and where it isn't what is held
+    abbrev pub reads : ℕ → ℕ
+    reads = look d bytes hk small low held y m board f ring
+
+    abbrev pub differing : ℕ → ℕ
+    differing i = bit_xor (f (32 + i)) (reads i)
+
+    -- what is held then, what changed, and what is pending
     abbrev pub down : ℕ → ℕ
-    down = look d bytes hk small low held y m board f ring
+    down i = holds_by (debounces bytes) (f (96 + i)) (differing i) (reads i)
 
     abbrev pub changed : ℕ → ℕ
-    changed i = bit_xor (f (32 + i)) (down i)
+    changed i = changes_by (debounces bytes) (f (96 + i)) (differing i)
+
+    abbrev pub pending : ℕ → ℕ
+    pending i = pends_by (debounces bytes) (f (96 + i)) (differing i)
 
     abbrev pub begun : Stage d.State
     begun = started d bytes hk small low held y m board f ring
@@ -53,7 +65,7 @@ module _ (d : Board) (bytes : List ℕ) (hk : HasKernel bytes) (alike : IsSilent
     shining = board_lit d bytes hk small low held y m board f ring
 
     abbrev pub headed_by : ℕ → ℕ → ℕ → ℕ
-    headed_by r4 r5 = headed down f r4 r5
+    headed_by r4 r5 = headed reads f r4 r5
 
     -- the end of a tick
     pub record Ticked (inhibited : Bool) (max : ℕ) (step : Keyboard → Keyboard) (e : Stage d.State) : Type 0 where
@@ -63,12 +75,13 @@ module _ (d : Board) (bytes : List ℕ) (hk : HasKernel bytes) (alike : IsSilent
       pub cpu : e.cpu ≡ scratched (record lit { f0 = is_scanning (step (kbd_of held f ring)); f1 = inhibited }) DONE
           (memory now last) e.cpu
       pub off : e.off ≡ 231 + used
-      pub short : used ≤ max + (56 + (2 + edges_most changed))
+      pub short : used ≤ max + (56 + (2 + edges_most bytes changed))
       pub board_now : e.board ≡ after_cycles used (y + 231) (d.cycle (255 - f LIGHTS)) shining
       pub kbd : kbd_of held now last ≡ keyed (image_keys bytes) inhibited changed down (layers_of f)
           (step (kbd_of held f ring))
       pub layers : layers_of now ≡ after (image_keys bytes) changed down (layers_of f)
       pub downs : (i : ℕ) → i < 12 → now (32 + i) ≡ down i
+      pub pendings : (i : ℕ) → i < 12 → now (96 + i) ≡ pending i
       pub inv : Inv now
       pub stack : (now 8 ≡ f 8) × (now 9 ≡ f 9)
 
@@ -86,63 +99,79 @@ module _ (d : Board) (bytes : List ℕ) (hk : HasKernel bytes) (alike : IsSilent
         (kbd_of held g r ≡ keyed (image_keys bytes) inhibited changed down (layers_of f) (step (kbd_of held f ring)))
         × ((i : ℕ) → i < 12 → g (32 + i) ≡ down i) × Inv g × (g 8 ≡ f 8) × (g 9 ≡ f 9)
         × (layers_of g ≡ after (image_keys bytes) changed down (layers_of f))
+        × ((i : ℕ) → i < 12 → g (96 + i) ≡ pending i)
 
     rest : (inhibited : Bool) (max : ℕ) (step : Keyboard → Keyboard) → Way inhibited max step
         → (m' : Cpu) (board' : d.State) (r4 r5 : ℕ) → m' ≡ scratched lit TESTED (memory (headed_by r4 r5) ring) m'
         → board' ≡ shining → offered_in r4 r5 ≡ offer (kbd_of held f ring) → Safe m' TESTED (headed_by r4 r5) ring
         → Leads d (kernel_in true bytes) (y + 231) (begin_at d TESTED (headed_by r4 r5) ring m' board')
         (Ends d (y + 231) (record m' { f0 = is_scanning (step (kbd_of held f ring)); f1 = inhibited }) board' DONE
-        (max + (56 + (2 + edges_most changed))) (Shows inhibited step))
+        (max + (56 + (2 + edges_most bytes changed))) (Shows inhibited step))
     rest inhibited max step way m' board' r4 r5 is where_board offers safe =
         let g0 : ℕ → ℕ = headed_by r4 r5 in
         let on : Bool = is_scanning (step (kbd_of held f ring)) in
+        let b : Bool = debounces bytes in
         seq_f0 d (kernel_in true bytes) (has_rows true bytes hk) small low on (y + 231) (record m' { f1 = inhibited })
-        board' SCAN max DONE (56 + (2 + edges_most changed)) (Keeps held step g0 ring) (Shows inhibited step)
+        board' SCAN max DONE (56 + (2 + edges_most bytes changed)) (Keeps held step g0 ring) (Shows inhibited step)
         (begin_at d TESTED g0 ring m' board') safe.1
         (way m' board' r4 r5 is where_board offers safe)
         (λ x1 m1 board1 g r same1 q safe1.
         let flag : is_scanning (kbd_of held g r) ≡ on = ap is_scanning q.kbd in
         let inh : m1.f1 ≡ inhibited = ap (λ k. k.f1) same1 in
         let h : Leads d (kernel_in true bytes) x1 (begin_at d SCAN g r m1 board1)
-        (Ends d x1 (record m1 { f0 = is_scanning (kbd_of held g r) }) board1 DONE (56 + (2 + edges_most changed))
-        (Scanned d bytes hk alike small low held m1.f1 changed down g r)) =
-        scan_law d bytes hk alike small low held changed down x1 m1 board1 g r q.inv.most q.inv.fn safe1
-        (λ i l. q.cells (48 + i) (omega arith) (omega (arith, l)) ∙ head_changes down f r4 r5 i l)
-        (λ i l. q.cells (32 + i) (omega arith) (omega (arith, l)) ∙ head_helds down f r4 r5 i l) in
+        (Ends d x1 (record m1 { f0 = is_scanning (kbd_of held g r) }) board1 DONE (56 + (2 + edges_most bytes changed))
+        (Scanned d bytes hk alike small low held m1.f1 changed down pending g r)) =
+        scan_law d bytes hk alike small low held changed down pending x1 m1 board1 g r q.inv.most q.inv.fn safe1
+        (λ i l. changes_same b (g (96 + i)) (f (96 + i)) (g (48 + i)) (differing i) (was_pending g q.layers i l)
+        (differs g q.cells i l))
+        (λ i l. holds_same b (g (96 + i)) (f (96 + i)) (g (48 + i)) (differing i) (g (32 + i)) (reads i)
+        (was_pending g q.layers i l) (differs g q.cells i l)
+        (q.cells (32 + i) (omega arith) (omega (arith, l)) ∙ head_helds reads f r4 r5 i l))
+        (λ i l. pends_same b (g (96 + i)) (f (96 + i)) (g (48 + i)) (differing i) (was_pending g q.layers i l)
+        (differs g q.cells i l)) in
         subst (λ b. Leads d (kernel_in true bytes) x1 (begin_at d SCAN g r m1 board1)
-        (Ends d x1 (record m1 { f0 = b }) board1 DONE (56 + (2 + edges_most changed)) (Shows inhibited step))) flag
+        (Ends d x1 (record m1 { f0 = b }) board1 DONE (56 + (2 + edges_most bytes changed)) (Shows inhibited step))) flag
         (recast d (kernel_in true bytes) (has_rows true bytes hk) small low x1
-        (record m1 { f0 = is_scanning (kbd_of held g r) }) board1 DONE (56 + (2 + edges_most changed))
-        (56 + (2 + edges_most changed)) (Scanned d bytes hk alike small low held m1.f1 changed down g r)
+        (record m1 { f0 = is_scanning (kbd_of held g r) }) board1 DONE (56 + (2 + edges_most bytes changed))
+        (56 + (2 + edges_most bytes changed)) (Scanned d bytes hk alike small low held m1.f1 changed down pending g r)
         (Shows inhibited step) (begin_at d SCAN g r m1 board1) (omega arith)
         (λ a g2 rg s. record {
-          cells = spread g s.w;
+          cells = spread s.h s.w;
           same = ap (λ t. memory t rg) s.now;
           facts = (
             s.kbd ∙ ap (λ b. keyed (image_keys bytes) b changed down (layers_of g) (kbd_of held g r)) inh
                 ∙ ap (λ l. keyed (image_keys bytes) inhibited changed down l (kbd_of held g r)) (layers_kept g q.layers)
                 ∙ ap (λ k. keyed (image_keys bytes) inhibited changed down (layers_of f) k) q.kbd,
-            (λ i l. kept_helds g s.w i l
-                ∙ q.cells (32 + i) (omega arith) (omega (arith, l)) ∙ head_helds down f r4 r5 i l),
+            (λ i l. kept_helds s.h s.w i l ∙ s.helds i l),
             record {
               most = s.most;
-              started = q.inv.started;
-              some = (let u : g 68 ≤ g 66 % 128 = q.inv.some in let v : g 66 % 128 ≤ s.w.p.count % 128 = s.more in omega
-                  (arith, u, v));
-              mode = q.inv.mode;
-              lamps = q.inv.lamps;
+              started = rw s.others.0 q.inv.started;
+              some = (let u : g 68 ≤ g 66 % 128 = q.inv.some in let v : g 66 % 128 ≤ s.w.p.count % 128 = s.more in
+                  let e : s.h 68 ≡ g 68 = s.others.0 in omega (arith, u, v, e));
+              mode = rw s.others.1 q.inv.mode;
+              lamps = rw s.others.2 q.inv.lamps;
               fn = s.cell;
             },
-            q.stack.0,
-            q.stack.1,
+            s.stack.0 ∙ q.stack.0,
+            s.stack.1 ∙ q.stack.1,
             s.layers ∙ ap (λ l. after (image_keys bytes) changed down l) (layers_kept g q.layers),
+            (λ i l. kept_pendings s.h s.w i l ∙ s.pendings i l),
           );
         })
         h))
       where
-        layers_kept : (g : ℕ → ℕ) → ((i : ℕ) → 78 ≤ i → i < 92 → g i ≡ headed_by r4 r5 i) → layers_of g ≡ layers_of f
+        layers_kept : (g : ℕ → ℕ) → ((i : ℕ) → 78 ≤ i → i < 108 → g i ≡ headed_by r4 r5 i) → layers_of g ≡ layers_of f
         layers_kept g e =
-            layers_same g f (λ i l u. e i l u ∙ head_keeps down f r4 r5 i (omega (arith, l)))
+            layers_same g f (λ i l u. e i l (omega (arith, u)) ∙ head_keeps reads f r4 r5 i (omega (arith, l)))
+
+        was_pending : (g : ℕ → ℕ) → ((i : ℕ) → 78 ≤ i → i < 108 → g i ≡ headed_by r4 r5 i) → (i : ℕ) → i < 12
+            → g (96 + i) ≡ f (96 + i)
+        was_pending g e i l =
+            e (96 + i) (omega arith) (omega (arith, l)) ∙ head_keeps reads f r4 r5 (96 + i) (omega arith)
+
+        differs : (g : ℕ → ℕ) → ((i : ℕ) → 32 ≤ i → i < 60 → g i ≡ headed_by r4 r5 i) → (i : ℕ) → i < 12
+            → g (48 + i) ≡ differing i
+        differs g e i l = e (48 + i) (omega arith) (omega (arith, l)) ∙ head_changes reads f r4 r5 i l
 
     pub tick_by : (inhibited : Bool) (max : ℕ) (step : Keyboard → Keyboard) → Way inhibited max step → Safe m 10 f ring
         → Leads d (kernel_in true bytes) y begun (Ticked inhibited max step)
@@ -158,7 +187,7 @@ module _ (d : Board) (bytes : List ℕ) (hk : HasKernel bytes) (alike : IsSilent
         let g0 : ℕ → ℕ = headed_by a.r4 a.r5 in
         let T : ℕ → Stage d.State → Type 0 =
         λ y. Ends d y (record e.cpu { f0 = is_scanning (step (kbd_of held f ring)); f1 = inhibited }) e.board DONE
-        (max + (56 + (2 + edges_most changed))) (Shows inhibited step) in
+        (max + (56 + (2 + edges_most bytes changed))) (Shows inhibited step) in
         let at : y + 231 ≡ y + e.off = ap (λ o. y + o) (sym a.off) in
         from_stage d (kernel_in true bytes) (has_rows true bytes hk) small low y TESTED lit g0 ring e (T (y + 231))
         (Ticked inhibited max step) a.cpu
@@ -178,6 +207,7 @@ module _ (d : Board) (bytes : List ℕ) (hk : HasKernel bytes) (alike : IsSilent
           inv = b.facts.2;
           stack = (b.facts.3, b.facts.4);
           layers = b.facts.5;
+          pendings = b.facts.6;
         })
         (subst (λ z. Leads d (kernel_in true bytes) z (begin_at d TESTED g0 ring e.cpu e.board) (T (y + 231))) at
         (rest inhibited max step way e.cpu e.board a.r4 a.r5 a.cpu a.board_now a.offers

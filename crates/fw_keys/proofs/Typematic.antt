@@ -11,7 +11,7 @@ use Rattle.fw_keys.proofs.Enter.{Entered}
 use Rattle.fw_keys.proofs.Enter2.{again}
 use Rattle.fw_keys.proofs.Patch.{self}
 use Rattle.fw_kernel.specs.Places.{HasKernel, is_table}
-use Rattle.fw_kernel.specs.declared.labels.TheConstants.{AGAIN, EDGES, REPEAT, SCAN}
+use Rattle.fw_kernel.specs.declared.labels.TheConstants.{AGAIN, SETTLE, REPEAT, SCAN}
 use Rattle.fw_keys.proofs.Block.{Ends, Safe}
 use Rattle.fw_keys.proofs.Patch.{Patch, Stepped, over}
 use Rattle.fw_keys.specs.Edges.{image_keys}
@@ -104,31 +104,31 @@ module _ (d : Board) (bytes : List ℕ) (hk : HasKernel bytes) (small : All IsBy
   abbrev RepeatLaw : ℕ → Cpu → (ℕ → ℕ) → List ℕ → d.State → Bool → Type 0
   RepeatLaw x m f ring board inhibited =
       Leads d (kernel_in true bytes) x (begin_at d REPEAT f ring m board)
-      (Ends d x m board EDGES 45 (AfterStep (repeated (repeat_of (f 74) (f 72)) (image_keys bytes) inhibited) f ring))
+      (Ends d x m board SETTLE 45 (AfterStep (repeated (repeat_of (f 74) (f 72)) (image_keys bytes) inhibited) f ring))
 
   repeat_by : (b0 b1 b2 : Bool) (x : ℕ) (m : Cpu) (board : d.State) (f : ℕ → ℕ) (ring : List ℕ) → f 66 % 128 ≤ 16
       → Safe m REPEAT f ring → (f 74 == 0) ≡ b0 → (f 74 == 1) ≡ b1 → m.f1 ≡ b2 → RepeatLaw x m f ring board b2
   repeat_by true b1 b2 x m board f ring most safe e0 e1 e2 =
       let p : Patch = record (self f) { r1 = 74 } in
-      relax d (kernel_in true bytes) (has_rows true bytes hk) small low x m board EDGES 7 45
+      relax d (kernel_in true bytes) (has_rows true bytes hk) small low x m board SETTLE 7 45
       (AfterStep (repeated (repeat_of (f 74) (f 72)) (image_keys bytes) b2) f ring)
       (AfterStep (repeated (repeat_of (f 74) (f 72)) (image_keys bytes) b2) f ring) (begin_at d REPEAT f ring m board)
       (omega arith) (λ a g rg h. h)
       (leaf d (kernel_in true bytes) (has_rows true bytes hk) small low
       (AfterStep (repeated (repeat_of (f 74) (f 72)) (image_keys bytes) b2) f ring)
-      (Until 620 ∷ Go true ∷ Until EDGES ∷ []) REPEAT EDGES 7 (over f p) ring x m m board f ring safe.0
+      (Until 620 ∷ Go true ∷ Until SETTLE ∷ []) REPEAT SETTLE 7 (over f p) ring x m m board f ring safe.0
       (λ a. record { p = p; is = record { now = refl; kbd = rw e0 refl; most = most; more = omega arith } })
       (e0, (refl, refl, refl)))
   repeat_by false false b2 x m board f ring most safe e0 e1 e2 =
       let h = bytes_of m REPEAT f ring safe in
       let p : Patch = record (self f) { r1 = 74; left = (f 74 + 255) % 256 } in
-      relax d (kernel_in true bytes) (has_rows true bytes hk) small low x m board EDGES 11 45
+      relax d (kernel_in true bytes) (has_rows true bytes hk) small low x m board SETTLE 11 45
       (AfterStep (repeated (repeat_of (f 74) (f 72)) (image_keys bytes) b2) f ring)
       (AfterStep (repeated (repeat_of (f 74) (f 72)) (image_keys bytes) b2) f ring) (begin_at d REPEAT f ring m board)
       (omega arith) (λ a g rg h. h)
       (leaf d (kernel_in true bytes) (has_rows true bytes hk) small low
       (AfterStep (repeated (repeat_of (f 74) (f 72)) (image_keys bytes) b2) f ring)
-      (Until 620 ∷ Go false ∷ Until 624 ∷ Go true ∷ Until EDGES ∷ []) REPEAT EDGES 11 (over f p) ring x m m board f ring
+      (Until 620 ∷ Go false ∷ Until 624 ∷ Go true ∷ Until SETTLE ∷ []) REPEAT SETTLE 11 (over f p) ring x m m board f ring
       safe.0
       (λ a. record {
         p = p;
@@ -144,14 +144,14 @@ module _ (d : Board) (bytes : List ℕ) (hk : HasKernel bytes) (small : All IsBy
   repeat_by false true true x m board f ring most safe e0 e1 e2 =
       let h = bytes_of m REPEAT f ring safe in
       let p : Patch = record (self f) { r1 = 74; left = period (f 73) } in
-      relax d (kernel_in true bytes) (has_rows true bytes hk) small low x m board EDGES 24 45
+      relax d (kernel_in true bytes) (has_rows true bytes hk) small low x m board SETTLE 24 45
       (AfterStep (repeated (repeat_of (f 74) (f 72)) (image_keys bytes) true) f ring)
       (AfterStep (repeated (repeat_of (f 74) (f 72)) (image_keys bytes) true) f ring) (begin_at d REPEAT f ring m board)
       (omega arith) (λ a g rg h. h)
       (leaf d (kernel_in true bytes) (has_rows true bytes hk) small low
       (AfterStep (repeated (repeat_of (f 74) (f 72)) (image_keys bytes) true) f ring)
       (Until 620 ∷ Go false ∷ Until 624 ∷ Go false ∷ Until 633 ∷ Acc (210 + f 73 % 32) ∷ Run 1 ∷ Acc
-      (period (f 73)) ∷ Until 636 ∷ Go true ∷ Until EDGES ∷ []) REPEAT EDGES 24 (over f p) ring x m m board f ring
+      (period (f 73)) ∷ Until 636 ∷ Go true ∷ Until SETTLE ∷ []) REPEAT SETTLE 24 (over f p) ring x m m board f ring
       safe.0
       (λ a. record {
         p = p;
@@ -176,7 +176,7 @@ module _ (d : Board) (bytes : List ℕ) (hk : HasKernel bytes) (small : All IsBy
       let h = bytes_of m REPEAT f ring safe in
       let code : ℕ = slice_index bytes (768 + f 72) in
       let g1 : ℕ → ℕ = put (put (put f 74 (period (f 73))) 25 72) 26 code in
-      seq_just d (kernel_in true bytes) (has_rows true bytes hk) small low x m board AGAIN 28 EDGES 17 g1 ring
+      seq_just d (kernel_in true bytes) (has_rows true bytes hk) small low x m board AGAIN 28 SETTLE 17 g1 ring
       (AfterStep (repeated (repeat_of (f 74) (f 72)) (image_keys bytes) false) f ring)
       (begin_at d REPEAT f ring m board) safe.1
       (leaf d (kernel_in true bytes) (has_rows true bytes hk) small low (Just g1 ring)
@@ -193,7 +193,7 @@ module _ (d : Board) (bytes : List ℕ) (hk : HasKernel bytes) (small : All IsBy
         ),
       ))
       (λ x1 m1 board1 same1 safe1.
-      recast d (kernel_in true bytes) (has_rows true bytes hk) small low x1 m1 board1 EDGES 17 17
+      recast d (kernel_in true bytes) (has_rows true bytes hk) small low x1 m1 board1 SETTLE 17 17
       (λ a. Entered (code ∷ []) g1 ring)
       (AfterStep (repeated (repeat_of (f 74) (f 72)) (image_keys bytes) false) f ring)
       (begin_at d AGAIN g1 ring m1 board1) (omega arith)
@@ -224,17 +224,17 @@ module _ (d : Board) (bytes : List ℕ) (hk : HasKernel bytes) (small : All IsBy
   pub step4_law : (b : Bool) (x : ℕ) (m : Cpu) (board : d.State) (f : ℕ → ℕ) (ring : List ℕ) → f 66 % 128 ≤ 16
       → Safe m SCAN f ring → is_scanning (kbd_of held f ring) ≡ b
       → Leads d (kernel_in true bytes) x (begin_at d SCAN f ring m board)
-      (Ends d x (record m { f0 = b }) board EDGES 56 (AfterStep (repeating (image_keys bytes) m.f1) f ring))
+      (Ends d x (record m { f0 = b }) board SETTLE 56 (AfterStep (repeating (image_keys bytes) m.f1) f ring))
   step4_law false x m board f ring most safe is =
       let h = bytes_of m SCAN f ring safe in
       let p : Patch = record (self f) { r1 = 74; left = 0 } in
       let la = h.cell 69 (omega arith) in
       let lb = h.cell 70 (omega arith) in
-      relax d (kernel_in true bytes) (has_rows true bytes hk) small low x (record m { f0 = false }) board EDGES 16 56
+      relax d (kernel_in true bytes) (has_rows true bytes hk) small low x (record m { f0 = false }) board SETTLE 16 56
       (AfterStep (repeating (image_keys bytes) m.f1) f ring) (AfterStep (repeating (image_keys bytes) m.f1) f ring)
       (begin_at d SCAN f ring m board) (omega arith) (λ a g rg h. h)
       (leaf d (kernel_in true bytes) (has_rows true bytes hk) small low
-      (AfterStep (repeating (image_keys bytes) m.f1) f ring) (Until 608 ∷ Go false ∷ Until EDGES ∷ []) SCAN EDGES 16
+      (AfterStep (repeating (image_keys bytes) m.f1) f ring) (Until 608 ∷ Go false ∷ Until SETTLE ∷ []) SCAN SETTLE 16
       (over f p) ring x m (record m { f0 = false }) board f ring safe.0
       (λ a. record {
         p = p;
@@ -254,7 +254,7 @@ module _ (d : Board) (bytes : List ℕ) (hk : HasKernel bytes) (small : All IsBy
       let lb = h.cell 70 (omega arith) in
       let g1 : ℕ → ℕ = put f 25 71 in
       let n : Cpu = record m { f0 = true } in
-      seq_just d (kernel_in true bytes) (has_rows true bytes hk) small low x n board REPEAT 11 EDGES 45 g1 ring
+      seq_just d (kernel_in true bytes) (has_rows true bytes hk) small low x n board REPEAT 11 SETTLE 45 g1 ring
       (AfterStep (repeating (image_keys bytes) m.f1) f ring) (begin_at d SCAN f ring m board) safe.1
       (leaf d (kernel_in true bytes) (has_rows true bytes hk) small low (Just g1 ring)
       (Until 608 ∷ Go true ∷ Until REPEAT ∷ []) SCAN REPEAT 11 g1 ring x m n board f ring safe.0 (λ a. (refl, refl)) (
@@ -262,7 +262,7 @@ module _ (d : Board) (bytes : List ℕ) (hk : HasKernel bytes) (small : All IsBy
         (refl, refl, refl),
       ))
       (λ x1 m1 board1 same1 safe1.
-      recast d (kernel_in true bytes) (has_rows true bytes hk) small low x1 m1 board1 EDGES 45 45
+      recast d (kernel_in true bytes) (has_rows true bytes hk) small low x1 m1 board1 SETTLE 45 45
       (AfterStep (repeated (repeat_of (f 74) (f 72)) (image_keys bytes) m.f1) g1 ring)
       (AfterStep (repeating (image_keys bytes) m.f1) f ring) (begin_at d REPEAT g1 ring m1 board1) (omega arith)
       (λ a g rg q. record {

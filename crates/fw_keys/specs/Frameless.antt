@@ -1,6 +1,6 @@
 -- Ticks without a frame, from one tick start to the next.
 use Rattle.std.specs.Prelude.{◌≡◌, ◌≤◌, ◌<◌, ◌⊎◌, ℕ, ◌+◌, ◌-◌, ◌==◌, Bool, true, false, List}
-use Rattle.std.specs.Prelude.{All, drop, length, slice_index, slice_index_or, bit_xor, Some, None}
+use Rattle.std.specs.Prelude.{All, drop, length, slice_index, slice_index_or, bit_and, bit_xor, Some, None}
 use Rattle.std.specs.declared.option.Option.{Option}
 use Rattle.mcs48_core.specs.declared.levels.Pins.{Pins}
 use Rattle.mcs48_core.specs.Cpu.{Cpu}
@@ -10,6 +10,7 @@ use Rattle.fw_kernel.specs.Places.{HasKernel}
 use Rattle.joint_run.specs.Run.{Board, World}
 use Rattle.joint_run.specs.Starts.{Comes, Tick}
 use Rattle.mcs48_ranges.specs.Sizes.{IsByte, IsFine}
+use Rattle.board_terms.specs.Matrix.{all_up}
 use Rattle.fw_logic.specs.Boards.{numbered, power_on}
 use Rattle.fw_logic.specs.Scan.{levels_in, in_tick, lights_cell}
 use Rattle.fw_logic.specs.Ticks.{IsEntered, column_read}
@@ -20,7 +21,7 @@ use Rattle.kbd_model.specs.Codes.{Keys}
 use Rattle.kbd_model.specs.Keyboard.{Keyboard, at_power_on, offer}
 use Rattle.kbd_model.specs.Layers.{Layers, no_layers, layered, all_layers_after}
 use Rattle.kbd_model.specs.Tick.{ticked}
-use Rattle.fw_keys.specs.State.{keyboard_of, layers_of, Inv}
+use Rattle.fw_keys.specs.State.{keyboard_of, layers_of, held_by, debounces, read_of, Inv}
 use Rattle.fw_keys.specs.Edges.{image_keys, tick_edges, IsSilentAlike}
 use Rattle.fw_keys.specs.Healing.{healed}
 
@@ -33,6 +34,10 @@ shown_by ram = keyboard_of (cells_in ram) (drop 112 ram)
 
 abbrev pub layers_by : List ℕ → Layers
 layers_by ram = layers_of (cells_in ram)
+
+-- the keys that the last reading showed down
+abbrev pub read_by : List ℕ → List ℕ → List Bool
+read_by bytes ram = read_of (debounces bytes) (cells_in ram)
 
 -- the layers as the edges of a tick with this meeting find them
 abbrev pub layers_met : List ℕ → Meeting → List ℕ → Layers
@@ -53,12 +58,21 @@ pub record IsStarted (m : Cpu) : Type 0 where
   pub fine : IsFine m
   pub inv : Inv (cells_in m.ram)
 
--- the keys that differ from the tick before as each column is read, and the edges that they are
-abbrev pub changed_now : (d : Board) → World d.State → ℕ → ℕ
-changed_now d w c = bit_xor (slice_index w.cpu.ram (32 + c)) (column_read d w c)
+-- the keys that a column shows otherwise than held
+abbrev pub differing_now : (d : Board) → World d.State → ℕ → ℕ
+differing_now d w c = bit_xor (slice_index w.cpu.ram (32 + c)) (column_read d w c)
 
-abbrev pub edges_now : (d : Board) → World d.State → List (ℕ × Bool)
-edges_now d w = tick_edges (changed_now d w) (column_read d w)
+-- those of them that change: all, or with a debounce those that the last reading showed so too
+abbrev pub changed_by : Bool → ℕ → ℕ → ℕ
+changed_by false pending differing = differing
+changed_by true pending differing = bit_and differing pending
+
+abbrev pub changed_now : List ℕ → (d : Board) → World d.State → ℕ → ℕ
+changed_now bytes d w c = changed_by (debounces bytes) (slice_index w.cpu.ram (96 + c)) (differing_now d w c)
+
+-- and the edges that they are
+abbrev pub edges_now : List ℕ → (d : Board) → World d.State → List (ℕ × Bool)
+edges_now bytes d w = tick_edges (changed_now bytes d w) (column_read d w)
 
 -- what the looks see, at the clock at offset 256 and at data at 258
 abbrev pub latch_now : (d : Board) → World d.State → ℕ
@@ -90,15 +104,16 @@ IsFrameless d w Cut = ⊥
 IsFrameless d w (Got byte good) = ⊥
 
 -- such a tick: the next start is 2,048 cycles later, give or take the one cycle; the keyboard and the layers that data
--- memory shows are a tick of the model later, with the Fn key as it is held if a reset is made; and the latch of port 2
--- shows the lights and pulls no wire
+-- memory shows are a tick of the model later, with the Fn key as it is held if a reset is made; memory shows what was
+-- read; and the latch of port 2 shows the lights and pulls no wire
 pub record GoesOn (d : Board) (bytes : List ℕ) (meeting : Meeting) (w v : World d.State) : Type 0 where
   pub started : IsStarted v.cpu
   pub time : v.cycle + w.cpu.pre ≡ w.cycle + 2048 + v.cpu.pre
   pub keyboard : shown_by v.cpu.ram ≡ ticked (image_keys bytes) meeting
-      (layered (image_keys bytes).is_fn (edges_now d w) (layers_met bytes meeting w.cpu.ram)) (shown_by w.cpu.ram)
+      (layered (image_keys bytes).is_fn (edges_now bytes d w) (layers_met bytes meeting w.cpu.ram)) (shown_by w.cpu.ram)
   pub layers : layers_by v.cpu.ram
-      ≡ all_layers_after (image_keys bytes).is_fn (edges_now d w) (layers_met bytes meeting w.cpu.ram)
+      ≡ all_layers_after (image_keys bytes).is_fn (edges_now bytes d w) (layers_met bytes meeting w.cpu.ram)
+  pub read : read_by bytes v.cpu.ram ≡ held_by (column_read d w)
   pub repeating : IsRepeating bytes v.cpu.ram
   pub latch : v.cpu.p2 ≡ latch_now d w
 
@@ -106,7 +121,7 @@ pub record GoesOn (d : Board) (bytes : List ℕ) (meeting : Meeting) (w v : Worl
 abbrev pub KeepsFrameless : List ℕ → Type 0
 KeepsFrameless bytes = (pins : ℕ → ℕ → ℕ → ℕ → Pins) (tick : ℕ → ℕ → ℕ → ℕ)
     → ((p1 p2 c s : ℕ) → (pins p1 p2 c s).bus < 256)
-    → (w : World ℕ) → IsStarted w.cpu → IsRepeating bytes w.cpu.ram → length (edges_now (numbered pins tick) w) ≤ 4
+    → (w : World ℕ) → IsStarted w.cpu → IsRepeating bytes w.cpu.ram → length (edges_now bytes (numbered pins tick) w) ≤ 4
     → (meeting : Meeting) → IsFrameless (numbered pins tick) w meeting
     → Tick (numbered pins tick) TICK bytes w (GoesOn (numbered pins tick) bytes meeting w)
 
@@ -115,12 +130,13 @@ KeepsFrameless bytes = (pins : ℕ → ℕ → ℕ → ℕ → Pins) (tick : ℕ
 abbrev pub FramelessLaw : Type 0
 FramelessLaw = (bytes : List ℕ) → HasKernel bytes → IsSilentAlike bytes → All IsByte bytes → KeepsFrameless bytes
 
--- a tick start at which data memory shows the keyboard at power-on, before any press; no wire is pulled, and no light
--- is lit
+-- a tick start at which data memory shows the keyboard at power-on, before any press or reading; no wire is pulled, and no
+-- light is lit
 pub record FromPowerOn (bytes : List ℕ) (m : Cpu) : Type 0 where
   pub started : IsStarted m
   pub keyboard : shown_by m.ram ≡ at_power_on (slice_index bytes 864)
   pub layers : layers_by m.ram ≡ no_layers
+  pub read : read_by bytes m.ram ≡ all_up
   pub latch : m.p2 ≡ 255
 
 -- a program that comes there from power-on, whatever the processor held before and whatever the pins show

@@ -1,10 +1,12 @@
 -- What data memory means: the keyboard of the model that its cells show.
-use Rattle.std.specs.Prelude.{◌≡◌, ◌≤◌, ◌⊎◌, ℕ, zero, suc, ◌+◌, ◌-◌, ◌*◌, ◌/◌, ◌%◌, Bool, not, ◌==◌, nat_le}
-use Rattle.std.specs.Prelude.{if◌then◌else◌, List, [], ◌∷◌, slice_index, Some, None}
+use Rattle.std.specs.Prelude.{◌≡◌, ◌≤◌, ◌⊎◌, ℕ, zero, suc, ◌+◌, ◌-◌, ◌*◌, ◌/◌, ◌%◌, Bool, true, false, not, ◌==◌, nat_le}
+use Rattle.std.specs.Prelude.{if◌then◌else◌, List, [], ◌∷◌, slice_index, bit_xor, Some, None}
 use Rattle.std.specs.declared.option.Option.{Option}
 use Rattle.bits.specs.Bits.{bit}
 use Rattle.fw_kernel.specs.declared.cells.TheConstants.{HELD, REPLYDUE, AADUE, COUNT, HEAD, STARTED, TEST, MODE}
 use Rattle.fw_kernel.specs.declared.cells.TheConstants.{DISABLED, RINDEX, RATE, RCOUNT, REPLY, LAST, LIGHTS, FN, LAYER}
+use Rattle.fw_kernel.specs.declared.cells.TheConstants.{PENDING}
+use Rattle.fw_kernel.specs.Tables.{debounce_at}
 use Rattle.kbd_model.specs.declared.state.Mode.{Mode}
 use Rattle.kbd_model.specs.declared.state.Mode.TheVariants.{Ready, WantRate, WantLights}
 use Rattle.kbd_model.specs.declared.state.Reply.{Reply}
@@ -78,6 +80,18 @@ held_by bytes = flags (down_at bytes) 96
 -- the whole keyboard that data memory shows: the held keys are the cells 20 to 2B (hexadecimal)
 abbrev pub keyboard_of : (ℕ → ℕ) → List ℕ → Keyboard
 keyboard_of f ring = kbd_of (held_by (λ c. f (HELD + c))) f ring
+
+-- whether an image debounces keys
+abbrev pub debounces : List ℕ → Bool
+debounces bytes = not (slice_index bytes debounce_at == 0)
+
+-- the keys that the last reading showed down: with a debounce they differ from those held by the cells 60 to 6B (hexadecimal)
+abbrev pub read_cell : Bool → (ℕ → ℕ) → ℕ → ℕ
+read_cell false f c = f (HELD + c)
+read_cell true f c = bit_xor (f (HELD + c)) (f (PENDING + c))
+
+abbrev pub read_of : Bool → (ℕ → ℕ) → List Bool
+read_of debounce f = held_by (read_cell debounce f)
 
 -- the layers: whether the Fn key is down is cell 4E, the layers of the last presses are 50 to 5B (hexadecimal)
 abbrev pub layers_of : (ℕ → ℕ) → Layers

@@ -51,7 +51,7 @@ pub record Next (d : Board) (x : ℕ) (b : TimerState) (last_off : ℕ) (R : (�
   pub prompt : (late : ℕ) → late ≤ 1 → b ≡ on_time late b.tf b.last → last_off ≤ 2040
       → IsPrompt late timer (end.off + waited)
   pub long : IsRested b → 2016 ≤ end.off + waited
-  pub rested : IsRested b → last_off ≤ 8000 → IsRested timer
+  pub rested : IsRested b → last_off ≤ 8400 → IsRested timer
   pub settles : IsRested b → last_off ≤ 2000
       → (late : ℕ) × (late ≤ 1) × (timer ≡ on_time late timer.tf timer.last)
 

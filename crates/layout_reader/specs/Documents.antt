@@ -26,7 +26,7 @@ unfoldable pub layout_of : Members → Result KeyLayout Refusal
 layout_of top =
     and_then (at_entry 0 (header_from top))
     (λ header. and_then (entries_from header.format [] (elements_in top))
-    (λ entries. Ok (record { rate = header.rate; entries = entries })))
+    (λ entries. Ok (record { rate = header.rate; debounce = header.debounce; entries = entries })))
 
 -- the tree of the bytes, as `toml` reads it; bytes that aren't UTF-8 have none
 unfoldable pub tree_of : List ℕ → Option Members

@@ -11,7 +11,7 @@ use Rattle.layout_reader.specs.declared.fields.Level.TheVariants.{Top, Entry}
 
 -- the fields that a table of the level may have; the second format adds three to an entry
 abbrev pub fields_of : Level → List (List ℕ)
-fields_of Top = codes "format" ∷ codes "key" ∷ codes "name" ∷ codes "rate" ∷ []
+fields_of Top = codes "debounce" ∷ codes "format" ∷ codes "key" ∷ codes "name" ∷ codes "rate" ∷ []
 fields_of (Entry One) = codes "key" ∷ codes "column" ∷ codes "row" ∷ codes "sends" ∷ []
 fields_of (Entry Two) =
     codes "key" ∷ codes "column" ∷ codes "row" ∷ codes "sends"

@@ -1,4 +1,5 @@
--- A layout: a rate, and entries in which no place and no key occurs twice and at most one is the Fn key's.
+-- A layout: a rate, whether keys are debounced, and entries in which no place and no key occurs twice and at most one is
+-- the Fn key's.
 use Rattle.std.specs.Prelude.{◌≡◌, ℕ, ◌<◌, ◌≤◌, nat_eq, ◌==◌, Bool, false, List, map, length, All, find}
 use Rattle.std.specs.Prelude.{Option, Some, None, IsSome, is_none, option_and_then, unwrap_or}
 use Rattle.std.specs.List.{IsDistinct, filter, range_with_len}
@@ -9,6 +10,7 @@ use Rattle.layout_reader.specs.Entries.{IsEntry, is_fn}
 
 pub record KeyLayout : Type 0 where
   pub rate : ℕ
+  pub debounce : Bool
   pub entries : List Entry
 
 -- the places of the entries, and their keys
@@ -78,10 +80,11 @@ pub record IsSilentAtFn (layout : KeyLayout) : Type 0 where
 unfoldable pub place_of : ℕ → KeyLayout → Option ℕ
 place_of key layout = option_map (λ entry. entry.place) (entry_of_key key layout.entries)
 
--- the sample layout: each key at the place of its number, sending its own code in both layers, at the default rate
+-- the sample layout: each key at the place of its number, sending its own code in both layers, at the default rate,
+-- without a debounce
 abbrev pub sample_entry : ℕ → Entry
 sample_entry number =
     record { place = number; key = number; sends = Some number; fn_sends = Some number; make_only = false }
 
 unfoldable pub us84 : KeyLayout
-us84 = record { rate = 44; entries = map sample_entry (range_with_len 0 84) }
+us84 = record { rate = 44; debounce = false; entries = map sample_entry (range_with_len 0 84) }

@@ -11,7 +11,7 @@ use Rattle.layout_reader.specs.declared.fields.Format.TheVariants.{One, Two}
 use Rattle.layout_reader.specs.declared.fields.Level.TheVariants.{Top}
 use Rattle.layout_reader.specs.declared.top_level.Header.{Header}
 use Rattle.layout_reader.specs.Faults.{Judgement, judge, first_of, unless}
-use Rattle.layout_reader.specs.Fields.{has_other_field, has_field, is_not_text, is_not_whole, is_not_list}
+use Rattle.layout_reader.specs.Fields.{has_other_field, has_field, is_not_text, is_not_whole, is_not_list, is_not_truth, is_set}
 use Rattle.layout_reader.specs.Fields.{whole_at, byte_at, list_at}
 
 -- the format with a number
@@ -39,11 +39,12 @@ abbrev pub is_empty : Items → Bool
 is_empty no_items = true
 is_empty (item element more) = false
 
--- the format or the rate is no whole number, the entries are no list, or the name is no text
+-- the format or the rate is no whole number, the entries are no list, the name is no text, or the debounce is no truth
+-- value
 abbrev pub has_wrong_kind : Members → Bool
 has_wrong_kind top =
     is_not_whole (codes "format") top || is_not_list (codes "key") top || is_not_text (codes "name") top
-    || is_not_whole (codes "rate") top
+    || is_not_whole (codes "rate") top || is_not_truth (codes "debounce") top
 
 -- the questions for the top level, in their order
 abbrev pub top_judgements : Members → List Judgement
@@ -58,7 +59,11 @@ top_judgements top =
 
 -- what the top level says of the document, if nothing is wrong with it
 abbrev pub header_of : Members → Header
-header_of top = record { format = unwrap_or (format_in top) One; rate = unwrap_or (rate_in top) 0 }
+header_of top = record {
+  format = unwrap_or (format_in top) One;
+  rate = unwrap_or (rate_in top) 0;
+  debounce = is_set (codes "debounce") top;
+}
 
 -- that, or the first fault of the top level
 unfoldable pub header_from : Members → Result Header Cause

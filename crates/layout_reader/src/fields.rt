@@ -39,7 +39,8 @@ impl Level {
         ensures { result ≡ is_field self name.now }
     {
         match self {
-            Level::Top => are_same(name, "format")
+            Level::Top => are_same(name, "debounce")
+                || are_same(name, "format")
                 || are_same(name, "key")
                 || are_same(name, "name")
                 || are_same(name, "rate"),

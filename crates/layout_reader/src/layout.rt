@@ -11,11 +11,12 @@ use board_terms::Place;
 use pc_tables::{Key, code_of};
 use std::marker::Model;
 
-/// A layout: a rate and entries in the order of the document, in which no place and no key occurs twice, and at most
+/// A layout: a rate, whether keys are debounced, and entries in the order of the document, in which no place and no key occurs twice, and at most
 /// one is the Fn key's.
 #[derive(Debug, Drop)]
 pub struct Layout {
     rate: u8,
+    debounce: bool,
     entries: Vec<Entry>,
 }
 
@@ -24,19 +25,23 @@ impl Model for Layout {
 
     ghost Value = { KeyLayout };
 
-    ghost view = { λ layout. record { rate = layout.rate; entries = layout.entries.items } };
+    ghost view = { λ layout. record { rate = layout.rate; debounce = layout.debounce; entries = layout.entries.items } };
 
-    ghost invariant = { λ layout. IsKeyLayout (record { rate = layout.rate; entries = layout.entries.items }) };
+    ghost invariant = { λ layout. IsKeyLayout (record { rate = layout.rate; debounce = layout.debounce; entries = layout.entries.items }) };
 }
 
 impl Layout {
-    /// The layout of this rate byte and these entries.
-    pub(crate) fn new(rate: u8, entries: Vec<Entry>) -> Layout
+    /// The layout of this rate byte and these entries, with a debounce or without.
+    pub(crate) fn new(rate: u8, debounce: bool, entries: Vec<Entry>) -> Layout
         requires rate { rate < 128 }
         requires entries { AreEntries entries.items }
-        ensures { result ≡ record { rate = rate; entries = entries.items } }
+        ensures { result ≡ record { rate = rate; debounce = debounce; entries = entries.items } }
     {
-        Layout { rate, entries }
+        Layout {
+            rate,
+            debounce,
+            entries,
+        }
     }
 
     /// The keyboard's rate byte at power-on, below 128: bits 5 and 6 are the delay, bits 0 to 4 the period.
@@ -45,6 +50,13 @@ impl Layout {
         ensures range { result < 128 }
     {
         self.rate
+    }
+
+    /// Whether keys are debounced: a key changes once two readings in a row show it so.
+    pub fn debounces(&self) -> bool
+        ensures { result ≡ self.now.debounce }
+    {
+        self.debounce
     }
 
     /// The entries in the order of the document. There are 84 at most, since no key occurs twice.

@@ -53,7 +53,7 @@ fn layout_of(alloc: Global, top: &Table) -> Result<Layout, LayoutFault>
     match header_from(top) {
         Ok(header) => {
             let entries = read_entries(alloc, header.format, elements_in(top))?;
-            Ok(Layout::new(header.rate, entries))
+            Ok(Layout::new(header.rate, header.debounce, entries))
         }
         Err(cause) => Err(LayoutFault::Entry {
             entry: 0,

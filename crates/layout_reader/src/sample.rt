@@ -27,7 +27,7 @@ fn sample_entry(key: Key) -> Entry
 }
 
 /// The sample layout `us84`: each of the 84 keys is at the place of its number and sends its own code, also under
-/// Fn, at the rate 44. It is made from the numbers of the keys; no text is read.
+/// Fn, at the rate 44, without a debounce. It is made from the numbers of the keys; no text is read.
 #[tactic(auto, unfolding(crate::specs::Layouts::us84))]
 pub fn us84_layout(alloc: Global) -> Result<Layout, AllocError>
     ensures layout { IfOk result (λ layout. layout ≡ us84) }
@@ -37,5 +37,5 @@ pub fn us84_layout(alloc: Global) -> Result<Layout, AllocError>
         let key = Key::numbered(number).unwrap();
         entries.push(sample_entry(key))?;
     }
-    Ok(Layout::new(DEFAULT_RATE, entries))
+    Ok(Layout::new(DEFAULT_RATE, false, entries))
 }

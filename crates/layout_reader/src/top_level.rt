@@ -6,19 +6,21 @@ ghost use Rattle.layout_reader.specs.TopLevel.{format_in, rate_in, elements_in, 
 
 use crate::cause::Cause;
 use crate::fields::{
-    Format, Level, byte_at, has_field, has_other_field, is_not_list, is_not_text, is_not_whole,
-    list_at, whole_at,
+    Format, Level, byte_at, has_field, has_other_field, is_not_list, is_not_text, is_not_truth,
+    is_not_whole, is_set, list_at, whole_at,
 };
 use toml::{Table, Value};
 
 /// The keyboard's rate byte if the document names none: a delay of 500 ms, then 10 characters a second.
 pub(crate) const DEFAULT_RATE: u8 = 44;
 
-/// What the top level says of the whole document: its format, and the keyboard's rate byte at power-on.
+/// What the top level says of the whole document: its format, the keyboard's rate byte at power-on, and whether keys are
+/// debounced.
 #[derive(Clone, Copy, PartialEq, Eq)]
 pub(crate) struct Header {
     pub(crate) format: Format,
     pub(crate) rate: u8,
+    pub(crate) debounce: bool,
 }
 
 /// The format of the document; None if its number is another.
@@ -83,6 +85,7 @@ pub(crate) fn header_from(top: &Table) -> Result<Header, Cause>
         || is_not_list(top, "key")
         || is_not_text(top, "name")
         || is_not_whole(top, "rate")
+        || is_not_truth(top, "debounce")
     {
         return Err(Cause::WrongKind);
     }
@@ -95,5 +98,9 @@ pub(crate) fn header_from(top: &Table) -> Result<Header, Cause>
     if has_no_entries(top) {
         return Err(Cause::NoEntries);
     }
-    Ok(Header { format, rate })
+    Ok(Header {
+        format,
+        rate,
+        debounce: is_set(top, "debounce"),
+    })
 }

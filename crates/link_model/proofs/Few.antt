@@ -8,7 +8,7 @@ use Rattle.std.proofs.lemmas.List.{length-append, length-map}
 use Rattle.link_model.specs.TickEdges.{read_at, is_seen, by_place, change_of, tick_edges}
 use Rattle.link_model.specs.TickEdges.{change_at, shown_at, shown, downs_in, downs_before}
 use Rattle.key_file.specs.Histories.{KeyHistory}
-use Rattle.key_file.specs.Accepted.{IsThin, IsFifthLater, IsLawful}
+use Rattle.key_file.specs.Accepted.{Alternates, Dwells, IsThin, IsFifthLater, IsLawful}
 use Rattle.board_terms.specs.declared.event.Edge.{Edge}
 use Rattle.board_terms.specs.Edges.{of_place, last_of, AreInOrder}
 use Rattle.board_terms.specs.Laws.{ArePlaces}
@@ -178,7 +178,7 @@ module _ (starts : ℕ → ℕ) (last : ℕ) (cadence : KeepsCadenceTo starts la
       ap (λ c. read_now e.place (suc m) e && c)
       (least_or (λ j. nat_le e.stamp (read_at starts e.place j)) m (λ j l h. in_time e.stamp e.place j (omega (arith, b, l)) h))
 
-  downs_so : (edges : List Edge) (n p : ℕ) → last_of false (filter (read_before p n) (of_place p edges)) ≡ downs_before starts edges n p
+  pub downs_so : (edges : List Edge) (n p : ℕ) → last_of false (filter (read_before p n) (of_place p edges)) ≡ downs_before starts edges n p
   downs_so edges zero p = nothing (of_place p edges)
   downs_so edges (suc m) p = refl
 
@@ -227,9 +227,12 @@ module _ (starts : ℕ → ℕ) (last : ℕ) (cadence : KeepsCadenceTo starts la
       let o : e.stamp ≤ starts n + 16 + 16 * (e.place / 8) = grind (arith, nat_tests, k) in
       within n c e l o
 
-  pub shows : (history : KeyHistory) (n : ℕ) → n ≤ last → IsLawful history → Shows starts history.edges n
-  shows history n b ok =
-      let edges : List Edge = history.edges in
+  -- what the columns show against the keys held before is what a tick sees, if the edges of a key turn it and have their time
+  pub shown_same : (edges : List Edge) (n : ℕ) → n ≤ last
+      → ((place : ℕ) → place < 96 → Alternates false (of_place place edges))
+      → ((place : ℕ) → place < 96 → Dwells (of_place place edges))
+      → tick_edges starts edges n ≡ shown (downs_before starts edges n) (downs_in starts edges n)
+  shown_same edges n b alternate dwell =
       let held : ℕ → Bool = downs_before starts edges n in
       let now : ℕ → Bool = downs_in starts edges n in
       let each : ℕ → List Edge = λ p. filter (is_seen starts n) (of_place p edges) in
@@ -237,17 +240,25 @@ module _ (starts : ℕ → ℕ) (last : ℕ) (cadence : KeepsCadenceTo starts la
       ap (λ v. map change_of v) (filter_same p (is_seen starts n) (λ e. read_now p n e && not (read_before p n e))
       (λ e at. seen_so n b e ∙ ap (λ r. read_now r n e && not (read_before r n e)) at) (of_place p edges) (are_at p edges))
       ∙ one (read_before p n) (read_now p n) (sub p n b) (far p n b l) p false (of_place p edges) (are_at p edges)
-      (ok.alternate p) (ok.dwell p)
+      (alternate p l) (dwell p l)
       ∙ ap (λ v. change_at p v (now p)) (downs_so edges n p) in
-      let same : tick_edges starts edges n ≡ shown held now = map_by_place change_of each 96
-      ∙ same_by_place (λ p. map change_of (each p)) (shown_at held now) at_place 96 (omega arith) in
+      map_by_place change_of each 96
+      ∙ same_by_place (λ p. map change_of (each p)) (shown_at held now) at_place 96 (omega arith)
+
+  pub shows : (history : KeyHistory) (n : ℕ) → n ≤ last → IsLawful history → Shows starts history.edges n
+  shows history n b ok =
+      let edges : List Edge = history.edges in
+      let same : tick_edges starts edges n ≡ shown (downs_before starts edges n) (downs_in starts edges n) =
+      shown_same edges n b (λ place l. ok.alternate place) (λ place l. ok.dwell place) in
+      let each : ℕ → List Edge = λ p. filter (is_seen starts n) (of_place p edges) in
       let a : length (tick_edges starts edges n) ≡ length (by_place each 96) = length-map (by_place each 96) change_of in
       let c = no_longer (is_seen starts n) edges 96 in
       let d = four (is_seen starts n) (base n) (above n b) (under n b) edges ok.edges_in_order ok.thin ok.in_matrix in
       record {
         same = same;
         few = omega (arith, a, c, d);
-        rising = subst (λ v. RisesFrom 0 v) (sym same) (shown_rises held now 96).0;
+        rising = subst (λ v. RisesFrom 0 v) (sym same)
+            (shown_rises (downs_before starts edges n) (downs_in starts edges n) 96).0;
       }
 
 pub edges_are_shown : EdgesShown

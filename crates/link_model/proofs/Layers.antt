@@ -6,7 +6,7 @@ use Rattle.board_terms.specs.declared.event.HostEvent.{HostEvent}
 use Rattle.layout_reader.specs.Layouts.{KeyLayout, is_fn_place}
 use Rattle.kbd_model.specs.declared.edge.TickEdge.{TickEdge}
 use Rattle.kbd_model.specs.Layers.{Layers, no_layers, in_layer, layers_after, layered, all_layers_after}
-use Rattle.link_model.specs.TickEdges.{tick_edges, edges_before}
+use Rattle.link_model.specs.Laws.{taken_in, taken_before}
 use Rattle.link_model.specs.Machine.{keyboard}
 use Rattle.link_model.specs.Expected.{whole_at}
 
@@ -46,8 +46,9 @@ module _ (is_fn : ℕ → Bool) where
 -- over all ticks
 pub layers_follow : (layout : KeyLayout) (edges : List Edge) (host : List HostEvent) (starts : ℕ → ℕ) (n : ℕ)
     → (whole_at (keyboard layout) edges host starts n).keys.layers
-    ≡ all_layers_after (is_fn_place layout) (edges_before starts edges n) no_layers
+    ≡ all_layers_after (is_fn_place layout) (taken_before layout edges host starts n) no_layers
 layers_follow layout edges host starts zero = refl
 layers_follow layout edges host starts (suc n) =
-    ap (all_layers_after (is_fn_place layout) (tick_edges starts edges n)) (layers_follow layout edges host starts n)
-    ∙ sym (after-append (is_fn_place layout) (edges_before starts edges n) (tick_edges starts edges n) no_layers)
+    ap (all_layers_after (is_fn_place layout) (taken_in layout edges host starts n)) (layers_follow layout edges host starts n)
+    ∙ sym (after-append (is_fn_place layout) (taken_before layout edges host starts n) (taken_in layout edges host starts n)
+    no_layers)

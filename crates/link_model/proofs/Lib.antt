@@ -3,6 +3,7 @@ pub mod Cycles
 pub mod Edges
 pub mod Few
 pub mod Seen
+pub mod Taken
 pub mod Stretch
 pub mod Steps
 pub mod Carried

@@ -68,7 +68,7 @@ abbrev pub last_change : List (ℕ × Bool) → ℕ → Bool → Bool
 last_change [] p before = before
 last_change (c ∷ cs) p before = last_change cs p (if c.0 == p then c.1 else before)
 
-last_more : (xs ys : List (ℕ × Bool)) (p : ℕ) (before : Bool) → last_change (xs ++ ys) p before ≡ last_change ys p (last_change xs p before)
+pub last_more : (xs ys : List (ℕ × Bool)) (p : ℕ) (before : Bool) → last_change (xs ++ ys) p before ≡ last_change ys p (last_change xs p before)
 last_more [] ys p before = refl
 last_more (x ∷ xs) ys p before = last_more xs ys p (if x.0 == p then x.1 else before)
 

@@ -1,6 +1,6 @@
 -- Laws of the model.
-use Rattle.std.specs.Prelude.{◌≡◌, ◌≤◌, ◌<◌, ℕ, ◌+◌, ◌==◌, Bool, true, false, List, [], ◌∷◌, length, if◌then◌else◌}
-use Rattle.std.proofs.Common.{suc}
+use Rattle.std.specs.Prelude.{◌≡◌, ◌≤◌, ◌<◌, ℕ, ◌+◌, ◌==◌, Bool, true, false, List, [], ◌∷◌, ◌++◌, length, if◌then◌else◌}
+use Rattle.std.proofs.Common.{zero, suc}
 use Rattle.std.specs.declared.option.Option.{Option}
 use Rattle.board_terms.specs.declared.event.Edge.{Edge}
 use Rattle.board_terms.specs.declared.event.HostEvent.{HostEvent}
@@ -16,7 +16,8 @@ use Rattle.layout_reader.specs.Layouts.{KeyLayout, is_fn_place}
 use Rattle.kbd_model.specs.Layers.{no_layers, all_layers_after}
 use Rattle.key_file.specs.Histories.{KeyHistory}
 use Rattle.key_file.specs.Accepted.{IsLawful}
-use Rattle.link_model.specs.TickEdges.{is_seen, tick_edges, edges_before, shown, downs_in, downs_before, read_at}
+use Rattle.link_model.specs.Debounce.{taken}
+use Rattle.link_model.specs.TickEdges.{is_seen, tick_edges, shown, downs_in, downs_before, read_at}
 use Rattle.link_model.specs.Machine.{keyboard}
 use Rattle.link_model.specs.Expected.{to_look, to_meeting, from_meeting, whole_at}
 
@@ -47,12 +48,22 @@ pub record SeenOnce (starts : ℕ → ℕ) (n : ℕ) (e : Edge) : Type 0 where
 abbrev pub EachSeenOnce : Type 0
 EachSeenOnce = (starts : ℕ → ℕ) (n : ℕ) (e : Edge) → e.stamp ≤ read_at starts e.place n → SeenOnce starts n e
 
--- the layers at the start of tick n are what all edges of the earlier ticks leave, one after the other
+-- the edges that the keyboard takes in tick n, and those that it took in the ticks before, in their order
+module _ (layout : KeyLayout) (edges : List Edge) (host : List HostEvent) (starts : ℕ → ℕ) where
+  abbrev pub taken_in : ℕ → List (ℕ × Bool)
+  taken_in n =
+      taken layout.debounce (tick_edges starts edges n) (whole_at (keyboard layout) edges host starts n).keys.switches
+
+  abbrev pub taken_before : ℕ → List (ℕ × Bool)
+  taken_before zero = []
+  taken_before (suc n) = taken_before n ++ taken_in n
+
+-- the layers at the start of tick n are what all edges that it took in the earlier ticks leave, one after the other
 abbrev pub LayersFollow : Type 0
 LayersFollow =
     (layout : KeyLayout) (edges : List Edge) (host : List HostEvent) (starts : ℕ → ℕ) (n : ℕ)
     → (whole_at (keyboard layout) edges host starts n).keys.layers
-    ≡ all_layers_after (is_fn_place layout) (edges_before starts edges n) no_layers
+    ≡ all_layers_after (is_fn_place layout) (taken_before layout edges host starts n) no_layers
 
 -- what comes over the link at an offset of a tick, by what begins in it
 abbrev pub event_at : Meeting → ℕ → Event

@@ -1,4 +1,5 @@
 pub mod TickEdges
+pub mod Debounce
 pub mod Machine
 pub mod Expected
 pub mod Laws

@@ -5,14 +5,15 @@ use Rattle.layout_reader.specs.Layouts.{KeyLayout, is_fn_place}
 use Rattle.kbd_model.specs.declared.meeting.Meeting.{Meeting as KeyboardMeeting}
 use Rattle.kbd_model.specs.declared.meeting.Meeting.TheVariants as kbd
 use Rattle.kbd_model.specs.Codes.{keys_of}
-use Rattle.kbd_model.specs.Keyboard.{Keyboard, at_power_on, offer, is_held}
+use Rattle.kbd_model.specs.Keyboard.{Keyboard, at_power_on, offer}
 use Rattle.kbd_model.specs.Layers.{Layers, no_layers, layered, all_layers_after}
 use Rattle.kbd_model.specs.Tick.{ticked}
 use Rattle.byte_time.specs.declared.meeting.Meeting.{Meeting}
 use Rattle.byte_time.specs.declared.meeting.Meeting.TheVariants.{Got, Inhibited, Idle, Sent, Cut}
+use Rattle.link_model.specs.Debounce.{Switches, all_open, is_down_at, taken, switched}
 
--- the state at power-on; whether the test has ended; the byte offered; the lights; whether a place is held; and what a
--- tick makes of the state, by its meeting and its edges
+-- the state at power-on; whether the test has ended; the byte offered; the lights; whether the last reading showed the key
+-- of a place down; and what a tick makes of the state, by its meeting and the edges that its reading shows
 pub record KeyboardMachine (S : Type 0) : Type 0 where
   pub start : S
   pub tested : S → Bool
@@ -29,22 +30,25 @@ met_as Idle = kbd.Idle
 met_as (Sent byte) = kbd.Sent
 met_as Cut = kbd.Cut
 
--- the keyboard, and the layers of its keys' presses up to now
+-- the keyboard, the layers of its keys' presses up to now, and its switches
 pub record LayeredKeyboard : Type 0 where
   pub keyboard : Keyboard
   pub layers : Layers
+  pub switches : Switches
 
--- the keyboard with a layout. Each edge of a tick has its layer, which is no concern of scanning or of the test
+-- the keyboard with a layout. Of the edges that a reading shows it takes those that settle. Each of these has its layer,
+-- which is no concern of scanning or of the test
 abbrev pub keyboard : KeyLayout → KeyboardMachine LayeredKeyboard
 keyboard layout = record {
-  start = record { keyboard = at_power_on layout.rate; layers = no_layers };
+  start = record { keyboard = at_power_on layout.rate; layers = no_layers; switches = all_open };
   tested = λ k. k.keyboard.test == 0;
   offer = λ k. offer k.keyboard;
   lights = λ k. k.keyboard.lights;
-  held = λ k. is_held k.keyboard;
+  held = λ k. is_down_at k.switches.read;
   ticked = λ meeting edges k. record {
-    keyboard =
-        ticked (keys_of layout) (met_as meeting) (layered (is_fn_place layout) edges k.layers) k.keyboard;
-    layers = all_layers_after (is_fn_place layout) edges k.layers;
+    keyboard = ticked (keys_of layout) (met_as meeting)
+        (layered (is_fn_place layout) (taken layout.debounce edges k.switches) k.layers) k.keyboard;
+    layers = all_layers_after (is_fn_place layout) (taken layout.debounce edges k.switches) k.layers;
+    switches = switched layout.debounce edges k.switches;
   };
 }

@@ -34,11 +34,6 @@ change_of e = (e.place, e.down)
 abbrev pub tick_edges : (ℕ → ℕ) → List Edge → ℕ → List (ℕ × Bool)
 tick_edges starts edges n = map change_of (by_place (λ p. filter (is_seen starts n) (of_place p edges)) 96)
 
--- those of the ticks before n, in their order
-abbrev pub edges_before : (ℕ → ℕ) → List Edge → ℕ → List (ℕ × Bool)
-edges_before starts edges zero = []
-edges_before starts edges (suc n) = edges_before starts edges n ++ tick_edges starts edges n
-
 -- whether the key at a place is down at a stamp: by its edges up to then
 abbrev pub is_down : List Edge → ℕ → ℕ → Bool
 is_down edges place stamp = last_of false (filter (λ e. nat_le e.stamp stamp) (of_place place edges))

@@ -36,6 +36,7 @@ pub fn expect(
 }
 
 /// The same, of the edges and the host's events.
+#[tactic(auto, using(crate::proofs::Taken::open_known))]
 fn expect_events(
     alloc: Global,
     layout: &Layout,

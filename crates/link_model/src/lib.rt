@@ -7,6 +7,7 @@
 #![tactic(auto)]
 
 mod carrying;
+mod debouncing;
 mod expecting;
 mod laws;
 mod layering;

@@ -3,6 +3,7 @@
 ghost use Rattle.std.specs.Prelude.{◌≡◌};
 ghost use Rattle.link_model.specs.Machine.{met_as as met_as_of};
 
+use crate::debouncing::Debouncing;
 use crate::layering::Layering;
 use crate::running::Running;
 use crate::seeing::tick_edges;
@@ -26,11 +27,13 @@ const MEETING: u64 = 288;
 /// The offset after the cycle in which a byte ends.
 const REST: u64 = 609;
 
-/// The keyboard, the layers of its keys' presses, the PC's side, and the lights shown. A clause sees it as a `Whole`.
+/// The keyboard, the layers of its keys' presses, its switches, the PC's side, and the lights shown. A clause sees it as a
+/// `Whole`.
 #[derive(Drop)]
 pub(crate) struct Together {
     keys: TickModel,
     layers: Layering,
+    switches: Debouncing,
     side: Running,
     shown: u8,
 }
@@ -42,7 +45,7 @@ impl Model for Together {
     ghost Value = { Whole LayeredKeyboard };
 
     ghost view = { λ w. record {
-      keys = record { keyboard = w.keys; layers = w.layers };
+      keys = record { keyboard = w.keys; layers = w.layers; switches = w.switches };
       side = w.side;
       shown = w.shown;
     } };
@@ -112,21 +115,23 @@ impl Together {
     ghost use Rattle.board_terms.specs.Edges.{AreInOrder};
     ghost use Rattle.byte_time.specs.ByteTime.{quietly};
     ghost use Rattle.link_model.specs.Expected.{whole_tick, next_tick};
+    ghost use Rattle.link_model.specs.Debounce.{all_open, AreKnown};
     ghost use Rattle.link_model.specs.Machine.{keyboard};
 
     /// At power-on, with a layout's rate byte.
     pub(crate) fn new(alloc: Global, rate: u8) -> Result<Together, AllocError>
-        ensures { IfOk result (λ w. w ≡ record { keys = record { keyboard = at_power_on rate; layers = no_layers }; side = side_at_start UnderWay; shown = 0 }) }
+        ensures { IfOk result (λ w. w ≡ record { keys = record { keyboard = at_power_on rate; layers = no_layers; switches = all_open }; side = side_at_start UnderWay; shown = 0 }) }
     {
         Ok(Together {
             keys: TickModel::power_on(rate),
             layers: Layering::new(),
+            switches: Debouncing::new(),
             side: Running::new(alloc)?,
             shown: 0,
         })
     }
 
-    /// A tick from its first cycle up to that of the next, with the edges that it sees.
+    /// A tick from its first cycle up to that of the next, with the edges that its reading shows.
     fn tick(
         &mut self,
         alloc: Global,
@@ -140,15 +145,18 @@ impl Together {
         requires near { end < 2 ^ 62 }
         requires repeats { ForSome self.old.keys.keyboard.repeats (λ r. HasCode layout.now r.place) }
         requires edges { All (λ c. HasEntry layout.now c.0) changes.now }
+        requires switches { AreKnown layout.now self.old.keys.switches }
         ensures ticked { IfOk result (λ u. self.new ≡ whole_tick (keyboard layout.now) events.now changes.now start (end - start - 609) self.old) }
         ensures known { IfOk result (λ u. ForSome self.new.keys.keyboard.repeats (λ r. HasCode layout.now r.place)) }
+        ensures keys { IfOk result (λ u. AreKnown layout.now self.new.keys.switches) }
     {
         let lights = self.keys.lights();
         self.side.look(events, start, self.shown, lights)?;
         let meeting = self
             .side
             .meet(events, start, end, self.keys.tested(), self.keys.offer())?;
-        let edges = self.layers.follow(alloc, changes, layout)?;
+        let taken = self.switches.follow(alloc, changes, layout.debounces())?;
+        let edges = self.layers.follow(alloc, taken.as_slice(), layout)?;
         self.keys.advance(met_as(meeting), edges.as_slice(), layout);
         self.shown = lights;
         Ok(())
@@ -179,8 +187,10 @@ impl Together {
         requires near { length starts.now < 2 ^ 32 }
         requires cadence { KeepsCadenceTo (listed starts.now) (length starts.now - 1) }
         requires repeats { ForSome self.old.keys.keyboard.repeats (λ r. HasCode layout.now r.place) }
+        requires switches { AreKnown layout.now self.old.keys.switches }
         ensures ticked { IfOk result (λ u. self.new ≡ next_tick (keyboard layout.now) edges.now host.now (listed starts.now) n self.old) }
         ensures known { IfOk result (λ u. ForSome self.new.keys.keyboard.repeats (λ r. HasCode layout.now r.place)) }
+        ensures switched { IfOk result (λ u. AreKnown layout.now self.new.keys.switches) }
     {
         let seen = tick_edges(alloc, edges, starts, n)?;
         let start = STAMP_0 + starts[n];

@@ -11,6 +11,8 @@ use Rattle.board_terms.specs.declared.event.Edge.{Edge}
 use Rattle.kbd_model.specs.Layers.{Layers, in_layer, layer_of, layered, layers_after}
 use Rattle.key_file.specs.Histories.{KeyHistory}
 use Rattle.layout_reader.specs.Layouts.{KeyLayout, is_fn_place}
+use Rattle.link_model.specs.Debounce.{taken}
+use Rattle.link_model.specs.Laws.{taken_in}
 use Rattle.link_model.specs.TickEdges.{by_place, change_of, is_seen, tick_edges}
 use Rattle.quiet_log.specs.Once.{at_tick}
 use Rattle.link_times.specs.Coming.{edges_at}
@@ -66,11 +68,11 @@ layered_at is_fn (x ∷ xs) edge layers (suc k) l e =
     )
 
 pub edge_among : (layout : KeyLayout) (history : KeyHistory) (starts : ℕ → ℕ) (n : ℕ) (edge : Edge)
-    → Contains history.edges edge → edge.place < 96 → is_seen starts n edge ≡ true
+    → layout.debounce ≡ false → Contains history.edges edge → edge.place < 96 → is_seen starts n edge ≡ true
     → (on_fn : Bool)
     × Contains (edges_at layout history starts n)
     (record { place = edge.place; down = edge.down; on_fn = on_fn })
-edge_among layout history starts n edge c l s =
+edge_among layout history starts n edge off c l s =
     let here : (edge.place == edge.place) ≡ true = grind (arith, nat_tests) in
     let a : Contains (of_place edge.place history.edges) edge =
     passes_at (λ (e : Edge). e.place == edge.place) history.edges edge c.0 c.1 c.2 here in
@@ -80,5 +82,8 @@ edge_among layout history starts n edge c l s =
     let d : Contains (by_place f 96) edge = at_place f edge edge.place 96 l b in
     let m : Contains (tick_edges starts history.edges n) (change_of edge) =
     contains_map change_of (by_place f 96) edge d in
-    layered_at (is_fn_place layout) (tick_edges starts history.edges n) (change_of edge)
-    (at_tick layout history starts n).keys.layers m.0 m.1 m.2
+    let t : Contains (taken_in layout history.edges history.host starts n) (change_of edge) =
+    subst (λ b. Contains (taken b (tick_edges starts history.edges n) (at_tick layout history starts n).keys.switches)
+    (change_of edge)) (sym off) m in
+    layered_at (is_fn_place layout) (taken_in layout history.edges history.host starts n) (change_of edge)
+    (at_tick layout history starts n).keys.layers t.0 t.1 t.2

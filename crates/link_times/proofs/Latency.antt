@@ -1,5 +1,5 @@
 -- With a quiet host the code of an edge waits after what was there, and is read a tick a byte.
-use Rattle.std.proofs.Common.{◌≡◌, ℕ, suc, zero, ◌+◌, ◌*◌, ◌/◌, ◌≤◌, ◌<◌, List, [], ◌∷◌, ◌++◌, length, Bool, true, false, not}
+use Rattle.std.proofs.Common.{◌≡◌, ℕ, suc, zero, ◌+◌, ◌-◌, ◌*◌, ◌/◌, ◌≤◌, ◌<◌, List, [], ◌∷◌, ◌++◌, length, Bool, true, false, not}
 use Rattle.std.proofs.Common.{◌&&◌, ◌||◌, ◌==◌, Some, refl, ap, sym, ◌∙◌, subst, arith, append_assoc, append-nil}
 use Rattle.std.specs.Prelude.{if◌then◌else◌, nat_le, nat_lt, slice_get, slice_index_or}
 use Rattle.std.proofs.lemmas.Bool.Decides.{nat_tests}
@@ -12,7 +12,7 @@ use Rattle.byte_time.specs.declared.meeting.Meeting.TheVariants.{Got, Inhibited,
 use Rattle.kbd_model.specs.Codes.{Keys, keys_of}
 use Rattle.kbd_model.specs.Keyboard.{Keyboard}
 use Rattle.kbd_model.specs.Laws.{Enters, let_in}
-use Rattle.kbd_model.specs.Once.{byte_if, waiting}
+use Rattle.kbd_model.specs.Once.{byte_if, is_reset_due, waiting}
 use Rattle.kbd_model.specs.Queue.{KeyQueue, enter}
 use Rattle.kbd_model.specs.Tick.{is_inhibited, is_ready, is_scanning}
 use Rattle.kbd_model.specs.declared.edge.TickEdge.{TickEdge}
@@ -24,7 +24,7 @@ use Rattle.quiet_log.specs.Once.{meeting_at}
 use Rattle.link_times.specs.Coming.{added, code_of, codes_at, codes_of, edges_at, first_at, keyboard_at, queue_left}
 use Rattle.link_times.specs.Coming.{repeat_code, repeats_still, rest_at, test_left, tick_codes, overrun_mark}
 use Rattle.link_times.specs.Flowing.{IsHostQuiet, IsQuietFrom}
-use Rattle.link_times.specs.Latency.{ComesInTime, IsListedAt, Strikes, read_stamp}
+use Rattle.link_times.specs.Latency.{ComesInTime, IsListedAt, Strikes, read_stamp, settling}
 use Rattle.link_times.proofs.Entering.{entered}
 use Rattle.link_times.proofs.Flowing.{get_more}
 use Rattle.link_times.proofs.QuietFlow.{byte_a_tick}
@@ -180,6 +180,15 @@ module _ (layout : KeyLayout) (history : KeyHistory) (starts : ℕ → ℕ) (n :
   pub comes_after : IsListedAt (length ahead) code (waiting (keyboard_at layout history starts (suc n)))
   comes_after = record { before = ahead; afterwards = rest; is = in_its_place; number = refl }
 
+-- the test's ticks are counted one by one
+test_goes_on : (m : Meeting) (k : Keyboard) → 1 < k.test → 0 < test_left m k
+test_goes_on (Got byte) k l = omega (arith, l)
+test_goes_on Inhibited k l = omega (arith, l)
+test_goes_on Idle k l = omega (arith, l)
+test_goes_on (Sent byte) k l =
+    elim (is_reset_due k.reply) as (λ b. 0 < (if b then 64 else k.test - 1)) [ true ↦ omega arith | false ↦ omega (arith, l) ]
+test_goes_on Cut k l = omega (arith, l)
+
 -- in tick 0 scanning is off
 first_test : (layout : KeyLayout) (history : KeyHistory) (starts : ℕ → ℕ) (m : Meeting)
     → test_left m (keyboard_at layout history starts 0) ≡ 63
@@ -188,6 +197,27 @@ first_test layout history starts Inhibited = refl
 first_test layout history starts Idle = refl
 first_test layout history starts (Sent byte) = refl
 first_test layout history starts Cut = refl
+
+-- and in tick 1
+still_tests : (layout : KeyLayout) (history : KeyHistory) (starts : ℕ → ℕ) (n : ℕ) → n < 2
+    → 0 < (keyboard_at layout history starts (suc n)).test
+still_tests layout history starts zero l =
+    let f : (keyboard_at layout history starts 1).test ≡ 63 =
+    (comes_exactly layout history starts 0).test
+    ∙ first_test layout history starts (meeting_at layout history starts 0) in
+    omega (arith, f)
+still_tests layout history starts (suc zero) l =
+    let f : (keyboard_at layout history starts 1).test ≡ 63 =
+    (comes_exactly layout history starts 0).test
+    ∙ first_test layout history starts (meeting_at layout history starts 0) in
+    let g : 0 < test_left (meeting_at layout history starts 1) (keyboard_at layout history starts 1) =
+    test_goes_on (meeting_at layout history starts 1) (keyboard_at layout history starts 1) (omega (arith, f)) in
+    let h = (comes_exactly layout history starts 1).test in
+    omega (arith, g, h)
+still_tests layout history starts (suc (suc n)) l = absurd (omega (arith, l))
+
+settling_one : (layout : KeyLayout) → settling layout ≤ 1
+settling_one layout = elim layout.debounce as (λ b. (if b then 1 else 0) ≤ 1) [ true ↦ omega arith | false ↦ omega arith ]
 
 -- the edge came after the read of its column in the tick before
 seen_late : (starts : ℕ → ℕ) (m : ℕ) (edge : Edge) → is_seen starts (suc m) edge ≡ true
@@ -224,18 +254,23 @@ module _ (layout : KeyLayout) (history : KeyHistory) (starts : ℕ → ℕ) (las
   soon_at : (n place i late : ℕ) → Strikes layout history starts n edge code → i + place + suc n ≤ last
       → starts (i + place + suc n) ≤ 2048 * (i + place + suc n) + late
       → read_stamp starts (i + place + suc n) + 16 * (edge.place / 8)
-      ≤ edge.stamp + 2 * 2048 + 655 + late + 2048 * (i + place)
-  soon_at zero place i late struck u hi =
-      let t : (keyboard_at layout history starts 1).test ≡ 0 =
-      tested (keyboard_at layout history starts 1) struck.scanning in
-      let f : (keyboard_at layout history starts 1).test ≡ 63 =
-      (comes_exactly layout history starts 0).test
-      ∙ first_test layout history starts (meeting_at layout history starts 0) in
-      absurd (omega (arith, t, f))
-  soon_at (suc m) place i late struck u hi =
-      let afterwards : starts m + 16 + 16 * (edge.place / 8) < edge.stamp = seen_late starts m edge struck.seen in
-      let lo : 2048 * m ≤ starts m = (cadence m (omega (arith, u))).least in
-      omega (arith, afterwards, lo, hi)
+      ≤ edge.stamp + 2 * 2048 + 655 + late + 2048 * (i + place + settling layout)
+  soon_at n place i late struck u hi = by struck.reading struck.seen struck.taken
+    where
+      by : (r : ℕ) → is_seen starts r edge ≡ true → n ≡ r + settling layout
+          → read_stamp starts (i + place + suc n) + 16 * (edge.place / 8)
+          ≤ edge.stamp + 2 * 2048 + 655 + late + 2048 * (i + place + settling layout)
+      by zero seen now =
+          let one : settling layout ≤ 1 = settling_one layout in
+          let t : (keyboard_at layout history starts (suc n)).test ≡ 0 =
+          tested (keyboard_at layout history starts (suc n)) struck.scanning in
+          let f : 0 < (keyboard_at layout history starts (suc n)).test =
+          still_tests layout history starts n (omega (arith, now, one)) in
+          absurd (omega (arith, t, f))
+      by (suc m) seen now =
+          let afterwards : starts m + 16 + 16 * (edge.place / 8) < edge.stamp = seen_late starts m edge seen in
+          let lo : 2048 * m ≤ starts m = (cadence m (omega (arith, u, now))).least in
+          omega (arith, afterwards, lo, hi, now)
 
   pub in_time : (n : ℕ) → first ≤ n → n < last → Strikes layout history starts n edge code
       → ComesInTime layout history starts last n edge code

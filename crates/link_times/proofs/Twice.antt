@@ -8,7 +8,7 @@ use Rattle.kbd_model.specs.Codes.{keys_of}
 use Rattle.kbd_model.specs.Keyboard.{Keyboard}
 use Rattle.kbd_model.specs.Once.{waiting}
 use Rattle.link_model.specs.Expected.{Whole}
-use Rattle.link_model.specs.TickEdges.{tick_edges}
+use Rattle.link_model.specs.Laws.{taken_in}
 use Rattle.link_model.specs.Machine.{LayeredKeyboard}
 use Rattle.quiet_log.specs.Once.{came, at_tick, meeting_at, all_arrived, all_taken_away, all_came}
 use Rattle.quiet_log.proofs.Counted.{all_counted}
@@ -38,7 +38,7 @@ module _ (layout : KeyLayout) (history : KeyHistory) (starts : ℕ → ℕ) wher
     test = c.test;
     codes = codes_whole (keys_of layout) (meeting_at layout history starts n) (edges_at layout history starts n)
         (keyboard_at layout history starts n) (is_scanning (keyboard_at layout history starts (suc n)));
-    edges = layered_same (is_fn_place layout) (tick_edges starts history.edges n)
+    edges = layered_same (is_fn_place layout) (taken_in layout history.edges history.host starts n)
         (at_tick layout history starts n).keys.layers;
     repeats = c.repeats;
   }

@@ -21,7 +21,7 @@ use Rattle.kbd_model.specs.Tick.{ended_at, is_ready, is_scanning, is_inhibited}
 use Rattle.key_file.specs.Histories.{KeyHistory}
 use Rattle.layout_reader.specs.Layouts.{KeyLayout, is_fn_place}
 use Rattle.link_model.specs.Machine.{met_as}
-use Rattle.link_model.specs.TickEdges.{tick_edges}
+use Rattle.link_model.specs.Laws.{taken_in}
 use Rattle.quiet_log.specs.Once.{left, at_tick, meeting_at, all_arrived, all_taken_away}
 
 -- the byte that answers one from the system: the last byte sent, if FE asks for it; EE if EE does; FA for all
@@ -126,14 +126,15 @@ repeats_then keys rate (e ∷ edges) r = repeats_then keys rate edges (repeats_b
 abbrev pub change_in : TickEdge → ℕ × Bool
 change_in e = (e.place, e.down)
 
--- the model of a layout and a history in tick n: its keyboard, the edges that it sees, and what they add
+-- the model of a layout and a history in tick n: its keyboard, the edges that it takes, and what they add
 module _ (layout : KeyLayout) (history : KeyHistory) (starts : ℕ → ℕ) where
   abbrev pub keyboard_at : ℕ → Keyboard
   keyboard_at n = (at_tick layout history starts n).keys.keyboard
 
   abbrev pub edges_at : ℕ → List TickEdge
   edges_at n =
-      layered (is_fn_place layout) (tick_edges starts history.edges n) (at_tick layout history starts n).keys.layers
+      layered (is_fn_place layout) (taken_in layout history.edges history.host starts n)
+      (at_tick layout history starts n).keys.layers
 
   abbrev pub codes_at : ℕ → List (List ℕ)
   codes_at n =
@@ -163,7 +164,7 @@ module _ (layout : KeyLayout) (history : KeyHistory) (starts : ℕ → ℕ) wher
   all_come n (suc count) = all_come n count ++ (first_at (count + n) ++ after_at (count + n))
 
 -- after a tick there waits what comes first, then the rest of what waited, and then what its codes added, and nothing
--- else. Its edges are those that it sees, each once, and so its codes are, of which each is one byte, or F0 and one;
+-- else. Its edges are those that it takes, each once, and so its codes are, of which each is one byte, or F0 and one;
 -- the test has a tick less; the key that repeats has one less too, and waits a period after its code: so AA and a
 -- repeat come once each time
 pub record IsExact (layout : KeyLayout) (history : KeyHistory) (starts : ℕ → ℕ) (n : ℕ) : Type 0 where
@@ -172,7 +173,7 @@ pub record IsExact (layout : KeyLayout) (history : KeyHistory) (starts : ℕ →
   pub test : (keyboard_at layout history starts (suc n)).test
       ≡ test_left (meeting_at layout history starts n) (keyboard_at layout history starts n)
   pub codes : All IsCode (codes_at layout history starts n)
-  pub edges : map change_in (edges_at layout history starts n) ≡ tick_edges starts history.edges n
+  pub edges : map change_in (edges_at layout history starts n) ≡ taken_in layout history.edges history.host starts n
   pub repeats : (keyboard_at layout history starts (suc n)).repeats ≡ repeats_at layout history starts n
 
 -- so it is in each tick of each run

@@ -1,6 +1,6 @@
 -- A key's latency: how long it takes from the edge of a key to INT 09h's read of each byte of its code.
 use Rattle.std.specs.Prelude.{◌≡◌, ◌≤◌, ◌<◌, ℕ, suc, ◌+◌, ◌*◌, ◌/◌, Bool, true, false, List, [], ◌∷◌, ◌++◌, length}
-use Rattle.std.specs.Prelude.{Some, slice_get, Contains}
+use Rattle.std.specs.Prelude.{Some, slice_get, Contains, if◌then◌else◌}
 use Rattle.std.specs.declared.option.Option.{Option}
 use Rattle.board_terms.specs.Cadence.{KeepsCadence, KeepsCadenceTo}
 use Rattle.board_terms.specs.declared.event.Edge.{Edge}
@@ -52,10 +52,16 @@ pub record IsListedAt (place : ℕ) (bytes list : List ℕ) : Type 0 where
   pub is : list ≡ before ++ (bytes ++ afterwards)
   pub number : length before ≡ place
 
--- an edge of a key that tick n sees, and the code that it enters, in its layer; no code of that tick is lost
+-- how many ticks after its reading a key's edge is taken: with a debounce one
+abbrev pub settling : KeyLayout → ℕ
+settling layout = if layout.debounce then 1 else 0
+
+-- an edge of a key that tick n takes, and the code that it enters, in its layer; no code of that tick is lost
 pub record Strikes (layout : KeyLayout) (history : KeyHistory) (starts : ℕ → ℕ) (n : ℕ) (edge : Edge) (code : List ℕ)
     : Type 0 where
-  pub seen : is_seen starts n edge ≡ true
+  pub reading : ℕ
+  pub seen : is_seen starts reading edge ≡ true
+  pub taken : n ≡ reading + settling layout
   pub on_fn : Bool
   pub among : Contains (edges_at layout history starts n)
       (record { place = edge.place; down = edge.down; on_fn = on_fn })
@@ -63,11 +69,11 @@ pub record Strikes (layout : KeyLayout) (history : KeyHistory) (starts : ℕ →
   pub scanning : is_scanning (keyboard_at layout history starts (suc n)) ≡ true
   pub room : (keyboard_at layout history starts (suc n)).queue.overrun ≡ false
 
--- each edge of the history that tick n sees is among its edges, in one of the two layers
+-- without a debounce each edge of the history that tick n sees is among its edges, in one of the two layers
 abbrev pub EdgesAreAmong : Type 0
 EdgesAreAmong =
     (layout : KeyLayout) (history : KeyHistory) (starts : ℕ → ℕ) (n : ℕ) (edge : Edge)
-    → Contains history.edges edge → edge.place < 96 → is_seen starts n edge ≡ true
+    → layout.debounce ≡ false → Contains history.edges edge → edge.place < 96 → is_seen starts n edge ≡ true
     → (on_fn : Bool)
     × Contains (edges_at layout history starts n) (record { place = edge.place; down = edge.down; on_fn = on_fn })
 
@@ -75,7 +81,7 @@ EdgesAreAmong =
 -- ticks and 660 cycles after the edge, and a tick for each byte before it; 16 fewer for each column before the key's.
 -- The edge may come a cycle after the read of its column, at offset 16, and so waits for the next tick's; what it
 -- enters goes in the tick after that, which may start 5 cycles late: 5 + 608 + 64 - 17. In a run of the compiled image
--- it starts one cycle late at most: 1 + 608 + 64 - 17
+-- it starts one cycle late at most: 1 + 608 + 64 - 17. With a debounce all of it is a tick later
 pub record ComesInTime (layout : KeyLayout) (history : KeyHistory) (starts : ℕ → ℕ) (last n : ℕ) (edge : Edge)
     (code : List ℕ) : Type 0 where
   pub place : ℕ
@@ -85,10 +91,10 @@ pub record ComesInTime (layout : KeyLayout) (history : KeyHistory) (starts : ℕ
   pub prompt : (i : ℕ) → i + place + suc n ≤ last
       → starts (i + place + suc n) ≤ 2048 * (i + place + suc n) + 1
       → read_stamp starts (i + place + suc n) + 16 * (edge.place / 8)
-      ≤ edge.stamp + 2 * 2048 + 656 + 2048 * (i + place)
+      ≤ edge.stamp + 2 * 2048 + 656 + 2048 * (i + place + settling layout)
   pub soon : (i : ℕ) → i + place + suc n ≤ last
       → read_stamp starts (i + place + suc n) + 16 * (edge.place / 8)
-      ≤ edge.stamp + 2 * 2048 + 660 + 2048 * (i + place)
+      ≤ edge.stamp + 2 * 2048 + 660 + 2048 * (i + place + settling layout)
 
 -- so it is of each edge, with a quiet host
 abbrev pub KeysComeInTime : Type 0

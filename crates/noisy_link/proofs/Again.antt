@@ -22,7 +22,7 @@ use Rattle.kbd_model.specs.Tick.{ticked}
 use Rattle.key_file.specs.Histories.{KeyHistory}
 use Rattle.layout_reader.specs.Layouts.{KeyLayout, is_fn_place}
 use Rattle.link_model.specs.Machine.{LayeredKeyboard, keyboard, met_as}
-use Rattle.link_model.specs.TickEdges.{tick_edges}
+use Rattle.link_model.specs.Laws.{taken_in}
 use Rattle.link_model.specs.Expected.{Whole, begins_from, from_meeting}
 use Rattle.quiet_log.specs.Once.{at_tick, meeting_at}
 use Rattle.quiet_log.proofs.Once.{arrives_as_offered}
@@ -79,7 +79,9 @@ module _ (layout : KeyLayout) (history : KeyHistory) (starts : ℕ → ℕ) wher
   keys_at n = (at_tick layout history starts n).keys.keyboard
 
   abbrev edges_at : ℕ → List TickEdge
-  edges_at n = layered (is_fn_place layout) (tick_edges starts history.edges n) (at_tick layout history starts n).keys.layers
+  edges_at n =
+      layered (is_fn_place layout) (taken_in layout history.edges history.host starts n)
+      (at_tick layout history starts n).keys.layers
 
   -- the keyboard after a tick with this meeting
   keys_after : (n : ℕ) (meeting : Meeting)

@@ -21,6 +21,7 @@ use Rattle.kbd_model.specs.Tick.{met, tested_if, scanned, ticked}
 use Rattle.kbd_model.specs.Once.{byte_if, clears_queue, is_reset_due, queued, reply_bytes, waiting, Extends, GotKeeps, OnlyAdds}
 use Rattle.kbd_model.proofs.Once.{offers_first, sent_leaves, reset_leaves, got_leaves}
 use Rattle.kbd_model.proofs.Adds.{rest_adds, stays_in_line, Adds, scans_add}
+use Rattle.link_model.specs.Debounce.{taken}
 use Rattle.link_model.specs.Machine.{LayeredKeyboard, keyboard, met_as}
 use Rattle.link_model.specs.Expected.{Whole, meeting_from, whole_tick}
 use Rattle.quiet_log.specs.Once.{cleared_away, Passes, IsSilentInTest}
@@ -229,6 +230,6 @@ pub each_byte_once : (layout : KeyLayout) (events : List HostEvent) (edges : Lis
     → Passes (meeting_from (keyboard layout) events start w) w.keys.keyboard
     (whole_tick (keyboard layout) events edges start rest w).keys.keyboard
 each_byte_once layout events edges start rest w silent =
-    passes_by (keys_of layout) (layered (is_fn_place layout) edges w.keys.layers) w.keys.keyboard
+    passes_by (keys_of layout) (layered (is_fn_place layout) (taken layout.debounce edges w.keys.switches) w.keys.layers) w.keys.keyboard
     silent (meeting_from (keyboard layout) events start w)
     (tested_or_idle layout events start w) (λ byte h. (arrives_as_offered layout events start byte w h).1)

@@ -18,6 +18,7 @@ use Rattle.kbd_model.specs.Tick.{reset, met, without_offered, sent_byte, ticked}
 use Rattle.kbd_model.specs.Once.{byte_if, is_reset_due, queued, reply_bytes, waiting, Extends, GotKeeps, OnlyAdds}
 use Rattle.kbd_model.proofs.Once.{sent_leaves, got_leaves}
 use Rattle.kbd_model.proofs.Adds.{rest_adds}
+use Rattle.link_model.specs.Debounce.{taken}
 use Rattle.link_model.specs.Machine.{LayeredKeyboard, met_as}
 use Rattle.link_model.specs.TickEdges.{tick_edges}
 use Rattle.link_model.specs.Expected.{Whole}
@@ -144,7 +145,7 @@ line_in_order layout history starts n (suc count) h =
     let before : IsSubsequence first (all ++ line w.keys.keyboard) =
     line_in_order layout history starts n count (λ j l u. h j l (omega (arith, u))) in
     let step : IsSubsequence (line w.keys.keyboard) (arrived meeting ++ next) =
-    ticked_line (keys_of layout) w.keys.keyboard meeting (layered (is_fn_place layout) (tick_edges starts history.edges m) w.keys.layers)
+    ticked_line (keys_of layout) w.keys.keyboard meeting (layered (is_fn_place layout) (taken layout.debounce (tick_edges starts history.edges m) w.keys.switches) w.keys.layers)
     (h m (omega arith) (omega arith))
     (λ byte g. (arrives_as_offered layout history.host (4096 + starts m) byte w g).1) in
     let whole : IsSubsequence first (all ++ (arrived meeting ++ next)) =

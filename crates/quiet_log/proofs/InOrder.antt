@@ -14,6 +14,7 @@ use Rattle.kbd_model.specs.Tick.{met, ticked}
 use Rattle.kbd_model.specs.Once.{waiting, Extends}
 use Rattle.kbd_model.proofs.Once.{sent_leaves}
 use Rattle.kbd_model.proofs.Adds.{stays_in_line}
+use Rattle.link_model.specs.Debounce.{taken}
 use Rattle.link_model.specs.Machine.{LayeredKeyboard, keyboard, met_as}
 use Rattle.link_model.specs.Expected.{Whole, meeting_from, whole_tick}
 use Rattle.link_model.specs.TickEdges.{tick_edges}
@@ -51,7 +52,7 @@ plain_tick : (layout : KeyLayout) (events : List HostEvent) (edges : List (ℕ �
     → Leaves (arrived (meeting_from (keyboard layout) events start w)) (waiting w.keys.keyboard)
     (waiting (whole_tick (keyboard layout) events edges start rest w).keys.keyboard)
 plain_tick layout events edges start rest w e p =
-    passes_by (keys_of layout) (layered (is_fn_place layout) edges w.keys.layers) w.keys.keyboard
+    passes_by (keys_of layout) (layered (is_fn_place layout) (taken layout.debounce edges w.keys.switches) w.keys.layers) w.keys.keyboard
     (meeting_from (keyboard layout) events start w) e
     (λ byte h. (arrives_as_offered layout events start byte w h).1) p
 

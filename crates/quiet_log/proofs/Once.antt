@@ -20,6 +20,7 @@ use Rattle.kbd_model.specs.Codes.{keys_of}
 use Rattle.kbd_model.specs.Keyboard.{offer}
 use Rattle.kbd_model.specs.Tick.{ticked}
 use Rattle.kbd_model.proofs.Adds.{cut_is_offered}
+use Rattle.link_model.specs.Debounce.{taken}
 use Rattle.link_model.specs.Machine.{LayeredKeyboard, keyboard, met_as}
 use Rattle.link_model.specs.Expected.{Whole, to_look, to_meeting, begins_from, meeting_from, whole_tick}
 use Rattle.link_model.specs.Laws.{event_at}
@@ -162,7 +163,7 @@ pub cut_offered : (layout : KeyLayout) (events : List HostEvent) (edges : List (
     (w : Whole LayeredKeyboard) → meeting_from (keyboard layout) events start w ≡ Cut → offer w.keys.keyboard ≡ Some byte
     → offer (whole_tick (keyboard layout) events edges start rest w).keys.keyboard ≡ Some byte
 cut_offered layout events edges start rest byte w c o =
-    let edges' : List TickEdge = layered (is_fn_place layout) edges w.keys.layers in
+    let edges' : List TickEdge = layered (is_fn_place layout) (taken layout.debounce edges w.keys.switches) w.keys.layers in
     subst (λ m. offer (ticked (keys_of layout) (met_as m) edges' w.keys.keyboard) ≡ Some byte) (sym c)
     (elim (tested_or_idle layout events start w) [
       | inl t ↦ cut_is_offered (keys_of layout) edges' w.keys.keyboard byte t o

@@ -21,6 +21,7 @@ use Rattle.kbd_model.specs.Tick.{repeated_if, edge_if, edges_if, is_inhibited, s
 use Rattle.kbd_model.proofs.Adds.{rest_adds}
 use Rattle.key_file.specs.Histories.{KeyHistory}
 use Rattle.layout_reader.specs.Layouts.{KeyLayout, is_fn_place}
+use Rattle.link_model.specs.Debounce.{taken}
 use Rattle.link_model.specs.Machine.{LayeredKeyboard, met_as}
 use Rattle.link_model.specs.TickEdges.{tick_edges}
 use Rattle.link_model.specs.Expected.{Whole}
@@ -132,7 +133,7 @@ silent_in_test layout history starts zero = inr refl
 silent_in_test layout history starts (suc n) =
     let w : Whole LayeredKeyboard = at_tick layout history starts n in
     let start : ℕ = 4096 + starts n in
-    silent_by (keys_of layout) (layered (is_fn_place layout) (tick_edges starts history.edges n) w.keys.layers)
+    silent_by (keys_of layout) (layered (is_fn_place layout) (taken layout.debounce (tick_edges starts history.edges n) w.keys.switches) w.keys.layers)
     w.keys.keyboard (silent_in_test layout history starts n)
     (meeting_at layout history starts n) (tested_or_idle layout history.host start w)
     (λ byte h. (arrives_as_offered layout history.host start byte w h).1)

@@ -1,8 +1,8 @@
 //! The kernel: its labels, its cells, and its ticks.
 
 use fw_kernel::cells::{
-    AADUE, COUNT, DISABLED, FN, HEAD, HELD, LAST, LAYER, LIGHTS, MODE, RATE, RCOUNT, REPLY,
-    REPLYDUE, RINDEX, STARTED, TEST,
+    AADUE, COUNT, DISABLED, FN, HEAD, HELD, LAST, LAYER, LIGHTS, MODE, PENDING, RATE, RCOUNT,
+    REPLY, REPLYDUE, RINDEX, STARTED, TEST,
 };
 use fw_kernel::{KERNEL, SOURCE, TICK};
 use mcs48_asm::assemble;
@@ -40,8 +40,8 @@ static CELLS: [(&str, u8); 15] = [
     ("FN", FN),
 ];
 
-/// The two that have a line in the source's table of data memory alone.
-static TOLD: [(&str, u8); 2] = [("HEAD", HEAD), ("LAYER", LAYER)];
+/// The three that have a line in the source's table of data memory alone.
+static TOLD: [(&str, u8); 3] = [("HEAD", HEAD), ("LAYER", LAYER), ("PENDING", PENDING)];
 
 /// A byte with each name for its value, assembled after the source, is the cell that its constant gives.
 #[test]

@@ -7,7 +7,8 @@ use fw_kernel::labels::{
     ENDS, ENTER, ENTER2, ENTERED, FIRE, FN_DOWN, FN_HELD, FN_UP, FOOT, GOT, HEAL, IDLE, INHIBITED,
     LAMPS, LAYERS, LOOKS, MORE, MOVED, O_DUE, OFFER, PARAMETER, POWER, PRESS, PULLED, R_ACK,
     R_CELL, R_PARITY, R_STOP, READ, READY, RECEIVE, RELEASE, REPEAT, RESET, REST, RESTART, ROW,
-    ROWS, S_CELL, S_STOP, SCAN, SEND, SENT, SILENT, START, TESTED, TESTING, TICK, WAIT, WAITING,
+    ROWS, S_CELL, S_STOP, SCAN, SEND, SENT, SETTLE, SILENT, START, TESTED, TESTING, TICK, WAIT,
+    WAITING,
 };
 use std::test::Fail;
 
@@ -19,7 +20,7 @@ fn the_source_is_the_kernels(rt: HostRuntime) -> Result<(), Fail> {
 }
 
 /// The labels' names and places.
-static LABELS: [(&str, u16); 63] = [
+static LABELS: [(&str, u16); 64] = [
     ("tick", TICK),
     ("read", READ),
     ("offer", OFFER),
@@ -83,6 +84,7 @@ static LABELS: [(&str, u16); 63] = [
     ("entered", ENTERED),
     ("foot", FOOT),
     ("fn_held", FN_HELD),
+    ("settle", SETTLE),
 ];
 
 /// Whether these bytes begin with a jump to a place.

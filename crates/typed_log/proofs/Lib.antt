@@ -7,9 +7,12 @@ pub mod InTicks
 pub mod Steps
 pub mod Tables
 pub mod Keying
+pub mod Settling
 pub mod Turns
 pub mod Resting
 pub mod PlainStroke
 pub mod ShiftedStroke
+pub mod PlainSettled
+pub mod ShiftedSettled
 pub mod Start
 pub mod Texts

@@ -1,4 +1,4 @@
--- A stroke without shift, from rest to rest.
+-- A stroke without shift, from rest to rest, on a layout without a debounce.
 use Rattle.std.proofs.Common.{◌≡◌, ℕ, suc, ◌+◌, ◌-◌, ◌*◌, ◌<◌, ◌≤◌, Bool, true, false, ◌==◌, List, [], ◌∷◌}
 use Rattle.std.proofs.Common.{◌++◌, length, append-nil, Some, None, refl, ap, subst, arith}
 use Rattle.std.specs.Prelude.{slice_get, if◌then◌else◌}
@@ -49,7 +49,8 @@ ends_at_rest layout edges bytes bytes' rep rep' held held' back e f m =
     (subst (λ v. Moves layout edges bytes rep held bytes' v held') e m)
 
 module _ (layout : KeyLayout) (h : KeyHistory) (ss : List Stroke) (edges : h.edges ≡ edges_from 0 ss)
-    (host : h.host ≡ takes_from 0 ss) (fit : AllFit layout.entries ss) (m : ℕ) (key : Entry)
+    (host : h.host ≡ takes_from 0 ss) (fit : AllFit layout.entries ss)
+    (off : layout.debounce ≡ false) (m : ℕ) (key : Entry)
     (is : slice_get ss m ≡ Some (Plain key)) (below : m < length ss) (code scan w : ℕ) (only : Bool)
     (k : IsKeyAt layout key.place code only) (f : IsPlain code scan w) (words : List (Option ℕ)) where
   abbrev At' : ℕ → Line → Option Repeat → List Bool → List (Option ℕ) → Type 0
@@ -72,7 +73,7 @@ module _ (layout : KeyLayout) (h : KeyHistory) (ss : List Stroke) (edges : h.edg
       let n : ℕ = 80 + 10 * m in
       let q : Pc = record { mark = false; out = out; bios = start; done = m } in
       let r1 : At' (suc n) (line last (code ∷ []) false false out start m) (waiting key.place d) down words =
-      turn layout h ss host n (line last [] false false out start m) (line last [] false false out start m) words []
+      turn layout h ss host off n (line last [] false false out start m) (line last [] false false out start m) words []
       ((key.place, true) ∷ []) None (pressed_at layout.rate key.place) all_up down (code ∷ []) r
       (one_then layout h ss edges host fit m (Plain key) is n 0 (presses key (stroke_start m)) (omega arith)
       (omega arith)
@@ -80,7 +81,7 @@ module _ (layout : KeyLayout) (h : KeyHistory) (ss : List Stroke) (edges : h.edg
       tt (nothing (keys_of layout) layout.rate last false q)
       (press_moves layout key.place code [] None all_up only k refl)
       (omega arith) tt words (append-nil words) in
-      turn layout h ss host (suc n) (line last (code ∷ []) false false out start m)
+      turn layout h ss host off (suc n) (line last (code ∷ []) false false out start m)
       (line (sent last) [] false false scan (record start { words = w ∷ [] }) m) words (Port scan ∷ Word w ∷ []) []
       (waiting key.place d) (waiting key.place (d - 1)) down down [] r1
       (none_then layout h ss edges host fit m (Plain key) is (suc n) 1 (omega arith) (omega arith) refl)
@@ -121,7 +122,7 @@ module _ (layout : KeyLayout) (h : KeyHistory) (ss : List Stroke) (edges : h.edg
       let n : ℕ = suc (suc (suc (suc (suc (80 + 10 * m))))) in
       let rep : Option Repeat = waiting key.place (d - 1 - 1 - 1 - 1 - 1) in
       let q : Pc = record { mark = false; out = out; bios = bios; done = m } in
-      turn layout h ss host n (line last [] false false out bios m) (line last [] false false out bios m) words []
+      turn layout h ss host off n (line last [] false false out bios m) (line last [] false false out bios m) words []
       ((key.place, false) ∷ []) (waiting key.place (d - 1 - 1 - 1 - 1)) None down all_up bytes r
       (one_then layout h ss edges host fit m (Plain key) is n 5 (releases key (stroke_start m + 10240))
       (omega arith) (omega arith)
@@ -165,7 +166,7 @@ module _ (layout : KeyLayout) (h : KeyHistory) (ss : List Stroke) (edges : h.edg
       goes_up last scan bios []
       (silent_moves layout key.place code [] (waiting key.place (d - 1 - 1 - 1 - 1 - 1)) down k') r in
       let r7 : At' (suc n) (line last [] false false scan start (m + 1)) None all_up (words ++ Some w ∷ []) =
-      taking_turn layout h ss host n (line last [] false false scan bios m) (line last [] false false scan bios m)
+      taking_turn layout h ss host off n (line last [] false false scan bios m) (line last [] false false scan bios m)
       words []
       [] None None all_up all_up [] r6
       (none_then layout h ss edges host fit m (Plain key) is n 6 (omega arith) (omega arith) refl)
@@ -188,13 +189,13 @@ module _ (layout : KeyLayout) (h : KeyHistory) (ss : List Stroke) (edges : h.edg
       goes_up last scan bios (0xf0 ∷ code ∷ [])
       (break_moves layout key.place code [] (waiting key.place (d - 1 - 1 - 1 - 1 - 1)) down k' refl) r in
       let r7 : At' (suc n) (line 0xf0 (code ∷ []) true true scan start (m + 1)) None all_up (words ++ Some w ∷ []) =
-      taking_turn layout h ss host n (line last (0xf0 ∷ code ∷ []) false false scan bios m)
+      taking_turn layout h ss host off n (line last (0xf0 ∷ code ∷ []) false false scan bios m)
       (line 0xf0 (code ∷ []) true true scan bios m) words [] [] None None all_up all_up (code ∷ []) r6
       (none_then layout h ss edges host fit m (Plain key) is n 6 (omega arith) (omega arith) refl)
       tt (prefix (keys_of layout) layout.rate last (code ∷ []) scan m bios) (no_edges layout (code ∷ []) None all_up)
       (omega arith) below (refl, tt) (words ++ Some w ∷ []) refl in
       last_two (sent 0xf0) (with_bit 0x80 scan)
-      (turn layout h ss host (suc n) (line 0xf0 (code ∷ []) true true scan start (m + 1))
+      (turn layout h ss host off (suc n) (line 0xf0 (code ∷ []) true true scan start (m + 1))
       (line (sent 0xf0) [] false false (with_bit 0x80 scan) start (m + 1)) (words ++ Some w ∷ [])
       (Port (with_bit 0x80 scan) ∷ []) [] None None all_up all_up [] r7
       (none_then layout h ss edges host fit m (Plain key) is (suc n) 7 (omega arith) (omega arith) refl)

@@ -22,7 +22,8 @@ use Rattle.typed_log.proofs.TickOf.{sees_none, sees_one}
 use Rattle.typed_log.proofs.InTicks.{seen_by, seen_at, seen_before}
 use Rattle.typed_log.proofs.Steps.{Reached}
 use Rattle.typed_log.proofs.Keying.{later, IsLong}
-use Rattle.typed_log.proofs.Turns.{Line, at_work, nothing, no_edges, turn}
+use Rattle.typed_log.proofs.Settling.{takes_nothing}
+use Rattle.typed_log.proofs.Turns.{Line, at_work, nothing, no_edges, turn_by}
 
 abbrev pub line : ℕ → List ℕ → Bool → Bool → ℕ → State → ℕ → Line
 line last bytes started mark out bios done = record {
@@ -39,7 +40,11 @@ not_one d l = grind (arith, nat_tests, l)
 module _ (layout : KeyLayout) (h : KeyHistory) (ss : List Stroke) (edges : h.edges ≡ edges_from 0 ss)
     (host : h.host ≡ takes_from 0 ss) (fit : AllFit layout.entries ss) where
   abbrev pub At : ℕ → Line → Option Repeat → List Bool → List (Option ℕ) → Type 0
-  At n l rep held words = Reached (keyboard layout) h ss host n (at_work layout.rate l rep held) words
+  At n l rep held words = Reached (keyboard layout) h ss host n (at_work [] layout.rate l rep held) words
+
+  -- with a debounce: these edges were read, and aren't taken yet
+  abbrev pub Pends : List (ℕ × Bool) → ℕ → Line → Option Repeat → List Bool → List (Option ℕ) → Type 0
+  Pends next n l rep held words = Reached (keyboard layout) h ss host n (at_work next layout.rate l rep held) words
 
   -- before a stroke: nothing waits, nothing repeats, no key is down, INT 09h is as at its start
   pub record Rest (m : ℕ) (words : List (Option ℕ)) : Type 0 where
@@ -53,9 +58,9 @@ module _ (layout : KeyLayout) (h : KeyHistory) (ss : List Stroke) (edges : h.edg
       → n < 86 + 10 * done → At (suc n) (line last [] false false out bios done) (later rep) held words
   idle n last out done bios rep held words r sees long l =
       let q : Pc = record { mark = false; out = out; bios = bios; done = done } in
-      turn layout h ss host n (line last [] false false out bios done) (line last [] false false out bios done)
-      words [] []
-      rep (later rep) held held [] r sees long (nothing (keys_of layout) layout.rate last false q)
+      turn_by layout h ss host n (line last [] false false out bios done) (line last [] false false out bios done)
+      words [] [] [] [] []
+      rep (later rep) held held [] r sees (takes_nothing layout.debounce held) long (nothing (keys_of layout) layout.rate last false q)
       (no_edges layout [] (later rep) held) l tt words (append-nil words)
 
   -- before the first stroke

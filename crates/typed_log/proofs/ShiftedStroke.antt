@@ -1,4 +1,4 @@
--- A stroke under shift, from rest to rest.
+-- A stroke under shift, from rest to rest, on a layout without a debounce.
 use Rattle.std.proofs.Common.{◌≡◌, ℕ, suc, ◌+◌, ◌-◌, ◌*◌, ◌<◌, ◌≤◌, ◌≢◌, Bool, true, false, ◌==◌, List, []}
 use Rattle.std.proofs.Common.{◌∷◌, ◌++◌, length, append-nil, Some, None, refl, subst, arith}
 use Rattle.std.specs.Prelude.{slice_get, if◌then◌else◌}
@@ -35,10 +35,12 @@ pub record AreShifted (left : Bool) (code scan code' scan' w : ℕ) : Type 0 whe
   pub makes' : fed scan' start ≡ quiet (under_shift_key left)
   pub makes : fed scan (under_shift_key left) ≡ entered w (under_shift_key left)
   pub breaks : fed (with_bit 0x80 scan) (with_word left w) ≡ quiet (with_word left w)
+  pub ends : fed (with_bit 0x80 scan) (under_shift_key left) ≡ quiet (under_shift_key left)
   pub breaks' : fed (with_bit 0x80 scan') (under_shift_key left) ≡ quiet start
 
 module _ (layout : KeyLayout) (h : KeyHistory) (ss : List Stroke) (edges : h.edges ≡ edges_from 0 ss)
-    (host : h.host ≡ takes_from 0 ss) (fit : AllFit layout.entries ss) (m : ℕ) (shift key : Entry)
+    (host : h.host ≡ takes_from 0 ss) (fit : AllFit layout.entries ss)
+    (off : layout.debounce ≡ false) (m : ℕ) (shift key : Entry)
     (is : slice_get ss m ≡ Some (Shifted shift key)) (below : m < length ss) (left : Bool) (code scan code' scan' w : ℕ)
     (only : Bool) (k : IsKeyAt layout key.place code only) (k' : IsKeyAt layout shift.place code' false)
     (apart : key.place ≢ shift.place) (f : AreShifted left code scan code' scan' w) (words : List (Option ℕ)) where
@@ -67,7 +69,7 @@ module _ (layout : KeyLayout) (h : KeyHistory) (ss : List Stroke) (edges : h.edg
       let long : 49 ≤ d = delay_long layout.rate in
       let q : Pc = record { mark = false; out = out; bios = start; done = m } in
       let r1 : At' (suc n) (line last (code' ∷ []) false false out start m) (waiting shift.place d) shift_down words =
-      turn layout h ss host n (line last [] false false out start m) (line last [] false false out start m) words []
+      turn layout h ss host off n (line last [] false false out start m) (line last [] false false out start m) words []
       ((shift.place, true) ∷ []) None (pressed_at layout.rate shift.place) all_up shift_down (code' ∷ []) r
       (one_then layout h ss edges host fit m (Shifted shift key) is n 0 (presses shift (stroke_start m)) (omega arith)
       (omega arith) k'.in_matrix refl)
@@ -76,7 +78,7 @@ module _ (layout : KeyLayout) (h : KeyHistory) (ss : List Stroke) (edges : h.edg
       (omega arith) tt words (append-nil words) in
       let r2 : At' (suc (suc n)) (line (sent code' last) (code ∷ []) false false scan' (under_shift_key left) m)
       (waiting key.place d) both_down words =
-      turn layout h ss host (suc n) (line last (code' ∷ []) false false out start m)
+      turn layout h ss host off (suc n) (line last (code' ∷ []) false false out start m)
       (line (sent code' last) [] false false scan' (under_shift_key left) m) words (Port scan' ∷ [])
       ((key.place, true) ∷ []) (waiting shift.place d) (pressed_at layout.rate key.place) shift_down both_down
       (code ∷ []) r1
@@ -87,7 +89,7 @@ module _ (layout : KeyLayout) (h : KeyHistory) (ss : List Stroke) (edges : h.edg
       (under_shift_key left) [] f.makes')
       (press_moves layout key.place code [] (waiting shift.place (d - 1)) shift_down only k refl)
       (omega arith) (refl, tt) words (append-nil words) in
-      turn layout h ss host (suc (suc n))
+      turn layout h ss host off (suc (suc n))
       (line (sent code' last) (code ∷ []) false false scan' (under_shift_key left) m)
       (line (sent code (sent code' last)) [] false false scan (with_word left w) m) words (Port scan ∷ Word w ∷ []) []
       (waiting key.place d) (waiting key.place (d - 1)) both_down both_down [] r2
@@ -116,7 +118,7 @@ module _ (layout : KeyLayout) (h : KeyHistory) (ss : List Stroke) (edges : h.edg
       idle layout h ss edges host fit n last scan m (with_word left w) (waiting key.place (d - 1)) both_down words r
       (none_then layout h ss edges host fit m (Shifted shift key) is n 3 (omega arith) (omega arith) refl)
       (not_one (d - 1) (omega (arith, long))) (omega arith) in
-      turn layout h ss host (suc n) (line last [] false false scan (with_word left w) m)
+      turn layout h ss host off (suc n) (line last [] false false scan (with_word left w) m)
       (line last [] false false scan (with_word left w) m) words [] ((key.place, false) ∷ [])
       (waiting key.place (d - 1 - 1)) None
       both_down shift_down bytes r4
@@ -166,7 +168,7 @@ module _ (layout : KeyLayout) (h : KeyHistory) (ss : List Stroke) (edges : h.edg
       let r5 : At' n (line last [] false false scan (with_word left w) m) None shift_down words =
       key_up last [] (silent_moves layout key.place code [] (waiting key.place (d - 1 - 1 - 1)) both_down k0) r in
       let r6 : At' (suc n) (line last (0xf0 ∷ code' ∷ []) false false scan (with_word left w) m) None all_up words =
-      turn layout h ss host n (line last [] false false scan (with_word left w) m)
+      turn layout h ss host off n (line last [] false false scan (with_word left w) m)
       (line last [] false false scan (with_word left w) m) words [] ((shift.place, false) ∷ []) None None shift_down
       all_up
       (0xf0 ∷ code' ∷ []) r5
@@ -177,14 +179,14 @@ module _ (layout : KeyLayout) (h : KeyHistory) (ss : List Stroke) (edges : h.edg
       (omega arith) tt words (append-nil words) in
       let r7 : At' (suc (suc n)) (line 0xf0 (code' ∷ []) true true scan (under_shift_key left) (m + 1)) None all_up
       more =
-      taking_turn layout h ss host (suc n) (line last (0xf0 ∷ code' ∷ []) false false scan (with_word left w) m)
+      taking_turn layout h ss host off (suc n) (line last (0xf0 ∷ code' ∷ []) false false scan (with_word left w) m)
       (line 0xf0 (code' ∷ []) true true scan (with_word left w) m) words [] [] None None all_up all_up (code' ∷ []) r6
       (none_then layout h ss edges host fit m (Shifted shift key) is (suc n) 6 (omega arith) (omega arith) refl)
       tt (prefix (keys_of layout) layout.rate last (code' ∷ []) scan m (with_word left w))
       (no_edges layout (code' ∷ []) None all_up) (omega arith) below (refl, tt) more refl in
       let r8 : At' (suc (suc (suc n))) (line (sent code' 0xf0) [] false false (with_bit 0x80 scan') start (m + 1))
       None all_up more =
-      turn layout h ss host (suc (suc n)) (line 0xf0 (code' ∷ []) true true scan (under_shift_key left) (m + 1))
+      turn layout h ss host off (suc (suc n)) (line 0xf0 (code' ∷ []) true true scan (under_shift_key left) (m + 1))
       (line (sent code' 0xf0) [] false false (with_bit 0x80 scan') start (m + 1)) more
       (Port (with_bit 0x80 scan') ∷ []) []
       None None all_up all_up [] r7
@@ -215,7 +217,7 @@ module _ (layout : KeyLayout) (h : KeyHistory) (ss : List Stroke) (edges : h.edg
       (break_moves layout key.place code [] (waiting key.place (d - 1 - 1 - 1)) both_down k0 refl) r in
       let r6 : At' (suc n) (line 0xf0 (code ∷ 0xf0 ∷ code' ∷ []) true true scan (with_word left w) m) None all_up
       words =
-      turn layout h ss host n (line last (0xf0 ∷ code ∷ []) false false scan (with_word left w) m)
+      turn layout h ss host off n (line last (0xf0 ∷ code ∷ []) false false scan (with_word left w) m)
       (line 0xf0 (code ∷ []) true true scan (with_word left w) m) words [] ((shift.place, false) ∷ []) None None
       shift_down all_up
       (code ∷ 0xf0 ∷ code' ∷ []) r5
@@ -227,7 +229,7 @@ module _ (layout : KeyLayout) (h : KeyHistory) (ss : List Stroke) (edges : h.edg
       let r7 : At' (suc (suc n)) (line (sent code 0xf0) (0xf0 ∷ code' ∷ []) false false out (under_shift_key left)
       (m + 1)) None
       all_up more =
-      taking_turn layout h ss host (suc n) (line 0xf0 (code ∷ 0xf0 ∷ code' ∷ []) true true scan (with_word left w) m)
+      taking_turn layout h ss host off (suc n) (line 0xf0 (code ∷ 0xf0 ∷ code' ∷ []) true true scan (with_word left w) m)
       (line (sent code 0xf0) (0xf0 ∷ code' ∷ []) false false out (with_word left w) m) words (Port out ∷ []) [] None
       None
       all_up all_up (0xf0 ∷ code' ∷ []) r6
@@ -238,7 +240,7 @@ module _ (layout : KeyLayout) (h : KeyHistory) (ss : List Stroke) (edges : h.edg
       (no_edges layout (0xf0 ∷ code' ∷ []) None all_up) (omega arith) below (refl, (refl, tt)) more refl in
       let r8 : At' (suc (suc (suc n))) (line 0xf0 (code' ∷ []) true true out (under_shift_key left) (m + 1)) None
       all_up more =
-      turn layout h ss host (suc (suc n))
+      turn layout h ss host off (suc (suc n))
       (line (sent code 0xf0) (0xf0 ∷ code' ∷ []) false false out (under_shift_key left) (m + 1))
       (line 0xf0 (code' ∷ []) true true out (under_shift_key left) (m + 1)) more [] [] None None all_up all_up
       (code' ∷ []) r7
@@ -246,7 +248,7 @@ module _ (layout : KeyLayout) (h : KeyHistory) (ss : List Stroke) (edges : h.edg
       tt (prefix (keys_of layout) layout.rate (sent code 0xf0) (code' ∷ []) out (m + 1) (under_shift_key left))
       (no_edges layout (code' ∷ []) None all_up) (omega arith) tt more (append-nil more) in
       last_one (sent code' 0xf0) (with_bit 0x80 scan')
-      (turn layout h ss host (suc (suc (suc n))) (line 0xf0 (code' ∷ []) true true out (under_shift_key left) (m + 1))
+      (turn layout h ss host off (suc (suc (suc n))) (line 0xf0 (code' ∷ []) true true out (under_shift_key left) (m + 1))
       (line (sent code' 0xf0) [] false false (with_bit 0x80 scan') start (m + 1)) more
       (Port (with_bit 0x80 scan') ∷ []) []
       None None all_up all_up [] r8

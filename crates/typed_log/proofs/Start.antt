@@ -9,21 +9,26 @@ use Rattle.ctl_core.specs.ScanCodes.{scan_codes, translated}
 use Rattle.int09.specs.Bios.{start}
 use Rattle.int09.specs.Rules.{fed, marks, on_sysreq, alt_broken, on_shift_key}
 use Rattle.board_terms.specs.Matrix.{all_up}
-use Rattle.layout_reader.specs.Layouts.{KeyLayout}
+use Rattle.layout_reader.specs.Layouts.{KeyLayout, is_fn_place}
+use Rattle.byte_time.specs.declared.meeting.Meeting.{Meeting}
+use Rattle.byte_time.specs.declared.meeting.Meeting.TheVariants.{Sent}
 use Rattle.kbd_model.specs.declared.state.Mode.TheVariants.{Ready}
 use Rattle.kbd_model.specs.Codes.{Keys, keys_of}
 use Rattle.kbd_model.specs.Queue.{empty}
 use Rattle.kbd_model.specs.Keyboard.{Keyboard}
-use Rattle.kbd_model.specs.Tick.{met, tested_if, is_inhibited, is_scanning, scanned, repeated_if}
+use Rattle.kbd_model.specs.Layers.{no_layers, layered, all_layers_after}
+use Rattle.kbd_model.specs.Tick.{met, ticked, tested_if, is_inhibited, is_scanning, scanned, repeated_if}
 use Rattle.key_file.specs.Histories.{KeyHistory}
 use Rattle.link_model.specs.declared.line.LogLine.{LogLine}
+use Rattle.link_model.specs.Debounce.{Switches, all_open, taken, switched}
 use Rattle.link_model.specs.Machine.{LayeredKeyboard, keyboard, met_as}
 use Rattle.quiet_log.proofs.Calm.{Pc, Calm, calm_meeting, met_by, items_of_meeting}
 use Rattle.typed_log.specs.Typing.{Stroke, edges_from, takes_from}
 use Rattle.typed_log.specs.Typed.{is_loss}
 use Rattle.typed_log.proofs.Struck.{AllFit}
+use Rattle.typed_log.proofs.Settling.{takes_nothing}
 use Rattle.typed_log.proofs.Steps.{Reached, stepped, says, ticks_on}
-use Rattle.typed_log.proofs.Turns.{layers_of, staged}
+use Rattle.typed_log.proofs.Turns.{staged, with_switches}
 use Rattle.typed_log.proofs.Resting.{line, At, Rest, idle, none_before_first}
 
 -- the keyboard in its test, with so many ticks left of it
@@ -46,12 +51,28 @@ abbrev first_pc : Pc
 first_pc = record { mark = false; out = 0; bios = start; done = 0 }
 
 abbrev testing : ℕ → ℕ → Bool → Calm LayeredKeyboard
-testing rate left due = staged (layers_of (in_test rate left due)) first_pc
+testing rate left due = staged (with_switches all_open (in_test rate left due)) first_pc
 
 none_repeats : (b : Bool) (keys : Keys) (rate left : ℕ) (due : Bool)
     → repeated_if b keys false (in_test rate left due) ≡ in_test rate left due
 none_repeats true keys rate left due = refl
 none_repeats false keys rate left due = refl
+
+-- a tick without edges, with this meeting
+abbrev stage : KeyLayout → Meeting → Keyboard → Pc → List (ℕ × Bool) → Switches → Calm LayeredKeyboard
+stage layout meeting k q es switches = staged (record {
+  keyboard = ticked (keys_of layout) (met_as meeting) (layered (is_fn_place layout) es no_layers) k;
+  layers = all_layers_after (is_fn_place layout) es no_layers;
+  switches = switches;
+}) q
+
+takes_none : (layout : KeyLayout) (meeting : Meeting) (k : Keyboard) (q : Pc)
+    → stage layout meeting k q (taken layout.debounce [] all_open) (switched layout.debounce [] all_open)
+    ≡ stage layout meeting k q [] all_open
+takes_none layout meeting k q =
+    let t = takes_nothing layout.debounce all_up in
+    ap (λ es. stage layout meeting k q es (switched layout.debounce [] all_open)) t.are_taken
+    ∙ ap (λ s. stage layout meeting k q [] s) t.switches
 
 -- a tick of the test
 test_tick : (layout : KeyLayout) (left after : ℕ) (last : Bool) → (left == 0) ≡ false → (left == 1) ≡ last
@@ -60,9 +81,10 @@ test_tick : (layout : KeyLayout) (left after : ℕ) (last : Bool) → (left == 0
 test_tick layout left after last z o e =
     let keys : Keys = keys_of layout in
     let k : Keyboard = in_test layout.rate left false in
-    ap (λ b. staged (layers_of (scanned keys (is_inhibited (met_as (calm_meeting b None))) []
+    takes_none layout (calm_meeting (left == 0) None) k (met_by (calm_meeting (left == 0) None) first_pc)
+    ∙ ap (λ b. staged (with_switches all_open (scanned keys (is_inhibited (met_as (calm_meeting b None))) []
     (tested_if (not b) (met (met_as (calm_meeting b None)) keys k)))) (met_by (calm_meeting b None) first_pc)) z
-    ∙ ap (λ v. staged (layers_of v) first_pc)
+    ∙ ap (λ v. staged (with_switches all_open v) first_pc)
     (none_repeats (is_scanning (in_test layout.rate (left - 1) (if left == 1 then true else false))) keys
     layout.rate (left - 1)
     (if left == 1 then true else false))
@@ -80,10 +102,11 @@ test_silent layout left z = ap (λ b. items_of_meeting (calm_meeting b None) fir
 
 -- its end is reported
 reported : (layout : KeyLayout) → stepped (keyboard layout) [] false (testing layout.rate 0 true)
-    ≡ staged (layers_of (record (in_test layout.rate 0 false) { last = 0xaa }))
+    ≡ staged (with_switches all_open (record (in_test layout.rate 0 false) { last = 0xaa }))
     (record { mark = false; out = 0xaa; bios = start; done = 0 })
 unfolding scan_codes translated fed marks on_sysreq alt_broken on_shift_key
-reported layout = refl
+reported layout =
+    takes_none layout (Sent 0xaa) (in_test layout.rate 0 true) (record { mark = false; out = 0xaa; bios = start; done = 0 })
 
 reported_says : (layout : KeyLayout) → says (keyboard layout) false (testing layout.rate 0 true) ≡ Port 0xaa ∷ []
 unfolding scan_codes translated fed marks on_sysreq alt_broken on_shift_key
@@ -128,7 +151,7 @@ module _ (layout : KeyLayout) (h : KeyHistory) (ss : List Stroke) (edges : h.edg
   after_reporting : waits_at 65
   after_reporting =
       ticks_on (keyboard layout) h ss host 64 (testing layout.rate 0 true)
-      (staged (layers_of (record (in_test layout.rate 0 false) { last = 0xaa }))
+      (staged (with_switches all_open (record (in_test layout.rate 0 false) { last = 0xaa }))
       (record { mark = false; out = 0xaa; bios = start; done = 0 }))
       [] [] (Port 0xaa ∷ []) (none_before_first layout h ss edges host fit 64 (omega arith)) after_test (omega arith)
       (reported layout) (reported_says layout) (refl, tt)

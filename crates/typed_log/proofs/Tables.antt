@@ -150,3 +150,20 @@ unfolding keys words letter_on reverses fed marks on_sysreq alt_broken on_shift_
     without_words in_pause with_alt with_ctrl alone
 shifted_breaks true k w l e z = shifted_breaks_by true k w l e z refl
 shifted_breaks false k w l e z = shifted_breaks_by false k w l e z refl
+
+shifted_ends_by : (left : Bool) (k w : ℕ) → k < 84 → word_of shifted k ≡ Some w → (w % 256 == 0) ≡ false
+    → table (λ k. on_word (word_of shifted k) (λ w. fed (broken k) (under_shift_key left))) 84
+    ≡ table (λ k. on_word (word_of shifted k) (λ w. quiet (under_shift_key left))) 84
+    → fed (broken k) (under_shift_key left) ≡ quiet (under_shift_key left)
+shifted_ends_by left k w l e z h =
+    on_word_is (word_of shifted k) (λ w. fed (broken k) (under_shift_key left)) (λ w. quiet (under_shift_key left)) w
+    (at_table (λ k. on_word (word_of shifted k) (λ w. fed (broken k) (under_shift_key left)))
+    (λ k. on_word (word_of shifted k) (λ w. quiet (under_shift_key left))) 84 h k l) e z
+
+-- and nothing at its break once the word is taken
+pub shifted_ends : (left : Bool) (k w : ℕ) → k < 84 → word_of shifted k ≡ Some w → (w % 256 == 0) ≡ false
+    → fed (broken k) (under_shift_key left) ≡ quiet (under_shift_key left)
+unfolding keys words letter_on reverses fed marks on_sysreq alt_broken on_shift_key locks lock_made on_lock_key
+    without_words in_pause with_alt with_ctrl alone
+shifted_ends true k w l e z = shifted_ends_by true k w l e z refl
+shifted_ends false k w l e z = shifted_ends_by false k w l e z refl

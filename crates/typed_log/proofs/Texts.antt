@@ -24,12 +24,14 @@ use Rattle.typed_log.proofs.Found.{Found, same_place}
 use Rattle.typed_log.proofs.Struck.{IsUnderShift, Types, AreStrokes, AllFit, all_fit, strokes_are, lengths, apart_of}
 use Rattle.typed_log.proofs.Played.{playable}
 use Rattle.typed_log.proofs.Tables.{no_prefix, scan_is, plain_makes, plain_breaks, shift_makes, shift_breaks, shifted_makes}
-use Rattle.typed_log.proofs.Tables.{shifted_breaks, is_left}
+use Rattle.typed_log.proofs.Tables.{shifted_breaks, shifted_ends, is_left}
 use Rattle.typed_log.proofs.Turns.{IsKeyAt}
 use Rattle.typed_log.proofs.Resting.{Rest}
 use Rattle.typed_log.proofs.Start.{at_rest}
-use Rattle.typed_log.proofs.PlainStroke.{plain_stroke}
-use Rattle.typed_log.proofs.ShiftedStroke.{shifted_stroke}
+use Rattle.typed_log.proofs.PlainStroke.{IsPlain, plain_stroke}
+use Rattle.typed_log.proofs.PlainSettled.{plain_settled}
+use Rattle.typed_log.proofs.ShiftedStroke.{AreShifted, shifted_stroke}
+use Rattle.typed_log.proofs.ShiftedSettled.{shifted_settled}
 
 -- and the word that it enters for a character
 pub record SendsWord (column : Column) (c : ℕ) (e : Entry) : Type 0 where
@@ -115,6 +117,31 @@ module _ (layout : KeyLayout) (ok : IsKeyLayout layout) (h : KeyHistory) (ss : L
   char_word : (c w : ℕ) → (c == 0) ≡ false → w % 256 ≡ c → (w % 256 == 0) ≡ false
   char_word c w z e = ap (λ n. n == 0) e ∙ z
 
+  -- with or without a debounce
+  plain : (m : ℕ) (key : Entry) → slice_get ss m ≡ Some (Plain key) → m < length ss → (code scan w : ℕ) (only : Bool)
+      → IsKeyAt layout key.place code only → IsPlain code scan w → (words : List (Option ℕ))
+      → Rest layout h ss edges host fit m words → Rest layout h ss edges host fit (suc m) (words ++ Some w ∷ [])
+  plain m key is below code scan w only k f words r =
+      elim layout.debounce as (λ b. layout.debounce ≡ b → Rest layout h ss edges host fit (suc m) (words ++ Some w ∷ [])) [
+        | true ↦ λ on. plain_settled layout h ss edges host fit on m key is below code scan w only k f words r
+        | false ↦ λ off. plain_stroke layout h ss edges host fit off m key is below code scan w only k f words r
+      ] refl
+
+  shifted_by : (m : ℕ) (shift key : Entry) → slice_get ss m ≡ Some (Shifted shift key) → m < length ss → (left : Bool)
+      (code scan code' scan' w : ℕ) (only : Bool) → IsKeyAt layout key.place code only
+      → IsKeyAt layout shift.place code' false → key.place ≢ shift.place → AreShifted left code scan code' scan' w
+      → (words : List (Option ℕ)) → Rest layout h ss edges host fit m words
+      → Rest layout h ss edges host fit (suc m) (words ++ Some w ∷ [])
+  shifted_by m shift key is below left code scan code' scan' w only k k' apart f words r =
+      elim layout.debounce as (λ b. layout.debounce ≡ b → Rest layout h ss edges host fit (suc m) (words ++ Some w ∷ [])) [
+        | true ↦ λ on.
+            shifted_settled layout h ss edges host fit on m shift key is below left code scan code' scan' w only k k' apart f
+            words r
+        | false ↦ λ off.
+            shifted_stroke layout h ss edges host fit off m shift key is below left code scan code' scan' w only k k' apart f
+            words r
+      ] refl
+
   one_stroke : (m c : ℕ) (s : Stroke) (characters : List (Option ℕ)) → slice_get ss m ≡ Some s → m < length ss
       → Types layout.entries c s → Typed m characters → Typed (suc m) (characters ++ Some c ∷ [])
   one_stroke m c (Plain key) characters at l t r =
@@ -122,7 +149,7 @@ module _ (layout : KeyLayout) (ok : IsKeyLayout layout) (h : KeyHistory) (ss : L
       let k : SendsWord base c key = sends_word base c key f.is f.passes in
       let z : (k.word % 256 == 0) ≡ false = char_word c k.word t.some k.low in
       with_word_more m c k.word characters r.words r.low k.low
-      (plain_stroke layout h ss edges host fit m key at l (code_of_key k.key) (scan_at k.key) k.word key.make_only
+      (plain m key at l (code_of_key k.key) (scan_at k.key) k.word key.make_only
       (key_at layout ok (enters base c) key k.key f k.is)
       (record {
         no_prefix = no_prefix k.key k.below;
@@ -139,7 +166,7 @@ module _ (layout : KeyLayout) (ok : IsKeyLayout layout) (h : KeyHistory) (ss : L
       let a : (shift.place == key.place) ≡ true = ap (λ n. shift.place == n) e ∙ same_place shift.place in
       absurd (cc (a, apart_of layout.entries c shift key u)) in
       with_word_more m c k.word characters r.words r.low k.low
-      (shifted_stroke layout h ss edges host fit m shift key at l (is_left j.key) (code_of_key k.key) (scan_at k.key)
+      (shifted_by m shift key at l (is_left j.key) (code_of_key k.key) (scan_at k.key)
       (code_of_key j.key) (scan_at j.key) k.word key.make_only
       (key_at layout ok (enters shifted c) key k.key u.of_key k.is)
       (subst (λ b. IsKeyAt layout shift.place (code_of_key j.key) b) j.only
@@ -153,6 +180,7 @@ module _ (layout : KeyLayout) (ok : IsKeyLayout layout) (h : KeyHistory) (ss : L
         makes' = shift_makes j.key j.below j.shifts;
         makes = shifted_makes (is_left j.key) k.key k.word k.below k.word_is z;
         breaks = shifted_breaks (is_left j.key) k.key k.word k.below k.word_is z;
+        ends = shifted_ends (is_left j.key) k.key k.word k.below k.word_is z;
         breaks' = shift_breaks j.key j.below j.shifts;
       }) r.words r.rest)
 

@@ -22,12 +22,14 @@ use Rattle.kbd_model.specs.Keyboard.{Keyboard}
 use Rattle.kbd_model.specs.Layers.{no_layers, layered, all_layers_after}
 use Rattle.kbd_model.specs.Tick.{ticked, edges_if, ended_at}
 use Rattle.key_file.specs.Histories.{KeyHistory}
+use Rattle.link_model.specs.Debounce.{Switches, turned_all, switched}
 use Rattle.link_model.specs.Machine.{LayeredKeyboard, keyboard, met_as}
 use Rattle.link_model.specs.TickEdges.{tick_edges}
 use Rattle.quiet_log.specs.Quiet.{even}
 use Rattle.quiet_log.proofs.Calm.{Pc, Calm, meets, met_by, read_of, marked, items_of_meeting, said_of_read}
 use Rattle.typed_log.specs.Typing.{Stroke, takes_from}
 use Rattle.typed_log.proofs.Takes.{took}
+use Rattle.typed_log.proofs.Settling.{Takes, pending, takes_all}
 use Rattle.typed_log.proofs.Steps.{Reached, AreKept, taken_of, ticks_on, ticks_taking}
 use Rattle.typed_log.proofs.Keying.{typing, later, IsLong, waits, pressed_at, presses, ends_silently, ends}
 use Rattle.typed_log.proofs.Keying.{layers_of_press, layers_of_release, release_layered}
@@ -135,6 +137,7 @@ pub record Moves (layout : KeyLayout) (edges : List (ℕ × Bool)) (bytes : List
     (held : List Bool)
     (bytes' : List ℕ) (rep' : Option Repeat) (held' : List Bool) : Type 0 where
   pub layers : all_layers_after (is_fn_place layout) edges no_layers ≡ no_layers
+  pub turns : turned_all edges held ≡ held'
   pub keyed : (last : ℕ) (started : Bool)
       → edges_if true (keys_of layout) (layered (is_fn_place layout) edges no_layers)
       (typing layout.rate last bytes started rep held)
@@ -143,7 +146,7 @@ pub record Moves (layout : KeyLayout) (edges : List (ℕ × Bool)) (bytes : List
 module _ (layout : KeyLayout) where
   pub no_edges : (bytes : List ℕ) (rep : Option Repeat) (held : List Bool)
       → Moves layout [] bytes rep held bytes rep held
-  no_edges bytes rep held = record { layers = refl; keyed = λ last started. refl }
+  no_edges bytes rep held = record { layers = refl; turns = refl; keyed = λ last started. refl }
 
   -- a key of the layout that sends a code
   pub record IsKeyAt (place code : ℕ) (only : Bool) : Type 0 where
@@ -158,6 +161,7 @@ module _ (layout : KeyLayout) where
         (turned place true held)
     press_moves only k room = record {
       layers = layers_of_press (is_fn_place layout) place k.in_matrix k.fn_is;
+      turns = refl;
       keyed = λ last started.
           presses (keys_of layout) layout.rate last bytes started rep held place code k.code_is k.fn_is room;
     }
@@ -166,6 +170,7 @@ module _ (layout : KeyLayout) where
         → Moves layout ((place, false) ∷ []) bytes rep held bytes (ended_at place rep) (turned place false held)
     silent_moves k = record {
       layers = layers_of_release (is_fn_place layout) place k.fn_is;
+      turns = refl;
       keyed = λ last started.
           ap (λ v. edges_if true (keys_of layout) v (typing layout.rate last bytes started rep held))
           (release_layered (is_fn_place layout) place k.in_matrix)
@@ -178,19 +183,23 @@ module _ (layout : KeyLayout) where
         (turned place false held)
     break_moves k room = record {
       layers = layers_of_release (is_fn_place layout) place k.fn_is;
+      turns = refl;
       keyed = λ last started.
           ap (λ v. edges_if true (keys_of layout) v (typing layout.rate last bytes started rep held))
           (release_layered (is_fn_place layout) place k.in_matrix)
           ∙ ends (keys_of layout) layout.rate last bytes started rep held place code k.code_is k.fn_is k.only_is room;
     }
 
--- the whole at a tick start, while a text is typed
-abbrev pub layers_of : Keyboard → LayeredKeyboard
-layers_of k = record { keyboard = k; layers = no_layers }
+-- the whole at a tick start, while a text is typed: these edges were read and aren't taken yet
+abbrev pub with_switches : Switches → Keyboard → LayeredKeyboard
+with_switches switches k = record { keyboard = k; layers = no_layers; switches = switches }
 
-abbrev pub at_work : ℕ → Line → Option Repeat → List Bool → Calm LayeredKeyboard
-at_work rate line rep held = record {
-  keys = layers_of (typing rate line.last line.bytes line.started rep held);
+abbrev pub layers_of : List (ℕ × Bool) → Keyboard → LayeredKeyboard
+layers_of next k = with_switches (pending next k.held) k
+
+abbrev pub at_work : List (ℕ × Bool) → ℕ → Line → Option Repeat → List Bool → Calm LayeredKeyboard
+at_work next rate line rep held = record {
+  keys = layers_of next (typing rate line.last line.bytes line.started rep held);
   pc = line.pc;
   shown = 0;
 }
@@ -198,83 +207,129 @@ at_work rate line rep held = record {
 abbrev pub staged : LayeredKeyboard → Pc → Calm LayeredKeyboard
 staged k q = record { keys = k; pc = q; shown = 0 }
 
-meets_is : (bytes : List ℕ) (layout : KeyLayout) (rate last : ℕ) (started : Bool) (q : Pc) (rep : Option Repeat)
-    (held : List Bool)
+meets_is : (next : List (ℕ × Bool)) (bytes : List ℕ) (layout : KeyLayout) (rate last : ℕ) (started : Bool) (q : Pc)
+    (rep : Option Repeat) (held : List Bool)
     → meets (keyboard layout)
-    (at_work rate (record { last = last; bytes = bytes; started = started; pc = q }) rep held) ≡ passing bytes
-meets_is [] layout rate last started q rep held = refl
-meets_is (byte ∷ bytes) layout rate last started q rep held = refl
+    (at_work next rate (record { last = last; bytes = bytes; started = started; pc = q }) rep held) ≡ passing bytes
+meets_is next [] layout rate last started q rep held = refl
+meets_is next (byte ∷ bytes) layout rate last started q rep held = refl
 
 abbrev pub with_bytes : Line → List ℕ → Line
 with_bytes line bytes = record line { bytes = bytes }
 
+-- a tick takes edges by what it sees and what is pending
 module _ (layout : KeyLayout) (h : KeyHistory) (ss : List Stroke) (host : h.host ≡ takes_from 0 ss) (n : ℕ)
-    (before after : Line) (words : List (Option ℕ)) (items : List Item) (edges : List (ℕ × Bool))
+    (before after : Line) (words : List (Option ℕ)) (items : List Item) (next seen edges next' : List (ℕ × Bool))
     (rep rep' : Option Repeat) (held held' : List Bool) (bytes' : List ℕ)
-    (r : Reached (keyboard layout) h ss host n (at_work layout.rate before rep held) words)
-    (sees : tick_edges even h.edges n ≡ edges) (long : IsLong rep)
-    (p : Passes (keys_of layout) layout.rate before after items)
+    (r : Reached (keyboard layout) h ss host n (at_work next layout.rate before rep held) words)
+    (sees : tick_edges even h.edges n ≡ seen) (takes : Takes layout.debounce next seen edges next' held held')
+    (long : IsLong rep) (p : Passes (keys_of layout) layout.rate before after items)
     (m : Moves layout edges after.bytes (later rep) held bytes' rep' held') where
-  met : meets (keyboard layout) (at_work layout.rate before rep held) ≡ passing before.bytes
-  met = meets_is before.bytes layout layout.rate before.last before.started before.pc rep held
+  abbrev was : LayeredKeyboard
+  was = layers_of next (typing layout.rate before.last before.bytes before.started rep held)
+
+  met : meets (keyboard layout) (at_work next layout.rate before rep held) ≡ passing before.bytes
+  met = meets_is next before.bytes layout layout.rate before.last before.started before.pc rep held
 
   keyed : ticked (keys_of layout) (met_as (passing before.bytes)) (layered (is_fn_place layout) edges no_layers)
       (typing layout.rate before.last before.bytes before.started rep held)
       ≡ typing layout.rate after.last bytes' after.started rep' held'
   keyed = p.keyed (layered (is_fn_place layout) edges no_layers) rep held long ∙ m.keyed after.last after.started
 
-  next : (q : Pc)
-      → staged ((keyboard layout).ticked (meets (keyboard layout) (at_work layout.rate before rep held)) edges
-      (layers_of (typing layout.rate before.last before.bytes before.started rep held))) q
-      ≡ staged (layers_of (typing layout.rate after.last bytes' after.started rep' held')) q
-  next q =
-      ap (λ v. staged ((keyboard layout).ticked v edges
-      (layers_of (typing layout.rate before.last before.bytes before.started rep held))) q) met
-      ∙ ap (λ v. staged (record { keyboard = v; layers = all_layers_after (is_fn_place layout) edges no_layers }) q)
-      keyed
+  -- the keyboard after the meeting of these bytes, with these edges and these switches
+  abbrev stage : List (ℕ × Bool) → Switches → Pc → Calm LayeredKeyboard
+  stage es switches q = staged (record {
+    keyboard = ticked (keys_of layout) (met_as (passing before.bytes)) (layered (is_fn_place layout) es no_layers)
+        (typing layout.rate before.last before.bytes before.started rep held);
+    layers = all_layers_after (is_fn_place layout) es no_layers;
+    switches = switches;
+  }) q
+
+  next_is : (q : Pc)
+      → staged ((keyboard layout).ticked (meets (keyboard layout) (at_work next layout.rate before rep held)) seen was) q
+      ≡ staged (layers_of next' (typing layout.rate after.last bytes' after.started rep' held')) q
+  next_is q =
+      ap (λ v. staged ((keyboard layout).ticked v seen was) q) met
+      ∙ ap (λ es. stage es (switched layout.debounce seen (pending next held)) q) takes.are_taken
+      ∙ ap (λ s. stage edges s q) takes.switches
+      ∙ ap (λ v. staged (record {
+        keyboard = v;
+        layers = all_layers_after (is_fn_place layout) edges no_layers;
+        switches = pending next' held';
+      }) q) keyed
       ∙ ap (λ v. staged (record {
         keyboard = typing layout.rate after.last bytes' after.started rep' held';
         layers = v;
+        switches = pending next' held';
       }) q) m.layers
 
-  met_pc : met_by (meets (keyboard layout) (at_work layout.rate before rep held)) before.pc ≡ after.pc
+  met_pc : met_by (meets (keyboard layout) (at_work next layout.rate before rep held)) before.pc ≡ after.pc
   met_pc = ap (λ v. met_by v before.pc) met ∙ p.met
 
-  said_is : items_of_meeting (meets (keyboard layout) (at_work layout.rate before rep held)) before.pc ≡ items
+  said_is : items_of_meeting (meets (keyboard layout) (at_work next layout.rate before rep held)) before.pc ≡ items
   said_is = ap (λ v. items_of_meeting v before.pc) met ∙ p.said
 
-  pub turn : n < 86 + 10 * before.pc.done → AreKept items → (words' : List (Option ℕ)) → words ++ taken_of items
+  pub turn_by : n < 86 + 10 * before.pc.done → AreKept items → (words' : List (Option ℕ)) → words ++ taken_of items
       ≡ words'
-      → Reached (keyboard layout) h ss host (suc n) (at_work layout.rate (with_bytes after bytes') rep' held') words'
-  turn l kept words' w =
+      → Reached (keyboard layout) h ss host (suc n) (at_work next' layout.rate (with_bytes after bytes') rep' held') words'
+  turn_by l kept words' w =
       subst (λ v. Reached (keyboard layout) h ss host (suc n)
-      (at_work layout.rate (with_bytes after bytes') rep' held') v) w
-      (ticks_on (keyboard layout) h ss host n (at_work layout.rate before rep held)
-      (at_work layout.rate (with_bytes after bytes') rep' held') words edges items sees r l
-      (ap (λ v. staged ((keyboard layout).ticked (meets (keyboard layout) (at_work layout.rate before rep held)) edges
-      (layers_of (typing layout.rate before.last before.bytes before.started rep held))) v) met_pc ∙ next after.pc)
+      (at_work next' layout.rate (with_bytes after bytes') rep' held') v) w
+      (ticks_on (keyboard layout) h ss host n (at_work next layout.rate before rep held)
+      (at_work next' layout.rate (with_bytes after bytes') rep' held') words seen items sees r l
+      (ap (λ v. staged ((keyboard layout).ticked (meets (keyboard layout) (at_work next layout.rate before rep held)) seen
+      was) v) met_pc ∙ next_is after.pc)
       (ap (λ v. v ++ []) said_is ∙ append-nil items)
       kept)
 
-  pub taking_turn : n ≡ 86 + 10 * before.pc.done → before.pc.done < length ss
+  pub taking_by : n ≡ 86 + 10 * before.pc.done → before.pc.done < length ss
       → AreKept (items ++ Taken (first_word after.pc.bios) ∷ []) → (words' : List (Option ℕ))
       → words ++ taken_of (items ++ Taken (first_word after.pc.bios) ∷ []) ≡ words'
       → Reached (keyboard layout) h ss host (suc n)
-      (at_work layout.rate (record {
+      (at_work next' layout.rate (record {
         last = after.last;
         bytes = bytes';
         started = after.started;
         pc = took after.pc;
       }) rep' held') words'
-  taking_turn at l kept words' w =
+  taking_by at l kept words' w =
       let end : Line = record { last = after.last; bytes = bytes'; started = after.started; pc = took after.pc } in
-      subst (λ v. Reached (keyboard layout) h ss host (suc n) (at_work layout.rate end rep' held') v) w
-      (ticks_taking (keyboard layout) h ss host n (at_work layout.rate before rep held)
-      (at_work layout.rate end rep' held') words edges (items ++ Taken (first_word after.pc.bios) ∷ []) sees r at l
-      (ap (λ v. staged ((keyboard layout).ticked (meets (keyboard layout) (at_work layout.rate before rep held)) edges
-      (layers_of (typing layout.rate before.last before.bytes before.started rep held))) (took v)) met_pc
-      ∙ next (took after.pc))
+      subst (λ v. Reached (keyboard layout) h ss host (suc n) (at_work next' layout.rate end rep' held') v) w
+      (ticks_taking (keyboard layout) h ss host n (at_work next layout.rate before rep held)
+      (at_work next' layout.rate end rep' held') words seen (items ++ Taken (first_word after.pc.bios) ∷ []) sees r at l
+      (ap (λ v. staged ((keyboard layout).ticked (meets (keyboard layout) (at_work next layout.rate before rep held)) seen
+      was) (took v)) met_pc
+      ∙ next_is (took after.pc))
       (ap (λ v. v ++ Taken (first_word
-      (met_by (meets (keyboard layout) (at_work layout.rate before rep held)) before.pc).bios) ∷ []) said_is
+      (met_by (meets (keyboard layout) (at_work next layout.rate before rep held)) before.pc).bios) ∷ []) said_is
       ∙ ap (λ (v : Pc). items ++ Taken (first_word v.bios) ∷ []) met_pc)
       kept)
+
+-- without a debounce it takes what it sees
+module _ (layout : KeyLayout) (h : KeyHistory) (ss : List Stroke) (host : h.host ≡ takes_from 0 ss)
+    (off : layout.debounce ≡ false) (n : ℕ) (before after : Line) (words : List (Option ℕ)) (items : List Item)
+    (edges : List (ℕ × Bool)) (rep rep' : Option Repeat) (held held' : List Bool) (bytes' : List ℕ)
+    (r : Reached (keyboard layout) h ss host n (at_work [] layout.rate before rep held) words)
+    (sees : tick_edges even h.edges n ≡ edges) (long : IsLong rep)
+    (p : Passes (keys_of layout) layout.rate before after items)
+    (m : Moves layout edges after.bytes (later rep) held bytes' rep' held') where
+  takes : Takes layout.debounce [] edges edges [] held held'
+  takes = takes_all layout.debounce edges held held' off m.turns
+
+  pub turn : n < 86 + 10 * before.pc.done → AreKept items → (words' : List (Option ℕ)) → words ++ taken_of items
+      ≡ words'
+      → Reached (keyboard layout) h ss host (suc n) (at_work [] layout.rate (with_bytes after bytes') rep' held') words'
+  turn = turn_by layout h ss host n before after words items [] edges edges [] rep rep' held held' bytes' r sees takes long p m
+
+  pub taking_turn : n ≡ 86 + 10 * before.pc.done → before.pc.done < length ss
+      → AreKept (items ++ Taken (first_word after.pc.bios) ∷ []) → (words' : List (Option ℕ))
+      → words ++ taken_of (items ++ Taken (first_word after.pc.bios) ∷ []) ≡ words'
+      → Reached (keyboard layout) h ss host (suc n)
+      (at_work [] layout.rate (record {
+        last = after.last;
+        bytes = bytes';
+        started = after.started;
+        pc = took after.pc;
+      }) rep' held') words'
+  taking_turn =
+      taking_by layout h ss host n before after words items [] edges edges [] rep rep' held held' bytes' r sees takes long p m

@@ -9,4 +9,5 @@ loop-n-preserved c = record {
       (listed c.args.starts.now) c.loop-n.n c.loop-n.together c.next.new.self
       c.loop-n.invariant.is c.in_ok-next.ensures.ticked;
   known = c.in_ok-next.ensures.known;
+  switched = c.in_ok-next.ensures.switched;
 }

@@ -2,6 +2,7 @@ use Rattle.std.proofs.Common.{◌≡◌}
 use Rattle.std.specs.Option.{ForSome}
 use Rattle.board_terms.specs.Cadence.{listed}
 use Rattle.kbd_model.specs.Codes.{HasCode}
+use Rattle.link_model.specs.Debounce.{AreKnown}
 use Rattle.link_model.specs.Expected.{whole_at}
 use Rattle.link_model.specs.Machine.{keyboard}
 use Rattle.link_model.proofs.expecting.expect_events.Given as goal
@@ -10,4 +11,5 @@ abbrev pub invariant-loop-n : goal.invariant-loop-n
 invariant-loop-n l = record {
   is : l.together ≡ whole_at (keyboard l.layout) l.edges l.host (listed l.starts) l.n;
   known : ForSome l.together.keys.keyboard.repeats (λ r. HasCode l.layout r.place);
+  switched : AreKnown l.layout l.together.keys.switches;
 }

@@ -1,12 +1,30 @@
-use Rattle.std.proofs.Common.{List, sym, subst, ◌∙◌}
+use Rattle.std.proofs.Common.{List, ℕ, Bool, sym, subst, ◌∙◌}
 use Rattle.std.specs.Prelude.{All}
 use Rattle.layout_reader.specs.Layouts.{HasEntry, is_fn_place}
 use Rattle.kbd_model.specs.declared.edge.TickEdge.{TickEdge}
+use Rattle.link_model.specs.Debounce.{Switches, AreKnown}
+use Rattle.link_model.specs.Expected.{Whole}
+use Rattle.link_model.specs.Machine.{LayeredKeyboard}
 use Rattle.link_model.proofs.Known.{layered_known}
+use Rattle.link_model.proofs.Taken.{taken_known, switched_known}
 use Rattle.link_model.proofs.whole.Together.tick.Goals as goal
 
 pub advance-requires-clause-edges : goal.advance-requires-clause-edges
 advance-requires-clause-edges c =
-    subst (λ (es : List TickEdge). All (λ e. HasEntry c.args.layout.now e.place) es)
-    (sym (c.as_slice.ensures.value ∙ c.in_ok-edges.ensures.edges))
-    (layered_known (HasEntry c.args.layout.now) (is_fn_place c.args.layout.now) c.args.changes.now _ c.requires.edges)
+    let layout = c.args.layout.now in
+    let known : AreKnown layout c.self.inside.switches =
+    subst (λ (w : Whole LayeredKeyboard). AreKnown layout w.keys.switches) (sym c.self.view_is) c.requires.switches in
+    subst (λ (es : List TickEdge). All (λ e. HasEntry layout e.place) es)
+    (sym (c.as_slice-2.ensures.value ∙ c.in_ok-edges.ensures.edges))
+    (layered_known (HasEntry layout) (is_fn_place layout) _ _
+    (subst (λ (es : List (ℕ × Bool)). All (λ (e : ℕ × Bool). HasEntry layout e.0) es)
+    (sym (c.as_slice.ensures.value ∙ c.in_ok-taken.ensures.edges))
+    (taken_known layout c.debounces.result c.args.changes.now c.self.inside.switches c.requires.edges known)))
+
+pub returns-clause-keys : goal.returns-clause-keys
+returns-clause-keys c =
+    let layout = c.args.layout.now in
+    let known : AreKnown layout c.self.inside.switches =
+    subst (λ (w : Whole LayeredKeyboard). AreKnown layout w.keys.switches) (sym c.self.view_is) c.requires.switches in
+    subst (λ (s : Switches). AreKnown layout s) (sym c.in_ok-taken.ensures.switches)
+    (switched_known layout c.debounces.result c.args.changes.now c.self.inside.switches c.requires.edges known)

@@ -1,0 +1,5 @@
+mod Rows
+mod OneKey
+mod Placed
+mod Readings
+mod Once
