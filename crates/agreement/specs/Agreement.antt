@@ -4,9 +4,8 @@ use Rattle.board_terms.specs.declared.event.Edge.{Edge}
 use Rattle.board_terms.specs.declared.event.HostEvent.{HostEvent}
 use Rattle.fw_compile.specs.Image.{image_of}
 use Rattle.fw_kernel.specs.declared.labels.TheConstants.{TICK}
-use Rattle.fw_logic.specs.Boards.{power_on}
 use Rattle.fw_logic.specs.JointRun.{KeepsTime, KeepsTimeFrom}
-use Rattle.joint_run.specs.Joint.{Beside, beside_at_start, joint_board, joint_start, log_of}
+use Rattle.joint_run.specs.Joint.{Beside, joint_board, joint_start, joint_start_of, log_of}
 use Rattle.joint_run.specs.Run.{World}
 use Rattle.joint_run.specs.Starts.{IsStart}
 use Rattle.key_file.specs.Accepted.{IsLawfulFor}
@@ -39,7 +38,7 @@ AgreementLaw =
 
 -- the joint run of a part that held this when it was switched on
 abbrev pub switched_on : List Edge → List HostEvent → Cpu → World Beside
-switched_on edges events m = power_on (joint_board edges events) m beside_at_start
+switched_on edges events m = joint_start_of m
 
 -- and whatever the part holds when it is switched on: any bytes in data memory, A and T, any carries and prescaler, and
 -- an interrupt that is marked as in service or none

@@ -5,7 +5,7 @@ use Rattle.board_terms.specs.declared.event.HostEvent.{HostEvent}
 use Rattle.mcs48_core.specs.Cpu.{Cpu}
 use Rattle.mcs48_core.specs.Reset.{reset_in}
 use Rattle.joint_run.specs.Run.{World, after_cycles, joint_step, run_at, seen}
-use Rattle.joint_run.specs.Joint.{Beside, joint_board, joint_cycle, joint_start_of}
+use Rattle.joint_run.specs.Joint.{Beside, joint_board, joint_cycle, joint_start_of, powered}
 use Rattle.joint_run.specs.Filled.{filled}
 use Rattle.chip_core.specs.declared.chip.Chip.{Chip}
 use Rattle.chip_core.specs.Chips.{after, cycles_of, next_of, powered_on}
@@ -46,11 +46,11 @@ IsWired edges events program from chips =
     (n : ℕ) (w : World Beside) → run_at (joint_board edges events) program from n ≡ Some w
     → chips (suc n) ≡ after (next_of (seen (joint_board edges events) w) (chips n)) (chips n)
 
--- from a reset of a part that held anything
+-- from a reset of a part that held anything, with an interrupt in service or not
 abbrev pub RunLaw : Type 0
 RunLaw =
     (held : Cpu) (edges : List Edge) (events : List HostEvent) (program : List ℕ) (chips : ℕ → Chip)
-    → chips 0 ≡ chip_of program (reset_in held) → IsWired edges events program (joint_start_of held) chips
+    → chips 0 ≡ chip_of program (powered held) → IsWired edges events program (joint_start_of held) chips
     → (n : ℕ) (w : World Beside) → run_at (joint_board edges events) program (joint_start_of held) n ≡ Some w
     → chips n ≡ chip_of program w.cpu
 

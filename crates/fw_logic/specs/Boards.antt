@@ -2,12 +2,12 @@
 use Rattle.std.specs.Prelude.{ℕ}
 use Rattle.mcs48_core.specs.declared.levels.Pins.{Pins}
 use Rattle.mcs48_core.specs.Cpu.{Cpu}
-use Rattle.mcs48_core.specs.Reset.{reset_in}
+use Rattle.joint_run.specs.Joint.{powered}
 use Rattle.joint_run.specs.Run.{Board, World}
 
--- a processor that held this, after reset, on a board, at cycle 0; it may have left an interrupt marked as in service
+-- the first state of a part that held this when it was switched on, on any board
 abbrev pub power_on : (d : Board) → Cpu → d.State → World d.State
-power_on d m board = record { cpu = record (reset_in m) { svc = m.svc }; board = board; cycle = 0 }
+power_on d m board = record { cpu = powered m; board = board; cycle = 0 }
 
 -- a board whose state is a number; the pins, by both latches, the cycle and the state, may show anything
 abbrev pub numbered : (ℕ → ℕ → ℕ → ℕ → Pins) → (ℕ → ℕ → ℕ → ℕ) → Board

@@ -13,7 +13,7 @@ use Rattle.host_turn.specs.declared.stamped.Stamped.{Stamped}
 use Rattle.host_turn.specs.Cycle.{desk_at_start}
 use Rattle.int09.specs.Bios.{start}
 use Rattle.mcs48_core.specs.Cpu.{Cpu}
-use Rattle.mcs48_core.specs.Reset.{reset_cpu, reset_in}
+use Rattle.mcs48_core.specs.Reset.{reset_cpu}
 use Rattle.mcs48_core.specs.declared.stepping.Stuck.{Stuck}
 use Rattle.joint_run.specs.declared.due.Due.{Due}
 use Rattle.joint_run.specs.declared.due.Seen.{Seen}
@@ -21,7 +21,7 @@ use Rattle.joint_run.specs.declared.machine.Machine.{Machine}
 use Rattle.joint_run.specs.declared.outside.Outside.{Outside}
 use Rattle.ctl_wire.specs.Wires.{wires}
 use Rattle.joint_run.specs.Run.{Board, World, after_cycles, joint_step}
-use Rattle.joint_run.specs.Joint.{Beside, latch_of, pins_by, joint_cycle}
+use Rattle.joint_run.specs.Joint.{Beside, latch_of, pins_by, joint_cycle, powered}
 
 -- what is outside the processor at power-on
 abbrev pub outside_at_start : Outside
@@ -36,7 +36,7 @@ abbrev pub powered_on_from : Cpu → List ℕ → Machine
 powered_on_from held image = record {
   image = record { bytes = image };
   matrix = all_up;
-  mcu = reset_in held;
+  mcu = powered held;
   outside = outside_at_start;
   cycle = 0;
   steps = 0;

@@ -62,9 +62,14 @@ beside_at_start = record { pc = pc_at_start; shown = 0 }
 abbrev pub joint_start : World Beside
 joint_start = record { cpu = reset_cpu; board = beside_at_start; cycle = 0 }
 
--- the first state of the run of a part that held this when it was switched on
+-- the processor of a part that held anything when it was switched on, after its reset: what reset leaves it still holds,
+-- and it may have an interrupt marked as in service
+abbrev pub powered : Cpu → Cpu
+powered held = record (reset_in held) { svc = held.svc }
+
+-- the first state of the run of such a part
 abbrev pub joint_start_of : Cpu → World Beside
-joint_start_of held = record { cpu = reset_in held; board = beside_at_start; cycle = 0 }
+joint_start_of held = record { cpu = powered held; board = beside_at_start; cycle = 0 }
 
 -- what was said so far, in order
 abbrev pub log_of : Beside → List Stamped

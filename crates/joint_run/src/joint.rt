@@ -7,9 +7,9 @@ ghost use Rattle.joint_run.specs.Due.{due_step, ended, machine_after, powered_on
 ghost use Rattle.joint_run.specs.Edgeless.{without_edges};
 ghost use Rattle.joint_run.specs.Filled.{filled};
 ghost use Rattle.joint_run.specs.History.{IsFirstOfRun, IsFirstOfRunFrom, IsStepOfRun};
+ghost use Rattle.joint_run.specs.Joint.{powered};
 ghost use Rattle.joint_run.specs.Sound.{IsSound};
 ghost use Rattle.mcs48_core.specs.Leap.{spun};
-ghost use Rattle.mcs48_core.specs.Reset.{reset_in};
 ghost use Rattle.mcs48_core.specs.Step.{stepped, IsStep};
 
 use crate::due::{Due, Seen};
@@ -42,7 +42,7 @@ impl Model for Joint {
 
 /// The processor after reset, in a part whose data memory, A and T held this byte when it was switched on.
 fn reset_filled(fill: u8) -> Mcu
-    ensures { result ≡ reset_in (filled fill) }
+    ensures { result ≡ powered (filled fill) }
 {
     let mut mcu = reset();
     mcu.a = fill;

@@ -103,13 +103,9 @@ log_begins layout p k s bytes stamp start low =
     let up : start.steps - p.steps + p.steps ≡ start.steps = omega (arith, order) in
     (goes_between story p.steps (start.steps - p.steps) w start.state at (ap (state_at story) up ∙ start.reached)).1
 
--- reset leaves no interrupt in service, so the run of a part that was reset is that of one that was switched on without one
-abbrev unserved : Cpu → Cpu
-unserved m = record m { svc = false }
-
 pub logs_agree : AnyMemoryLaw → LogsAgree
 logs_agree law layout p stop k s is bytes fine lawful =
-    let both = law layout (history_of p stop) is lawful (unserved p.held) fine in
+    let both = law layout (history_of p stop) is lawful p.held fine in
     let agrees = both.1 in
     let n : ℕ = s.world.cycle in
     let start = agrees.each n in
@@ -150,7 +146,7 @@ numbered starts apart (suc n) =
 
 pub logs_are_shown : AnyCountLaw → LogsAreShown
 logs_are_shown law layout p k s is bytes fine ok =
-    let goes = law layout p.edges p.events is ok (unserved p.held) fine in
+    let goes = law layout p.edges p.events is ok p.held fine in
     let n : ℕ = s.world.cycle in
     let start = goes.each n in
     let stamp : ℕ = goes.starts n in
@@ -166,5 +162,5 @@ logs_are_shown law layout p k s is bytes fine ok =
 -- the run under any keys has a state after each number of steps
 pub never_stuck : AnyKeysLaw → NeverStuck
 never_stuck law layout p is bytes fine =
-    let goes = (law layout p.edges p.events is (unserved p.held) fine).goes_on p.steps in
+    let goes = (law layout p.edges p.events is p.held fine).goes_on p.steps in
     (goes.0, ap (λ b. run_at (joint_board p.edges p.events) b (joint_start_of p.held) p.steps) bytes ∙ goes.1)

@@ -214,15 +214,11 @@ module _ (s : Story) (time : KeepsTimeFrom (joint_start_of s.held) s.bytes s.edg
     all zero = refl
     all (suc k) = ap (λ ts. ts ++ transfer_at s k) (all k) ∙ ap (λ ts. passed_to s k ++ ts) (each k)
 
--- reset leaves no interrupt in service, so the run of a part that was reset is that of one that was switched on without one
-abbrev unserved : Cpu → Cpu
-unserved m = record m { svc = false }
-
 pub any_run_is_heard : AnyMemoryHeard
 any_run_is_heard layout history m fine ok small =
     let s : Story = story_from m (image_of layout) history in
-    let time = (every_memory layout history fine ok (unserved m) small).0 in
-    let wires = every_wire layout history fine ok (unserved m) small in
+    let time = (every_memory layout history fine ok m small).0 in
+    let wires = every_wire layout history fine ok m small in
     record { each = each s time (keyboard layout) wires; all = all s time (keyboard layout) wires }
 
 pub every_run_is_heard : HeardLaw
