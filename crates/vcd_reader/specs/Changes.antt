@@ -3,7 +3,6 @@ use Rattle.std.specs.Prelude.{ℕ, ◌*◌, Bool, true, false, not, ◌==◌, �
 use Rattle.std.specs.Prelude.{Result, Ok, Err, if◌then◌else◌}
 use Rattle.first_fault.specs.FirstFault.{and_then, some_or}
 use Rattle.text_lines.specs.Numbers.{decimal_of}
-use Rattle.board_terms.specs.declared.lines.Lines.{Lines}
 use Rattle.vcd_reader.specs.declared.fault.Rule.{Rule}
 use Rattle.vcd_reader.specs.declared.fault.Rule.TheVariants.{Form, NoUnit, Back, Unknown, Unfinished}
 use Rattle.vcd_reader.specs.declared.part.Level.{Level}

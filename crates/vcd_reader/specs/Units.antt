@@ -1,5 +1,5 @@
 -- The unit of time: 1 ns, 10 ns, 100 ns, 1 µs or 10 µs.
-use Rattle.std.specs.Prelude.{ℕ, Bool, List, codes, Option, Some, None, if◌then◌else◌}
+use Rattle.std.specs.Prelude.{ℕ, List, codes, Option, Some, None, if◌then◌else◌}
 use Rattle.std.specs.Str.{bytes_eq}
 use Rattle.vcd_reader.specs.declared.unit.Count.{Count}
 use Rattle.vcd_reader.specs.declared.unit.Count.TheVariants.{One, Ten, Hundred}

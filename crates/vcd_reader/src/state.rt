@@ -1,7 +1,7 @@
 //! What the tokens so far said.
 
-ghost use Rattle.std.specs.Prelude.{◌≡◌, false, true};
-ghost use Rattle.vcd_reader.specs.Levels.{at_start, differ, due, turns, with_sample, without};
+ghost use Rattle.std.specs.Prelude.{◌≡◌};
+ghost use Rattle.vcd_reader.specs.Levels.{at_start, due, turns, with_sample, without};
 
 use crate::part::Part;
 use crate::unit::Unit;
