@@ -1,0 +1,24 @@
+-- A report is made, and a text appended, in parts.
+use Rattle.std.proofs.Common.{◌≡◌, ℕ, List, [], ◌∷◌, ◌++◌, refl, ◌∙◌, append_assoc}
+use Rattle.vcd_reader.specs.declared.state.Sample.{Sample}
+use Rattle.wire_frames.specs.declared.finding.Timed.{Timed}
+use Rattle.wire_frames.specs.Listening.{Hearing, heard_at, hearing_after}
+use Rattle.capture_lines.specs.Captures.{Report, both, found_by, reported, reported_all}
+
+-- findings, and then others
+pub reported_twice : (xs ys : List Timed) (report : Report) → reported_all (xs ++ ys) report ≡ reported_all ys (reported_all xs report)
+reported_twice [] ys report = refl
+reported_twice (x ∷ xs) ys report = reported_twice xs ys (reported x report)
+
+-- those of a sample, and then the others
+pub reported_further : (h : Hearing) (s : Sample) (more : List Sample) (report : Report)
+    → reported_all (found_by h (s ∷ more)) report
+    ≡ reported_all (found_by (hearing_after s.time s.lines h) more)
+    (reported_all (both (heard_at s.time s.lines h).frame (heard_at s.time s.lines h).pulse) report)
+reported_further h s more report =
+    reported_twice (both (heard_at s.time s.lines h).frame (heard_at s.time s.lines h).pulse)
+    (found_by (hearing_after s.time s.lines h) more) report
+
+-- four texts that are appended one after another
+pub four : (t a b c d x y z w : List ℕ) → x ≡ t ++ a → y ≡ x ++ b → z ≡ y ++ c → w ≡ z ++ d → w ≡ t ++ (a ++ b ++ c ++ d)
+four t a b c d x y z w p q r s = let e : w ≡ (((t ++ a) ++ b) ++ c) ++ d = cc in e ∙ simp append_assoc

@@ -1,0 +1,54 @@
+-- What is said of a capture.
+use Rattle.std.specs.Prelude.{ℕ, List, [], ◌∷◌, ◌++◌, Option, Some, None}
+use Rattle.vcd_reader.specs.declared.state.Sample.{Sample}
+use Rattle.vcd_reader.specs.Reads.{reads_of}
+use Rattle.wire_frames.specs.declared.finding.Timed.{Timed}
+use Rattle.wire_frames.specs.Listening.{Hearing, at_first, frame_at_end, heard_at, hearing_after, pulse_at_end}
+use Rattle.capture_lines.specs.declared.counts.Counts.{Counts}
+use Rattle.capture_lines.specs.Counting.{counted, none_yet, summary}
+use Rattle.capture_lines.specs.Lines.{finding_line}
+use Rattle.capture_lines.specs.Receiving.{Receiver, at_power_on, item_lines, receipt_of}
+
+-- what is found at a pulse and in the frame that it ends
+abbrev pub listed : Option Timed → List Timed
+listed None = []
+listed (Some t) = t ∷ []
+
+abbrev pub both : Option Timed → Option Timed → List Timed
+both frame pulse = listed frame ++ listed pulse
+
+-- what is found in samples, in order, and at their end
+abbrev pub found_by : Hearing → List Sample → List Timed
+found_by h [] = both (frame_at_end h) (pulse_at_end h)
+found_by h (s ∷ more) =
+    both (heard_at s.time s.lines h).frame (heard_at s.time s.lines h).pulse
+    ++ found_by (hearing_after s.time s.lines h) more
+
+-- what was said so far: the lines, with what the PC keeps and the counts
+pub record Report : Type 0 where
+  pub receiver : Receiver
+  pub counts : Counts
+  pub text : List ℕ
+
+abbrev pub at_start : Report
+at_start = record { receiver = at_power_on; counts = none_yet; text = [] }
+
+-- a finding's line, and those of what the PC makes of it
+abbrev pub reported : Timed → Report → Report
+reported t report = record {
+  receiver = (receipt_of t.finding report.receiver).after;
+  counts = counted t.finding report.counts;
+  text = report.text ++ finding_line t ++ item_lines t.time (receipt_of t.finding report.receiver).items;
+}
+
+abbrev pub reported_all : List Timed → Report → Report
+reported_all [] report = report
+reported_all (t ∷ more) report = reported_all more (reported t report)
+
+-- what is said of a dump of two wires with these names, up to its first fault
+abbrev pub report_of : List ℕ → List ℕ → List ℕ → Report
+report_of clk dat dump = reported_all (found_by at_first (reads_of clk dat dump).samples) at_start
+
+-- and then the summary
+abbrev pub capture_text : List ℕ → List ℕ → List ℕ → List ℕ
+capture_text clk dat dump = (report_of clk dat dump).text ++ summary (report_of clk dat dump).counts

@@ -1,0 +1,4 @@
+pub mod Lines
+pub mod Receiving
+pub mod Counting
+pub mod Captures

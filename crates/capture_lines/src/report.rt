@@ -1,0 +1,108 @@
+//! What was said so far.
+
+ghost use Rattle.std.specs.Prelude.{◌≡◌, ◌++◌, IfOk, OnOk};
+ghost use Rattle.capture_lines.specs.Captures.{at_start, both, listed, reported, reported_all};
+ghost use Rattle.capture_lines.specs.Counting.{summary};
+ghost use Rattle.capture_lines.specs.Receiving.{item_line, item_lines};
+
+use crate::counts::Counts;
+use crate::line::{finding_line, time_text};
+use crate::receiver::Receiver;
+use pc_tables::{Item, push_item};
+use std::alloc::{AllocError, Global};
+use std::marker::Model;
+use wire_frames::{Said, Timed};
+
+/// What was said so far: the lines, with what the PC keeps and the counts.
+#[derive(Drop)]
+pub(crate) struct Report {
+    receiver: Receiver,
+    counts: Counts,
+    text: Vec<u8>,
+}
+
+impl Model for Report {
+    ghost use Rattle.capture_lines.specs.Captures as captures;
+
+    ghost Value = { captures.Report };
+
+    ghost view = { λ t. record { receiver = t.receiver; counts = t.counts; text = t.text.items } };
+}
+
+/// Appends the line of an item.
+fn push_item_line(text: &mut Vec<u8>, time: u64, item: Item) -> Result<(), AllocError>
+    ensures { OnOk result (text.new.items ≡ text.old.items ++ item_line time item) }
+{
+    text.extend_from_slice(&time_text(time))?;
+    push_item(text, item)?;
+    text.push(b'\n')?;
+    Ok(())
+}
+
+/// Appends a line an item.
+fn push_item_lines(text: &mut Vec<u8>, time: u64, items: &[Item]) -> Result<(), AllocError>
+    ensures { OnOk result (text.new.items ≡ text.old.items ++ item_lines time items.now) }
+{
+    for item in items {
+        push_item_line(text, time, *item)?;
+    }
+    Ok(())
+}
+
+impl Report {
+    /// Nothing was said, and the PC is at power-on.
+    pub(crate) fn new(alloc: Global) -> Result<Report, AllocError>
+        ensures { IfOk result (λ report. report ≡ at_start) }
+    {
+        let receiver = Receiver::new(alloc)?;
+        Ok(Report {
+            receiver,
+            counts: Counts::new(),
+            text: Vec::new(alloc),
+        })
+    }
+
+    /// Reports a finding.
+    fn report_one(&mut self, timed: Timed) -> Result<(), AllocError>
+        ensures { OnOk result (self.new ≡ reported timed self.old) }
+    {
+        self.counts.count(timed.finding);
+        let items = self.receiver.hear(timed.finding);
+        self.text.extend_from_slice(&finding_line(timed))?;
+        push_item_lines(&mut self.text, timed.time, &items)?;
+        Ok(())
+    }
+
+    /// Reports a finding, if there is one.
+    fn report_if(&mut self, timed: Option<Timed>) -> Result<(), AllocError>
+        ensures { OnOk result (self.new ≡ reported_all (listed timed) self.old) }
+    {
+        match timed {
+            Some(timed) => self.report_one(timed),
+            None => Ok(()),
+        }
+    }
+
+    /// All that was said, and the summary.
+    pub(crate) fn finish(self) -> Result<Vec<u8>, AllocError>
+        ensures { IfOk result (λ text. text.items ≡ self.text ++ summary self.counts) }
+    {
+        let Report {
+            counts,
+            mut text,
+            ..
+        } = self;
+        counts.push_summary(&mut text)?;
+        Ok(text)
+    }
+
+    /// Reports what a pulse ends, and what it is itself.
+    #[tactic(auto, using(crate::proofs::Parts::reported_twice))]
+    pub(crate) fn report_said(&mut self, said: Said) -> Result<(), AllocError>
+        ensures { OnOk result (self.new ≡ reported_all (both said.frame said.pulse) self.old) }
+    {
+        self.report_if(said.frame)?;
+        self.report_if(said.pulse)?;
+        Ok(())
+    }
+}
