@@ -1,16 +1,17 @@
 // The lessons: each has a file to change, a task, two hints, and what it asks of the file (`judges`). `begin` says which texts of
 // an example are replaced for the first form of the file, or `start` is that form. `section` is that of docs/OWN-FIRMWARE.md which
 // says more. `command` runs what one has made, in which OWN is the file and IMAGE its image.
-import { certifies, columnOf, columnsOf, doesInTrials, doesOnTheAt, saysOfBytes, sendsOnPress, writesBeforeRead } from './course/asked.js';
+import { answersAtAnyTime, both, certifies, columnOf, columnsOf, doesInTrials, doesOnTheAt, saysOfBytes, sendsAtAnyTime, sendsOnPress, writesBeforeRead } from './course/asked.js';
 import { ALL_COLUMNS, ANSWERS, BREAKS, MAKES, ONE_COLUMN, QUEUED, QUEUED_COLUMNS, SILENT, TAKES } from './course/programs.js';
 import {
-  answers, atPowerOn, chosen, conversations, eachKey, likeTheModel, lightings, makeTrials, noisy, repeating, repeatTrials, silences, strokesInHold, strokesOf, waitingTrials,
+  answers, answersWait, atPowerOn, chosen, conversations, eachKey, fullTrials, likeTheModel, lightings, makeTrials, noisy, repeating, repeatTrials, silences, strokesInHold, strokesOf, unknownBytes, waitingTrials,
   withBreaks, writesAround,
 } from './course/trials.js';
 
 const FOUR_KEYS = ['a', 'b', 'c', 'd'], FOUR_CODES = ['1C', '32', '21', '23'];
 const MATRIX = [FOUR_KEYS, ['e', 'f', 'g', 'h']], EIGHT_KEYS = MATRIX.flat(), EIGHT_CODES = [...FOUR_CODES, '24', '2B', '34', '33'];
 const FOUR_BREAKS = withBreaks(makeTrials(FOUR_KEYS, FOUR_CODES), FOUR_KEYS, FOUR_CODES);
+const FOUR_WAIT = [...withBreaks([...waitingTrials(FOUR_KEYS, FOUR_CODES), ...strokesInHold(FOUR_KEYS, FOUR_CODES)], FOUR_KEYS, FOUR_CODES), ...fullTrials(FOUR_KEYS, FOUR_CODES)];
 const BY_A = { name: 'a', code: '1C', as: trial => ({ ...trial, bytes: ['1C', 'F0', '1C'] }) };
 const SOME = [0, 19, 44, 66]; // keys of the AT in different columns and rows
 const ASKED_AGAIN = [
@@ -130,7 +131,10 @@ export const LESSONS = [
     file: 'lesson9.asm',
     start: SILENT,
     command: 'board IMAGE four_keys.toml four_keys.keys',
-    judges: doesInTrials(columnOf(FOUR_KEYS), [...atPowerOn(['AA']), ...atPowerOn(['AA'], '10ms press a\n60ms release a\n100ms end\n')]),
+    judges: both(
+      doesInTrials(columnOf(FOUR_KEYS), [...atPowerOn(['AA']), ...atPowerOn(['AA'], '10ms press a\n60ms release a\n100ms end\n'), atPowerOn(['AA'], '2000ms end\n')[0]]),
+      sendsAtAnyTime(columnOf(FOUR_KEYS), ['AA']),
+    ),
   },
   {
     title: 'A key that goes up',
@@ -168,7 +172,10 @@ export const LESSONS = [
     start: TAKES,
     extra: { 'asked.keys': '10ms write60 EE\n30ms write60 FF\n60ms end\n' },
     command: 'board IMAGE four_keys.toml asked.keys',
-    judges: doesInTrials(columnOf(FOUR_KEYS), [...answers(ASKED), { says: 'nobody writes', keys: '50ms end\n', bytes: [], calm: true }]),
+    judges: both(
+      doesInTrials(columnOf(FOUR_KEYS), [...answers(ASKED), ...unknownBytes(['EE', 'FF']), { says: 'nobody writes', keys: '50ms end\n', bytes: [], calm: true }, ...answersWait]),
+      answersAtAnyTime(columnOf(FOUR_KEYS)),
+    ),
   },
   {
     title: 'The lights: ED',
@@ -181,7 +188,10 @@ export const LESSONS = [
     start: ANSWERS,
     extra: { 'lights.keys': '10ms write60 ED\n30ms write60 05\n60ms end\n' },
     command: 'board IMAGE four_keys.toml lights.keys',
-    judges: doesInTrials(columnOf(FOUR_KEYS), [...lightings, ...conversations(ASKED.filter(([asked]) => asked !== 'ED').map(pair => [pair]))]),
+    judges: both(
+      doesInTrials(columnOf(FOUR_KEYS), [...lightings, ...conversations(ASKED.filter(([asked]) => asked !== 'ED').map(pair => [pair])), ...unknownBytes(['ED', 'EE', 'FF']), ...answersWait]),
+      answersAtAnyTime(columnOf(FOUR_KEYS)),
+    ),
   },
   {
     title: 'Send it again: FE',
@@ -194,21 +204,24 @@ export const LESSONS = [
     start: ANSWERS,
     extra: { 'noisy.keys': '8ms flip 3\n10ms write60 EE\n60ms end\n' },
     command: 'board IMAGE four_keys.toml noisy.keys',
-    judges: doesInTrials(columnOf(FOUR_KEYS), [...conversations([...ASKED_AGAIN, ...ASKED.map(pair => [pair])]), ...answers([['EE', ['EE']], ['F4', ['FA']]]).slice(0, 2).flatMap(noisy)]),
+    judges: both(
+      doesInTrials(columnOf(FOUR_KEYS), [...conversations([...ASKED_AGAIN, ...ASKED.map(pair => [pair])]), ...answers([['EE', ['EE']], ['F4', ['FA']]]).slice(0, 2).flatMap(noisy), ...unknownBytes(['FE', 'EE', 'FF']), ...answersWait]),
+      answersAtAnyTime(columnOf(FOUR_KEYS)),
+    ),
   },
   {
     title: 'A queue',
     section: 'When a byte may go, and when it must wait',
     text: ['While the PC doesn\'t read, send waits, and the keys aren\'t read: a short stroke is lost. The AT\'s keyboard keeps what its keys say in a queue of sixteen bytes, and goes on reading the keys.',
       'A queue is a ring: the place after its last is its first. Cells 20 to 2F have room for it.'],
-    task: 'Let up to sixteen bytes wait in a queue, in their order, while the keys are still read. Each goes when the wires are free.',
+    task: 'Let up to sixteen bytes wait in a queue, in their order, while the keys are still read. Each goes when the wires are free. A byte that comes while sixteen wait is lost.',
     hints: ['Three numbers are needed: the place for the next byte, the place of the first one, and how many wait. SEL RB1 gives eight more registers.',
       'send must not wait: look at both wires before it is called. A byte that was broken off, which R4 says, stays the first of the queue.'],
     file: 'lesson15.asm',
     start: BREAKS,
     extra: { 'waiting.keys': '5ms mask\n10ms press a\n40ms release a\n60ms press b\n90ms release b\n110ms press c\n140ms release c\n200ms unmask\n260ms end\n' },
     command: 'board IMAGE four_keys.toml waiting.keys',
-    judges: doesInTrials(columnOf(FOUR_KEYS), [...FOUR_BREAKS, ...withBreaks([...waitingTrials(FOUR_KEYS, FOUR_CODES), ...strokesInHold(FOUR_KEYS, FOUR_CODES)], FOUR_KEYS, FOUR_CODES), ...silences(FOUR_KEYS)], BY_A),
+    judges: doesInTrials(columnOf(FOUR_KEYS), [...FOUR_BREAKS, ...FOUR_WAIT, ...silences(FOUR_KEYS)], BY_A),
   },
   {
     title: 'A key that is held',
@@ -236,8 +249,8 @@ export const LESSONS = [
     extra: { 'both.keys': '10ms press a\n30ms write60 EE\n60ms release a\n80ms write60 ED\n100ms write60 04\n120ms write60 FE\n160ms end\n' },
     command: 'board IMAGE four_keys.toml both.keys',
     judges: doesInTrials(columnOf(FOUR_KEYS), [
-      ...FOUR_BREAKS, ...withBreaks([...waitingTrials(FOUR_KEYS, FOUR_CODES), ...strokesInHold(FOUR_KEYS, FOUR_CODES)], FOUR_KEYS, FOUR_CODES),
-      ...lightings, ...conversations([...ASKED_AGAIN, ...ASKED.map(pair => [pair])]), ...withBreaks(eachKey(FOUR_KEYS, FOUR_CODES), FOUR_KEYS, FOUR_CODES).flatMap(noisy),
+      ...FOUR_BREAKS, ...FOUR_WAIT, ...lightings, ...unknownBytes(['EE', 'FE', 'ED', 'FF']),
+      ...conversations([...ASKED_AGAIN, ...ASKED.map(pair => [pair])]), ...withBreaks(eachKey(FOUR_KEYS, FOUR_CODES), FOUR_KEYS, FOUR_CODES).flatMap(noisy),
       ...answers([['EE', ['EE']], ['F4', ['FA']], ['FF', ['FA', 'AA']]]).slice(0, 3).flatMap(noisy), ...writesAround('a', '1C', 'EE', 'EE'),
     ], BY_A),
   },
@@ -259,7 +272,7 @@ export const LESSONS = [
     section: 'A whole keyboard',
     text: ['A keyboard for real: 84 keys, each with a break, and a queue. You have built each part: exercise 10 has the breaks, 15 the queue.',
       'Sixteen conditional jumps or more don\'t all reach the same page: ORG 100H begins page 1. CALL and JMP reach any place.'],
-    task: 'Let each key send its code when it goes down, and F0 and its code when it goes up. Up to sixteen bytes wait in a queue while the PC doesn\'t read.',
+    task: 'Let each key send its code when it goes down, and F0 and its code when it goes up. Up to sixteen bytes wait in a queue while the PC doesn\'t read, and one more is lost.',
     hints: ['Cells 20 to 2B are taken, so the queue may have the cells 30 to 3F.', 'Offer a byte after each round of the columns, and not within one: R1, R5, R6 and R7 are needed there.'],
     file: 'lesson19.asm',
     start: ALL_COLUMNS,
@@ -267,7 +280,7 @@ export const LESSONS = [
     command: 'board IMAGE us84.toml rolling.keys',
     judges: doesOnTheAt((names, codes) => {
       const some = chosen(names, SOME), theirs = chosen(codes, SOME);
-      return [...withBreaks([...eachKey(names, codes), ...makeTrials(some, theirs), ...waitingTrials(chosen(names, SOME.map(at => at + 1)), chosen(codes, SOME.map(at => at + 1))), ...strokesInHold(some, theirs)], names, codes), ...silences(some)];
+      return [...withBreaks([...eachKey(names, codes), ...makeTrials(some, theirs), ...waitingTrials(chosen(names, SOME.map(at => at + 1)), chosen(codes, SOME.map(at => at + 1))), ...strokesInHold(some, theirs)], names, codes), ...fullTrials(some, theirs), ...silences(some)];
     }, BY_A),
   },
   {

@@ -7,6 +7,16 @@ const LOOK = 'more:   JNT0 freed              ; the controller pulls it: the byt
 const WAIT = 'send:   JNT0 send               ; the controller holds the clock\n        JNT1 send\n';
 const LOW_NOPS = NOP.repeat(8), PARITY = 'CPL A                   ; 1 where the ones are even in number', STOP = 'ORL A,#2 ';
 
+const FRAME_LOOK = '        JMP freed\nmore:   JNT0 freed              ; the controller pulls it: the byte is broken off\n', NO_FRAME_LOOK = `        JMP freed\n${NO_LOOK}`;
+const NO_LOOK_IN_FRAME = { edit: [[FRAME_LOOK, NO_FRAME_LOOK]], says: /the PC (writes to its keyboard controller|switches the keyboard off)/ };
+const NO_WAIT = { edit: [[WAIT, 'send:   NOP\n']], says: /switches the keyboard off|asks the keyboard|INT 09h is masked/ };
+const NO_WAIT_FOR_CLOCK = { edit: [[WAIT, 'send:   JNT1 send\n']], says: /switches the keyboard off|INT 09h is masked|data for the last clock/ };
+const NO_WAIT_FOR_DATA = { edit: [[WAIT, 'send:   JNT0 send               ; the controller holds the clock\n']], says: /asks the keyboard to take a byte/ };
+const TWO_TRIES = { edit: [['send:   JNT0 send ', '        MOV R1,#2\nsend:   JNT0 send '], ['        JNZ send ', '        JZ sent\n        DJNZ R1,send\nsent:   NOP ']], says: /writes to its keyboard controller 40 times/ };
+const FIFTEEN_WAIT = { edit: [['        JB4 full\n', '        XRL A,#15\n        JZ full\n']], says: /masked/ };
+const ANY_WAIT = { edit: [['        JB4 full\n', '']], says: /masked/ };
+const likeIn = (named, mask) => ({ edit: [[`        XRL A,#0${named}H\n`, `        XRL A,#0${named}H\n        ANL A,#0${mask}H\n`]], says: /the PC writes/ });
+
 /** Wrong in each program of four keys, whatever the lesson is about. */
 export const ALWAYS_WRONG = [
   { wasAccepted: true, edit: [[LOW_NOPS, '']], says: /cycles from a fall of the clock to the next.*32.*24/s },
@@ -32,6 +42,7 @@ export const SOLUTIONS = {
       { edit: [['ANL A,#0FH', 'ANL A,#1']], says: /key b/ },
       { edit: [[PARITY, 'NOP ']], says: /the parity bit/ },
       { edit: [['other:  INC R6', 'other:  NOP']], says: /key b/ },
+      TWO_TRIES,
     ],
   },
   2: {
@@ -101,6 +112,7 @@ export const SOLUTIONS = {
       { edit: [[LOOK, 'more:   JNT0 other\n']], says: /the PC writes/ },
       { edit: [[LOOK, NO_LOOK], ['        MOV R4,#11\n', '        MOV R4,#11\n        JNT0 freed\n']], says: /the PC writes/ },
       { edit: [['        JNZ send ', '        NOP\n        NOP ']], says: /the PC writes/ },
+      TWO_TRIES,
     ],
   },
   6: {
@@ -147,7 +159,7 @@ export const SOLUTIONS = {
     ],
     wrong: [
       { edit: [['01D 398', '01D 397']], says: /line 2/ },
-      { wasAccepted: true, edit: [['01D 398\n', '']], says: /the bound of place 01D.*no line/s },
+      { edit: [['01D 398\n', '']], says: /the bound of place 01D.*no line/s },
       { edit: [['01D 398', '01D 401']], says: /at most 400.*401/s },
       { edit: [['01D 398', '01D 9000']], says: /at most 400.*9000/s },
       { edit: 'target 057\n051 2\n', says: /line|no line for this place/ },
@@ -173,6 +185,8 @@ export const SOLUTIONS = {
       { edit: [[LOW_NOPS, NOP.repeat(6)]], says: /32.*30/s },
       { edit: [['CPL A                   ; 1 if the number of ones is even', 'NOP']], says: /parity bit/ },
       { edit: [['        MOV R4,#11\n', '        MOV R4,#10\n']], says: /frame|bit|port AA/ },
+      { edit: [['halt:   JMP halt', 'halt:   DJNZ R6,halt\n        DJNZ R5,halt\n        CALL send\n        JMP halt']], says: /nothing more.*port AA|port AA/s },
+      NO_LOOK_IN_FRAME, NO_WAIT, NO_WAIT_FOR_CLOCK, NO_WAIT_FOR_DATA,
     ],
   },
   10: {
@@ -222,6 +236,7 @@ export const SOLUTIONS = {
       { edit: [['take:   MOV R4,#8', 'take:   MOV R4,#7']], says: /writes EE/ },
       { edit: [['MOV R0,#0AAH', 'MOV R0,#0FAH']], says: /writes FF/ },
       { edit: [[LOW_NOPS, NOP.repeat(7)]], says: /writes EE: the bytes on the wires: expected EE/ },
+      likeIn('EE', 'F'), likeIn('EE', 'EF'), NO_LOOK_IN_FRAME, NO_WAIT_FOR_CLOCK, NO_WAIT_FOR_DATA,
     ],
   },
   13: {
@@ -240,6 +255,7 @@ export const SOLUTIONS = {
       { edit: [['        MOV R0,#0FAH\n        JMP echo\n', '        JMP echo\n']], says: /port FA, lights 0, got/ },
       { edit: [['lights: JNT0 lights\n        JT1 lights\n        CALL take\n        MOV A,R0 ', 'lights: MOV A,R7 ']], says: /lights/ },
       { edit: [['        JZ lights\n', '        NOP\n']], says: /lights 1, got port FA, lights 0|lights/ },
+      likeIn('ED', 'F'), likeIn('ED', 'EF'), NO_LOOK_IN_FRAME, NO_WAIT_FOR_CLOCK, NO_WAIT_FOR_DATA,
     ],
   },
   14: {
@@ -257,6 +273,7 @@ export const SOLUTIONS = {
       { edit: [['again:  MOV A,R6\n        MOV R0,A\n', 'again:  MOV A,R6\n        MOV R0,A\n        CALL send\n']], says: /EE and FE: what the PC reads/ },
       { edit: [['again:  MOV A,R6\n        MOV R0,A\n', 'again:  MOV R0,#0FEH\n']], says: /EE and FE/ },
       { edit: [['        MOV R6,A\n        JMP send\n', '        CALL send\n        MOV A,R7\n        MOV R6,A\n        RET\n']], says: /FE/ },
+      likeIn('FE', 'FD'), NO_LOOK_IN_FRAME, NO_WAIT_FOR_CLOCK, NO_WAIT_FOR_DATA,
     ],
   },
   15: {
@@ -276,6 +293,7 @@ export const SOLUTIONS = {
       { edit: [['        MOV R4,#0\n', '']], says: /./ },
       { edit: [['        MOV A,#0F0H             ; the key went up\n        CALL put\n', '']], says: /port 9E/ },
       { edit: [['        JNT0 poll ', 'here:   JNT0 here ']], says: /masked|switches/ },
+      FIFTEEN_WAIT, ANY_WAIT,
     ],
   },
   16: {
@@ -313,6 +331,7 @@ export const SOLUTIONS = {
       { edit: [['        JNT1 poll\n', '']], says: /the PC writes/ },
       { edit: [['        ORL A,#8FH ', '        ORL A,#0CFH ']], says: /lights/ },
       { edit: [['        MOV A,R4\n        JNZ poll ', '        NOP ']], says: /the PC (writes|switches)/ },
+      FIFTEEN_WAIT, ANY_WAIT, likeIn('EE', 'F'), likeIn('ED', 'F'),
     ],
   },
   18: {
@@ -348,6 +367,7 @@ export const SOLUTIONS = {
       { edit: [['        JNT1 poll\n', '']], says: /after the PC has asked/ },
       { edit: [['        XRL A,#2CH              ; after', '        XRL A,#2AH              ; after']], says: /key kp3/ },
       { edit: [['        JNT0 poll ', 'here:   JNT0 here ']], says: /masked|switches/ },
+      FIFTEEN_WAIT, ANY_WAIT,
     ],
   },
   20: {
@@ -367,6 +387,7 @@ export const SOLUTIONS = {
       { edit: [['        JNZ up\n', '        NOP\n']], says: /isn't repeated/ },
       { edit: [['        MOV @R0,#0              ; it is', '        NOP ; it is']], says: /./ },
       { edit: [['        JNT1 poll\n', '']], says: /./ },
+      FIFTEEN_WAIT, ANY_WAIT,
     ],
   },
 };

@@ -1,10 +1,10 @@
 // What each kind of lesson asks of a file: `judges(say, text, files)` goes on trial by trial, and returns the first thing that is
 // wrong, or null. A refusal of the program's is handed on as { refused }.
 import { hex } from '../dom.js';
-import { stampOf, firstFrame } from './frames.js';
+import { framesSent, stampOf } from './frames.js';
 import { differing, itemsIn, itemsOfBytes, judging } from './judge.js';
 import { AT_CODES } from './programs.js';
-import { brokenOff, keyFileOf, makeTrials, silences, switchedOff } from './trials.js';
+import { askedAfter, askedBefore, brokenOff, brokenOffAgain, inFrame, keyFileOf, makeTrials, silences, switchedOff } from './trials.js';
 import { readTrace } from '../vcd.js';
 
 const done = answer => answer.exit === 0;
@@ -20,12 +20,13 @@ export const columnOf = names => columnsOf([names]);
 
 const WRITES_APART = 3; // cycles between two times at which the PC writes
 
-// The stamps between which the program sends the byte of the first key; null if it sends none.
-function frameOf(say, image, layout, name) {
-  const keys = keyFileOf([{ ms: 10, words: `press ${name}` }, { ms: 60, words: `release ${name}` }]);
+// The stamps between which the program sends each byte.
+function framesOf(say, image, layout, keys) {
   const traced = say(['board', 'own.hex', 'board.toml', 'trial.keys', '--trace'], { 'own.hex': image, 'board.toml': layout, 'trial.keys': keys });
-  return (done(traced) ? firstFrame(readTrace(traced.text)) : null)?.map(stampOf) ?? null;
+  return done(traced) ? framesSent(readTrace(traced.text)).map(frame => frame.map(stampOf)) : [];
 }
+
+const frameOf = (say, image, layout, name) => framesOf(say, image, layout, keyFileOf([{ ms: 10, words: `press ${name}` }, { ms: 60, words: `release ${name}` }]))[0];
 
 /** Keys that send a byte each when they go down; each in column 0, from row 0 on. */
 export const sendsOnPress = (names, codes) => function* judged(say, text) {
@@ -34,7 +35,35 @@ export const sendsOnPress = (names, codes) => function* judged(say, text) {
   const first = yield* judging(say, image, layout, [...makeTrials(names, codes), ...silences(names)]);
   if (first) return first;
   const frame = frameOf(say, image, layout, names[0]);
-  return yield* judging(say, image, layout, [brokenOff, switchedOff].flatMap(kind => kind(names[0], codes[0], frame, WRITES_APART)));
+  return yield* judging(say, image, layout, [
+    ...names.flatMap((name, n) => brokenOffAgain(name, codes[n], frame)), ...[brokenOff, switchedOff].flatMap(kind => kind(names[0], codes[0], frame, WRITES_APART)),
+  ]);
+};
+
+// Begins a program later, so that the PC can write before its first byte.
+const LATER = '        MOV R6,#10\nbegin_late: MOV R7,#0\nbegin_wait: DJNZ R7,begin_wait\n        DJNZ R6,begin_late\n';
+const FIRST_PLACE = /^(?:[ \t]*(?:;.*)?\n)*[ \t]*ORG[ \t]+0+H?[ \t]*(?:;.*)?\n|^/i;
+
+/** A program that sends these bytes after power-on does so too if the PC writes before or within the first of them. */
+export const sendsAtAnyTime = (layout, bytes) => function* judgedAtAnyTime(say, text) {
+  const { image, refused } = imageOf(say, text.replace(FIRST_PLACE, first => first + LATER));
+  if (refused) return { refused };
+  const [frame] = framesOf(say, image, layout, keyFileOf([{ ms: 60, words: 'write64 AE' }]));
+  if (!frame) return differing('power-on', 'the bytes on the wires', bytes, []);
+  return yield* judging(say, image, layout, [...inFrame([], bytes, frame), ...askedBefore(frame)].map(trial => ({ ...trial, says: `the program begins later, and ${trial.says}` })));
+};
+
+/** A program that answers FF with FA and AA sends AA too if the PC breaks it off; and it doesn't send it if the PC wants to write. */
+export const answersAtAnyTime = layout => function* judgedAnswers(say, text) {
+  const { image, refused } = imageOf(say, text), lines = [{ ms: 10, words: 'write60 FF' }];
+  if (refused) return { refused };
+  const [first, second] = framesOf(say, image, layout, keyFileOf(lines));
+  return yield* judging(say, image, layout, [...askedAfter(lines, first), ...inFrame(lines, ['FA', 'AA'], second)]);
+};
+
+/** What both ask of a file. */
+export const both = (first, second) => function* judgedByBoth(...given) {
+  return (yield* first(...given)) ?? (yield* second(...given));
 };
 
 /** A program on a board with this layout, in these trials; and then in those that depend on the frame of a key, if one is named. */

@@ -80,10 +80,13 @@ export function takenFault({ edges }) {
   return null;
 }
 
-/** The cycles of the first frame of a trace: those of its first fall and of its last; or null if there is none. */
-export function firstFrame({ edges }) {
+/** The frames in which the keyboard sends a byte: each by the cycles of its first fall and of its last. */
+export function framesSent({ edges, bytes }) {
   const { falls } = changesOf(edges);
-  return falls.length >= FALLS_OF_A_FRAME ? [falls[0].cycle, falls[FALLS_OF_A_FRAME - 1].cycle] : null;
+  return bytes.filter(it => it.sender === 'keyboard').map(({ end }) => {
+    const last = falls.findLastIndex(it => it.cycle <= end);
+    return [falls[last - FALLS_OF_A_FRAME + 1].cycle, falls[last].cycle];
+  });
 }
 
 /** How often the clock fell. */

@@ -2,10 +2,13 @@
 // `says`, where it is; `keys`, its key file; `bytes`; `any`, if their order is free; `calm`, if the keyboard alone begins to pull
 // the wires; `fill`, what memory holds at power-on; `takes`, if the keyboard takes the PC's bytes; `items`, what the PC reads in
 // place of what comes of the bytes (or of `read`), or `likeModel`, if it is what the model says; `reads`, how a log is read (logs.js).
+import { hex } from '../dom.js';
 import { CYCLES_OF_ONE_MS, asTheyAre, withLastLights, withLights, withoutRepeats } from './logs.js';
 
 const HELD_MS = 50, REST = 40, HELD_LONG = 900, SHORT = 15; // ms
 const FIRST_MS = 10, BETWEEN_WRITES = 20;
+const WRITES_AGAIN = 40, UNMASKED = 16000; // UNMASKED is a stamp
+const FALLS_ASKED_AFTER = 23; // eleven of FF, eleven of FA, and one by which the controller asks to send FF; it asks again while it holds the clock
 const MOST_AT_ONCE = 4; // edges, of which five take at least 5.6 ms
 const STRAY_SEED = 48271, STRAY_MODULUS = 2147483647; // of a pseudo-random sequence, which is the same each time
 const TRIAL_FILLS = ['00', 'A5', 'FF', '5A'];
@@ -142,6 +145,30 @@ export function switchedOff(name, code, [begin, end], apart) {
 
 const F0 = 'F0';
 
+/** The PC writes again and again, from the begin of a key's frame on, so that each try to send the byte is broken off. */
+export const brokenOffAgain = (name, code, [begin]) => [{
+  says: `the PC writes to its keyboard controller ${WRITES_AGAIN} times, and the frame of key ${name} begins at ${begin}`, bytes: [code],
+  keys: keyFileOf([{ ms: FIRST_MS, words: `press ${name}` }, ...Array.from({ length: WRITES_AGAIN }, (_, n) => ({ stamp: begin + 40 + 150 * n, words: 'write64 AE' })), { ms: 60, words: `release ${name}` }]),
+}];
+
+/** What a keyboard sends is broken off, or has to wait: `lines` are what makes it send these bytes, of which one has this frame. */
+export function inFrame(lines, bytes, [begin, end]) {
+  const trials = [], trial = (what, writes) => trials.push({ says: `the PC ${what}, and a frame begins at ${begin}`, bytes, takes: true, keys: keyFileOf([...lines, ...writes]) });
+  for (let stamp = begin - 150; stamp <= end + 30; stamp += 20) {
+    trial(`writes to its keyboard controller at cycle ${stamp}`, [{ stamp, words: 'write64 AE' }]);
+    trial(`switches the keyboard off at cycle ${stamp} and on later`, [{ stamp, words: 'write64 AD' }, { stamp: end + 400 + stamp % 70, words: 'write64 AE' }]);
+  }
+  return trials;
+}
+
+const askedIn = (lines, stamp, more) => [{ says: `the PC asks the keyboard to take a byte at cycle ${stamp}`, keys: keyFileOf([...lines, { stamp, words: 'write60 EE' }]), ...more }];
+
+/** The PC asks the keyboard to take a byte before its first frame: it sends none. */
+export const askedBefore = ([begin]) => askedIn([], begin - 400, { bytes: [], falls: 1 });
+
+/** The PC asks it right after the first frame of its answer to FF, FA: it doesn't send AA. */
+export const askedAfter = (lines, [, end]) => askedIn(lines, end + 20, { bytes: ['FA'], falls: FALLS_ASKED_AFTER });
+
 /** Gives trials of keys that send when they go down the bytes that they send when they go up too. */
 export const withBreaks = (trials, names, codes) => trials.map(trial => {
   const bytes = trial.keys.split('\n').map(line => line.split(' ')).filter(([, word]) => word === 'press' || word === 'release')
@@ -175,6 +202,18 @@ export const conversations = lists => lists.map(list => {
   };
 });
 
+// The bytes that differ from this one in a bit.
+const neighboursOf = byte => Array.from({ length: 8 }, (_, bit) => hex(Number.parseInt(byte, 16) ^ 1 << bit));
+
+/** The bytes that are like those that a keyboard has answers of its own for, and FE: each is answered with FA, and EE after it with EE. */
+export const unknownBytes = named => conversations([[...new Set(['FE', ...named.flatMap(neighboursOf)])].filter(byte => !named.includes(byte)).flatMap(byte => [[byte, ['FA']], ['EE', ['EE']]])]);
+
+/** FF is answered while the PC doesn't read: AA waits until it has read FA. */
+export const answersWait = Array.from({ length: 18 }, (_, n) => ({
+  says: `the PC writes FF while INT 09h is masked, up to cycle ${UNMASKED + 5 * n}`, bytes: ['FA', 'AA'], takes: true,
+  keys: keyFileOf([{ ms: 5, words: 'mask' }, { ms: FIRST_MS, words: 'write60 FF' }, { stamp: UNMASKED + 5 * n, words: 'unmask' }]),
+}));
+
 /** Conversations that set the lights to each value, and then to another. */
 export const lightings = conversations([
   ...Array.from({ length: 8 }, (_, to) => [['ED', ['FA']], [`0${to}`, ['FA'], String(to)], ['EE', ['EE']], ['ED', ['FA']], [`0${7 - to}`, ['FA'], String(7 - to)]]),
@@ -201,6 +240,20 @@ export function waitingTrials(names, codes) {
     return { says: `strokes while INT 09h is masked, from key ${names[from]} on`, keys: keyFileOf(lines, 3 * REST), bytes, calm: true };
   });
 }
+
+const TYPED_FULL = 5, HELD_FULL = 2; // strokes and then keys that go down: one byte is in the controller, and sixteen wait
+
+// Five strokes of a key while INT 09h is masked, and then so many keys that go down.
+const fullLines = (names, more) => [
+  { ms: 5, words: 'mask' }, ...Array.from({ length: TYPED_FULL }, (_, n) => stroke(names[0], FIRST_MS + 50 * n, 20)).flat(), { ms: 460, words: 'unmask' },
+  ...names.slice(0, more).flatMap((name, n) => [press(name, 270 + 40 * n), release(name, 600 + 40 * n)]),
+];
+
+/** Sixteen bytes wait while INT 09h is masked, or two more come, which are lost. */
+export const fullTrials = (names, codes) => [HELD_FULL, HELD_FULL + 2].map(more => ({
+  says: `${TYPED_FULL} strokes of key ${names[0]} while INT 09h is masked, and then ${listed(names.slice(0, more))} go down`, calm: true, keys: keyFileOf(fullLines(names, more), 3 * REST),
+  bytes: [...Array.from({ length: TYPED_FULL }, () => [codes[0], F0, codes[0]]).flat(), ...codes.slice(0, HELD_FULL), ...codes.slice(0, more).flatMap(code => [F0, code])],
+}));
 
 /** The PC switches the keyboard off in the frame of the first key, and there are four more strokes before it is on again. */
 export const strokesInHold = (names, codes) => Array.from({ length: 12 }, (_, n) => {
@@ -242,6 +295,7 @@ export const eachKey = (names, codes) => names.map((name, n) => ({ says: `key ${
 /** Those of a list at these places. */
 export const chosen = (list, places) => places.map(at => list[at]);
 
+const FULL_KEYS = ['q', 'w', 'e', 'r'], ITEMS_UP_TO_FULL = 1 + 3 * TYPED_FULL + 2 * HELD_FULL; // AA; a press is two items, and a release is one
 const AFTER_TEST = 450; // ms after which the keyboard's self-test is over, in the model too
 const TYPED_APART = 40; // ms, so that edges are in different ticks of the model
 
@@ -263,6 +317,8 @@ export function likeTheModel(names) {
     likeModel('q goes down while a is held', [press('a', 0), press('q', 300), release('q', 1000), release('a', 1700)]),
     likeModel('a goes up while q is held', [press('a', 0), press('q', 300), release('a', 1000), release('q', 1700)]),
     likeModel('five strokes while INT 09h is masked', [{ ms: 0, words: 'mask' }, ...['q', 'w', 'e', 'r', 't'].flatMap((name, n) => stroke(name, 30 + 60 * n, 30)), { ms: 500, words: 'unmask' }]),
+    likeModel('sixteen bytes wait while INT 09h is masked', fullLines(FULL_KEYS, HELD_FULL)),
+    likeModel('eighteen bytes would wait while INT 09h is masked', fullLines(FULL_KEYS, HELD_FULL + 2), { reads: (log, unit) => withoutRepeats(log.slice(0, ITEMS_UP_TO_FULL), unit).map(it => it.item) }),
     likeModel('the PC sets the lights', writes([[0, 'ED'], [30, '05'], [80, 'EE'], [120, 'ED'], [150, '02']])),
     likeModel('the PC asks again and again', writes([[0, 'EE'], [40, 'FE'], [80, 'F4'], [120, 'FE'], [160, 'FE']])),
     likeModel('the PC asks for the byte of a key again', [press('a', 0), ...writes([[60, 'FE'], [100, 'EE'], [140, 'FE']]), release('a', 200), ...writes([[260, 'FE']])]),
