@@ -3,7 +3,7 @@
 import { Program } from '../kbd48.mjs';
 import { readTrace } from './vcd.js';
 
-/** In a worker: answers each call { words, files } with { exit, text }, and the edges and bytes of a trace. The first message
+/** In a worker: answers each call { number, words, files } with { number, exit, text }, and the edges and bytes of a trace. The first message
     is the module. */
 export function serveRuns(scope) {
   let program = null;
@@ -12,15 +12,15 @@ export function serveRuns(scope) {
       program = Program.load(data);
       return;
     }
-    const { exit, text } = (await program).run(data.words, data.files);
+    const { number, words, files } = data, { exit, text } = (await program).run(words, files);
     const traced = exit === 0 && text.startsWith('$timescale') ? readTrace(text) : null;
     if (!traced) {
-      scope.postMessage({ exit, text });
+      scope.postMessage({ number, exit, text });
       return;
     }
     // As two arrays, which cost the page nothing to take.
     const cycles = Float64Array.from(traced.edges, it => it.cycle), levels = Uint8Array.from(traced.edges, it => it.levels);
-    scope.postMessage({ exit, text, traced: { cycles, levels, bytes: traced.bytes, cycle: traced.cycle } }, [cycles.buffer, levels.buffer]);
+    scope.postMessage({ number, exit, text, traced: { cycles, levels, bytes: traced.bytes, cycle: traced.cycle } }, [cycles.buffer, levels.buffer]);
   };
 }
 

@@ -19,7 +19,7 @@ const answerOf = (exit, text, traced = null) => ({ exit, text, bytes: { length: 
 
 class Runs {
   /** `module` has the bytes of the program's module; `serves` is the name of the function that answers in a worker. */
-  begin(module, serves) { Object.assign(this, { module, serves, worker: null, stop: null, isBarred: false }); }
+  begin(module, serves) { Object.assign(this, { module, serves, worker: null, stop: null, isBarred: false, waiting: new Map(), last: 0 }); }
 
   // The worker, or null if the browser makes none for this page.
   #start() {
@@ -29,6 +29,7 @@ class Runs {
     try {
       this.worker = new Worker(url);
       this.worker.postMessage(this.module);
+      this.#listen(this.worker);
     } catch {
       this.worker = null;
     }
@@ -46,33 +47,42 @@ class Runs {
     return { exit, text, bytes, traced: exit === 0 && text.startsWith('$timescale') ? readTrace(text) : null };
   }
 
+  // Hands each answer to the call that it is of. `waiting` has the calls without an answer, by their numbers.
+  #listen(worker) {
+    worker.onmessage = ({ data: { number, exit, text, traced } }) => this.#end(number, () =>
+      answerOf(exit, text, traced && { ...traced, edges: Array.from(traced.cycles, (cycle, n) => ({ cycle, levels: traced.levels[n] })) }));
+    // A browser may let this page have no worker: then the runs are made at once.
+    worker.onerror = event => {
+      event.preventDefault();
+      this.isBarred = true;
+      this.worker = null;
+      this.#endAll(({ words, more }) => this.#now(words, more));
+    };
+  }
+
+  #end(number, answerTo) {
+    const call = this.waiting.get(number);
+    this.waiting.delete(number);
+    if (!this.waiting.size) {
+      byId('runs').hidden = true;
+      this.stop = null;
+    }
+    call.answered(answerTo(call));
+  }
+
+  #endAll(answerTo) { for (const number of [...this.waiting.keys()]) this.#end(number, answerTo); }
+
   #later(words, more, all) {
-    const needed = Object.fromEntries(words.slice(1).filter(word => Object.hasOwn(all, word)).map(word => [word, all[word]])), { worker } = this;
+    const needed = Object.fromEntries(words.slice(1).filter(word => Object.hasOwn(all, word)).map(word => [word, all[word]])), number = ++this.last;
     byId('runs').hidden = false;
+    this.stop = () => {
+      this.worker.terminate();
+      this.worker = null;
+      this.#endAll(() => undefined);
+    };
     return new Promise(answered => {
-      const end = () => {
-        byId('runs').hidden = true;
-        this.stop = null;
-      };
-      this.stop = () => {
-        worker.terminate();
-        this.worker = null;
-        end();
-        answered(undefined);
-      };
-      // A browser may let this page have no worker: then the run is made at once.
-      worker.onerror = event => {
-        event.preventDefault();
-        this.isBarred = true;
-        this.worker = null;
-        end();
-        answered(this.#now(words, more));
-      };
-      worker.onmessage = ({ data: { exit, text, traced } }) => {
-        end();
-        answered(answerOf(exit, text, traced && { ...traced, edges: Array.from(traced.cycles, (cycle, n) => ({ cycle, levels: traced.levels[n] })) }));
-      };
-      worker.postMessage({ words, files: needed });
+      this.waiting.set(number, { words, more, answered });
+      this.worker.postMessage({ number, words, files: needed });
     });
   }
 }

@@ -138,6 +138,8 @@ export async function longRuns(browser) {
   await browser.says('told', /The run was stopped/);
   await run(browser, 'run us84.toml long.keys');
   await browser.says('told', /^exit 0/);
+  await browser.evaluate('lab.workbench.run("run us84.toml long.keys", "expect us84.toml long.keys"); 0');
+  await browser.says('told', /^both print the same|^they differ/);
   await browser.evaluate('clearInterval(watching)');
 }
 
