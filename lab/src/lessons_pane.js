@@ -10,6 +10,7 @@ import { keeping } from './keeping.js';
 import { LESSONS, PATHS } from './lessons.js';
 import { sectionOf } from './manual.js';
 import { FAULTS, kbd48 } from './program.js';
+import { offerLink } from './share.js';
 import { Sheets } from './sheets.js';
 import { Waveform } from './waveform.js';
 
@@ -37,6 +38,7 @@ export class LessonsPane {
     byId('lesson-check').onclick = () => this.check();
     byId('lesson-reset').onclick = () => this.#beginAgain();
     byId('lesson-undo').onclick = () => undo();
+    byId('lesson-share').onclick = () => offerLink(byId('lesson-result'), { files: { [this.name]: files[this.name] }, open: this.name, lesson: this.number });
     byId('lesson-bench').onclick = () => bench(this.name, this.command);
     byId('lesson-processor').onclick = () => {
       const [, , layout, keys] = this.command.split(' ');

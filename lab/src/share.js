@@ -1,5 +1,6 @@
 // Links: files, the lesson, the file that is open and the command, packed into the part of the address after `#`, which no server
 // sees.
+import { make, tell } from './dom.js';
 import { isFileName } from './keeping.js';
 
 const KEY = '#lab=', OLD_KEY = '#files=';
@@ -30,6 +31,15 @@ export async function linkOf(shared) {
   const packed = await through(new TextEncoder().encode(JSON.stringify(shared)), new CompressionStream('gzip'));
   const base64 = btoa(Array.from(packed, byte => String.fromCharCode(byte)).join(''));
   return location.href.split('#')[0] + KEY + base64.replaceAll('+', '-').replaceAll('/', '_').replaceAll('=', '');
+}
+
+/** Lets the address of the page carry this, as `linkOf` has it, and says so with the link in `told`. */
+export async function offerLink(told, shared) {
+  const link = await linkOf(shared);
+  history.replaceState(null, '', link);
+  tell(told, `The address of this page now carries ${Object.keys(shared.files).join(', ')}. `);
+  told.append(make('a', { href: link, textContent: 'The link' }));
+  if (location.protocol === 'file:') told.append('. This page is a file of this computer, so the link works here alone. For others, put the page on a web server, or send them what Save all saves.');
 }
 
 // One step of reading a link; what fails is said as this.

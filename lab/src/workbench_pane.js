@@ -10,7 +10,7 @@ import { LongText } from './long_text.js';
 import { explained, kbd48 } from './program.js';
 import { EXIT } from './refusals.js';
 import { runs } from './runs.js';
-import { linkOf } from './share.js';
+import { offerLink } from './share.js';
 import { takeFiles } from './taking.js';
 import { Waveform } from './waveform.js';
 
@@ -239,11 +239,7 @@ export class WorkbenchPane {
   async #share() {
     const command = byId('words').value, words = command.split(/\s+/), sources = words.filter(word => word.endsWith('.hex')).map(sourceOf);
     const names = [...new Set([this.select.value, ...words, ...sources])].filter(name => name in files);
-    const link = await linkOf({ files: Object.fromEntries(names.map(name => [name, files[name]])), open: this.select.value, command });
-    history.replaceState(null, '', link);
-    tell(byId('shared'), `The address of this page now carries ${names.join(', ')}. `);
-    byId('shared').append(make('a', { href: link, textContent: 'The link' }));
-    if (location.protocol === 'file:') byId('shared').append('. This page is a file of this computer, so the link works here alone. For others, put the page on a web server, or send them what Save all saves.');
+    await offerLink(byId('shared'), { files: Object.fromEntries(names.map(name => [name, files[name]])), open: this.select.value, command });
   }
 
   /** Shows the file and the command of a link, and what the command prints. If a file is refused, the link's file stays open. */

@@ -84,6 +84,7 @@ try {
   const lessons = await part('lessons', () => lessonParts.lessons(browser, shot));
   await part('differences', () => lessonParts.differences(browser, shot));
   await part('paths', () => lessonParts.paths(browser, shot));
+  await part('link', () => lessonParts.link(browser));
   await part('sheets', () => lessonParts.sheets(browser, shot));
   await part('by keyboard', () => lessonParts.byKeyboard(browser));
   await part('contrast of the lessons', () => look.contrast(browser));

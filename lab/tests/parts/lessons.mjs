@@ -2,6 +2,7 @@
 // them by the keyboard alone.
 import assert from 'node:assert/strict';
 import { readFileSync } from 'node:fs';
+import { gunzipSync } from 'node:zlib';
 import { ALWAYS_WRONG, SOLUTIONS } from '../solutions.mjs';
 
 const checks = async (browser, text, form) => {
@@ -174,4 +175,16 @@ export async function sheets(browser, shot) {
   assert.equal(await browser.evaluate('document.querySelector(".sheet h2").textContent'), '4. What becomes of a byte', 'the browser\'s own menu prints the open lesson');
   await browser.evaluate('dispatchEvent(new Event("afterprint"))');
   await browser.put('path', 'a term');
+}
+
+/** The link of a lesson carries the lesson and its file. */
+export async function link(browser) {
+  await browser.only('lessons');
+  await browser.evaluate('document.querySelectorAll("#lesson-list button")[2].click()');
+  const text = '; handed on\n';
+  await browser.put('lesson-file', text);
+  await browser.click('#lesson-share');
+  await browser.says('lesson-result', /now carries lesson3\.asm/);
+  const packed = (await browser.evaluate('location.hash')).replace('#lab=', '');
+  assert.deepEqual(JSON.parse(gunzipSync(Buffer.from(packed, 'base64url'))), { files: { 'lesson3.asm': text }, open: 'lesson3.asm', lesson: 2 });
 }
