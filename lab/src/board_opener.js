@@ -4,8 +4,8 @@ import { fromKle, isKeymapText } from './boards/from_kle.js';
 import { Refused } from './boards/refused.js';
 import { TABLES } from './boards/tables.js';
 import { byId, make, tell } from './dom.js';
-import { files, put } from './files.js';
-import { bring } from './taking.js';
+import { files } from './files.js';
+import { bring, keepMade } from './taking.js';
 import { textOfFile } from './text_files.js';
 
 /** Where the keys of a layout that was made of a board are drawn, by the layout's file and the key's name. */
@@ -46,10 +46,14 @@ export function answerOfBoards(words, all = files) {
 /** The name of the layout that is made of a board. */
 export const layoutNameOf = words => `${words.findLast(word => files[word] !== undefined && !isKeymapText(files[word]))?.replace(/\.[^.]*$/, '') ?? 'board'}.toml`;
 
-/** Keeps a layout that was made of a board, with its shapes. */
-export function keepLayout(name, { text, shapes: drawn }) {
+/** Keeps a layout that was made of a board, with its shapes. Whether it was kept: the user may keep their own. */
+export async function keepLayout(name, { text, shapes: drawn }) {
+  const before = shapes.get(name);
   shapes.set(name, drawn);
-  put(name, text);
+  const isKept = await keepMade(name, text, 'This board');
+  if (!isKept && before) shapes.set(name, before);
+  else if (!isKept) shapes.delete(name);
+  return isKept;
 }
 
 export class BoardOpener {
@@ -90,7 +94,7 @@ export class BoardOpener {
     this.#try([]);
   }
 
-  #try(options) {
+  async #try(options) {
     const words = [...options, ...[this.board, this.keymap].filter(Boolean)], said = answerOfBoards(words);
     const ways = waysIn(said.told).filter(({ words: more }) => !more || !options.join(' ').includes(more.join(' ')))
       .map(({ words: more, label, number }) => (more ? this.#button(label, () => this.#try([...options, ...more]))
@@ -101,7 +105,7 @@ export class BoardOpener {
       return;
     }
     const name = layoutNameOf(words);
-    keepLayout(name, said);
+    if (!await keepLayout(name, said)) return;
     const forPico = this.#button(BOARD_BUTTONS.pico, () => downloadFor('pico', name, byId('download-told')));
     this.#say(`${name} is made of ${[this.board, this.keymap].filter(Boolean).join(' and ')}.`, true, [forPico, ...ways], said.told);
     this.chosen(name);

@@ -2,7 +2,7 @@
 // made without a question.
 import { ask } from './asking.js';
 import { tell } from './dom.js';
-import { edited, files, replace } from './files.js';
+import { edited, files, put, replace } from './files.js';
 import { isFileName, readWork } from './keeping.js';
 import { textOfFile } from './text_files.js';
 
@@ -17,6 +17,26 @@ export async function bring(entries, from) {
   const taken = all.filter(([name]) => isYes || !mine.includes(name));
   for (const [name, text] of taken) replace(name, text, `${from} brought ${name}`);
   return taken.map(([name]) => name);
+}
+
+// The texts that the page itself made of other files, by their names.
+const made = new Map();
+const isMade = name => made.get(name) === files[name];
+
+/** Keeps a text that the page made of other files; `from` says what it was. What the user has made in its place stays if they say
+    so. Whether it was kept. */
+export async function keepMade(name, text, from) {
+  if (isMade(name)) put(name, text);
+  else if (!(await bring({ [name]: text }, from)).includes(name)) return false;
+  made.set(name, text);
+  return true;
+}
+
+/** Puts a text that the page made of another file, without a question: what the user has made in its place can be brought back. */
+export function putMade(name, text, source) {
+  if (isMade(name) || !edited.has(name)) put(name, text);
+  else replace(name, text, `${name} was made of ${source}`);
+  made.set(name, text);
 }
 
 /** Takes files of the user's system, also files that have many; what can't be taken is said in `told`. The names of all. */

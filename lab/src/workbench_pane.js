@@ -11,7 +11,7 @@ import { explained, kbd48 } from './program.js';
 import { EXIT } from './refusals.js';
 import { runs } from './runs.js';
 import { offerLink } from './share.js';
-import { takeFiles } from './taking.js';
+import { keepMade, putMade, takeFiles } from './taking.js';
 import { Waveform } from './waveform.js';
 
 // What is offered for a file by its ending; NAME is the file, STEM its name without the ending.
@@ -62,11 +62,9 @@ export class WorkbenchPane {
     byId('share').onclick = () => this.#share();
     byId('do').onclick = () => this.run(byId('words').value);
     byId('words').addEventListener('keydown', event => { if (event.key === 'Enter') this.run(byId('words').value); });
-    byId('keep').onclick = () => {
+    byId('keep').onclick = async () => {
       const { name, text, said } = this.made;
-      if (said) keepLayout(name, said);
-      else put(name, text);
-      this.open(name);
+      if (await (said ? keepLayout(name, said) : keepMade(name, text, 'This answer'))) this.open(name);
     };
     byId('download').onclick = () => save(this.made.name, this.made.said?.text ?? this.made.text);
     this.wave = new Waveform(byId('trace'), () => this.traced ?? { edges: [], bytes: [], cycle: 0 });
@@ -158,7 +156,7 @@ export class WorkbenchPane {
         this.#tell(['asm', source], said, null, 0);
         return true;
       }
-      if (files[image] !== said.text) put(image, said.text);
+      if (files[image] !== said.text) putMade(image, said.text, source);
     }
     return false;
   }

@@ -36,6 +36,7 @@ export async function sources(browser) {
   await browser.click('#keep');
   await run(browser, 'step own1.hex 3');
   await browser.says('answer', /pc 002 a 04 /);
+  await keepAsks(browser);
   await browser.evaluate('lab.workbench.open("own1.asm")');
   await browser.put('text', 'MOV A,#9\nloop: DEC A\nJMP loop\n');
   await browser.click('#do');
@@ -109,6 +110,22 @@ export async function brokenFiles(browser, folder) {
   await browser.choose('#open-board', [file('board.toml', 'format = 1\n')]);
   await browser.says('layout-fault', /board\.toml wasn't opened: the layout: /);
   await browser.put('layout', 'us84.toml');
+}
+
+// What the user has made of an image isn't lost by Keep without a question.
+async function keepAsks(browser) {
+  const image = () => browser.evaluate('lab.files["own1.hex"]'), made = await image(), mine = 'mine\n';
+  await browser.evaluate('lab.workbench.open("own1.hex")');
+  await browser.put('text', mine);
+  await run(browser, 'asm own1.asm');
+  for (const [answer, kept] of [['no', mine], ['yes', made]]) {
+    await browser.click('#keep');
+    await browser.until('document.getElementById("ask").open');
+    await browser.click(`#ask-${answer}`);
+    await browser.until('!document.getElementById("ask").open');
+    await browser.until(`lab.files["own1.hex"] === ${JSON.stringify(kept)}`);
+  }
+  await run(browser, 'step own1.hex 3');
 }
 
 /** A long run is made beside the page: the keyboard goes on, the run can be stopped, and of a long text the lines are put into
