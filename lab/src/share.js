@@ -26,8 +26,8 @@ export const unpacked = bytes => through(bytes, new DecompressionStream('gzip'))
 
 export const bytesOf = base64 => Uint8Array.from(atob(base64), letter => letter.charCodeAt(0));
 
-/** The address of this page with { files, open, command, lesson }. */
-export async function linkOf(shared) {
+// The address of this page with { files, open, command, lesson }.
+async function linkOf(shared) {
   const packed = await through(new TextEncoder().encode(JSON.stringify(shared)), new CompressionStream('gzip'));
   const base64 = btoa(Array.from(packed, byte => String.fromCharCode(byte)).join(''));
   return location.href.split('#')[0] + KEY + base64.replaceAll('+', '-').replaceAll('/', '_').replaceAll('=', '');
