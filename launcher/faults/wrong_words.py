@@ -66,8 +66,10 @@ def forms():
 
 
 def shown(words):
-    """Words as a shell reads them, with nothing in them that would move the cursor."""
-    return " ".join(shlex.quote("".join(it if it.isprintable() else "?" for it in word)) for word in words)
+    """Words as a shell reads them, with nothing in them that would move the cursor; the launcher's copy of the standard input is - again."""
+    stdin = os.environ.get("KBD48_STDIN")
+    plain = ("-" if stdin and word == stdin else word for word in words)
+    return " ".join(shlex.quote("".join(it if it.isprintable() else "?" for it in word)) for word in plain)
 
 
 def explained(words):
@@ -142,7 +144,7 @@ def missing(form, words, at, operand):
         found = kinds.of_file(name) if os.path.isfile(name) else None
         if found and kind in FILES and found["kind"] != FILES[kind] and found["kind"] in [FILES.get(it) for it in form.operands]:
             rest = [SAMPLES[it] if FILES.get(it) != found["kind"] else name for it in form.operands]
-            return Wrong(place, f"{name} is {found['is']}, and {WHAT[kind]} comes in its place", [form.command, *rest])
+            return Wrong(place, f"{shown([name])} is {found['is']}, and {WHAT[kind]} comes in its place", [form.command, *rest])
     why = {"COUNT": f"{COUNTS.get(form.command, (0, 0, 'a number'))[2]} is missing"}.get(operand, f"{operand} is missing: {WHAT[operand]}")
     return Wrong(at, why, [form.command, *given, *(SAMPLES[it] for it in form.operands[at - 1 :])])
 
