@@ -35,12 +35,14 @@ function iconOf(tag) {
   return { text: named.slice(3), plain: shownByIcon(named.slice(3), classes.some(it => TURNED.test(it))), isIcon: true };
 }
 
+const STROKE = /(?<=\p{L}{2})\s+\/\s+(?=\p{L}{2})/gu; // between two words
+
 /** The pieces of a legend as it is seen: each as messages have it, and as it is read. */
 export function legendPieces(legend) {
   const parts = legend.split(/(<(?:i|img|svg)\b[^<>]*>)/i);
   return parts.flatMap((part, at) => {
     if (at % 2) return [iconOf(part)];
-    return piecesOf(unescaped(part.replace(/<\/?[A-Za-z][^<>]*>/g, ' '))).map(text => ({ text, plain: text, isIcon: false }));
+    return piecesOf(unescaped(part.replace(/<\/?[A-Za-z][^<>]*>/g, ' ')).replace(STROKE, ' ')).map(text => ({ text, plain: text, isIcon: false }));
   });
 }
 
