@@ -12,6 +12,7 @@ const KEYPAD = TABLES.words.keypad;
 const AT_ONCE = 6; // keys that a refusal names
 const NUM_OFF = 'means this while Num Lock is off', STAR_LEGEND = 'types * without Shift, and prints the screen with it';
 const WIDE_KEY = 1.5, SHIFT_KEYS = ['lshift', 'rshift'];
+const isSideways = word => ['kp4', 'kp6'].includes(word.key) || word.plain === '⟵';
 
 // Why the legends of a key can't be read, and which key they may mean.
 class Unclear extends Error {
@@ -67,11 +68,20 @@ class Legends {
     this.places = new KeyPlaces(keys, this.said);
     this.keypad = keypadOf(keys, this.said, this.places);
     this.country = countryOf(this.said, this.keypad);
-    const named = new Set([...said.values(), ...this.said.flatMap(say => namesOf(say.words).names)]);
+    const named = this.#named();
     this.hasBackspace = named.has('backspace');
     this.hasTab = named.has('tab');
+    this.hasEnter = named.has('enter');
     this.hasPad = this.said.some(say => hasDigit(say) && say.words.length);
     this.bottom = Math.max(...keys.map(key => key.y));
+  }
+
+  // The names that are taken by words: those of `--key`, and those of each key that it doesn't name, that isn't left out, and whose
+  // words are of one key.
+  #named() {
+    const read = [...this.keys.keys()].filter(at => !this.byWords.has(this.keys[at].number) && !isLeftOut(this.keys[at], this.without));
+    const names = read.map(at => namesOf(this.said[at].words).names).filter(its => its.length === 1);
+    return new Set([...this.byWords.values(), ...names.flat()]);
   }
 
   /** What each key is. Keys that can't be read are refused together, but for those that may be left out. */
@@ -144,13 +154,14 @@ class Legends {
 
   #ofWords(at) {
     const key = this.keys[at], said = this.said[at], { words, names } = namesOf(said.words), isWide = key.width >= WIDE_KEY;
-    if (names.length > 1 && names.every(name => ['kp4', 'kp6'].includes(name)) && !this.hasTab && this.places.nameByRow(at) === 'tab') {
+    if (names.length > 1 && words.every(isSideways) && !this.hasTab && this.places.nameByRow(at) === 'tab') {
       return this.#takenAs(at, 'Tab');
     }
     if (names.length > 1) throw new Unclear(`its legends ${shownLegends(key)} are of two keys`, names.find(name => name && name !== 'shift'));
     if (isWide && words.length === 1 && words[0].plain === '⇑' && SHIFT_KEYS.includes(this.places.nameByRow(at))) return this.#takenAs(at, 'Shift');
     const name = names[0] !== 'shift' ? names[0] : this.taken.has('lshift') ? 'rshift' : 'lshift', sign = signOf(said);
     if (isWide && name === 'kpdot' && !this.hasBackspace) return wideBackspace;
+    if (sign && this.#isEnterByPlace(at)) return { name: 'enter', note: 'is taken as Enter, since the key ends a row of letters' };
     if (sign && name === 'kp4' && !this.hasBackspace && !this.keypad.has(at) && this.places.endsDigits(at)) {
       return isWide ? wideBackspace : { name: 'backspace', note: 'is taken as Backspace, since the key ends the row of digits' };
     }
@@ -158,6 +169,14 @@ class Legends {
     if (words[0].isMove) return { name, note: NUM_OFF };
     if (name === 'prtsc') return { name, note: STAR_LEGEND };
     return { name, note: name === 'caps' && words[0].text.toLowerCase().includes('shift') ? 'is taken as Caps Lock' : '' };
+  }
+
+  // Whether an arrow to the left ends a row of letters, while no key says Enter and another key is Backspace, by its word or its place.
+  #isEnterByPlace(at) {
+    const showsLeft = it => signOf(this.said[it]) && this.said[it].words[0].key === 'kp4' && !this.keypad.has(it);
+    if (!showsLeft(at) || this.hasEnter || this.places.nameByRow(at, this.taken) !== 'enter') return false;
+    const isOther = it => it !== at && showsLeft(it) && !isLeftOut(this.keys[it], this.without);
+    return this.hasBackspace || [...this.keys.keys()].some(it => isOther(it) && this.places.endsDigits(it));
   }
 
   // A key that is what it is by the keys beside it.
@@ -188,7 +207,7 @@ class Legends {
   }
 }
 
-const wideBackspace = { name: 'backspace', note: 'is taken as Backspace, since the key is wide and no other is' };
+const wideBackspace = { name: 'backspace', note: 'is taken as Backspace, since the key is wide and no other key says so' };
 
 /** What each key is, the country whose keys they are, and what is told of the board's legends as a whole. */
 export function readLegends(keys, choices) {
