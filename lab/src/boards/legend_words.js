@@ -67,10 +67,13 @@ export function namesOf(all) {
 }
 
 const SHORTEST = 4; // letters of a word whose likely meaning can be said
+const sided = key => (key === 'shift' ? 'lshift' : key ?? null);
 
-/** The key that an unknown word is likely to mean, by a word that is like it; or null. */
+/** The key that a word names that is known by itself; or null. */
+export const knownKey = word => sided(VOCABULARY.get(plainForm(word))?.key || null);
+
+/** The key of a known word that an unknown one is like; or null. */
 export function likelyKey(word) {
   const plain = plainForm(word), words = [...VOCABULARY.keys()].filter(it => it.length >= SHORTEST && VOCABULARY.get(it).key);
-  const key = VOCABULARY.get(plain)?.key || (plain.length >= SHORTEST ? VOCABULARY.get(nearest(plain, words))?.key : null);
-  return key === 'shift' ? 'lshift' : key ?? null;
+  return sided(plain.length >= SHORTEST ? VOCABULARY.get(nearest(plain, words))?.key : null);
 }

@@ -3,7 +3,7 @@ import { COUNTRIES, countryOf } from './countries.js';
 import { KeyPlaces } from './legend_places.js';
 import { withoutFront } from './front_legends.js';
 import { legendPieces, shownLegends } from './legend_text.js';
-import { likelyKey, namesOf, saidBy } from './legend_words.js';
+import { knownKey, likelyKey, namesOf, saidBy } from './legend_words.js';
 import { Refused, isLeftOut } from './refused.js';
 import { TABLES } from './tables.js';
 
@@ -14,11 +14,11 @@ const NUM_OFF = 'means this while Num Lock is off', STAR_LEGEND = 'types * witho
 const WIDE_KEY = 1.5, SHIFT_KEYS = ['lshift', 'rshift'];
 const isSideways = word => ['kp4', 'kp6'].includes(word.key) || word.plain === '⟵';
 
-// Why the legends of a key can't be read, and which key they may mean.
+// Why the legends of a key can't be read, which key they may mean, and which one they are merely like.
 class Unclear extends Error {
-  constructor(words, guess = null) {
+  constructor(words, guess = null, like = null) {
     super(words);
-    this.guess = guess;
+    Object.assign(this, { guess, like });
   }
 }
 
@@ -113,9 +113,13 @@ class Legends {
       + '--without unknown every such key; a keymap can say what they are';
   }
 
-  // The options that say what keys send: by what their legends may mean, or by their places, as far as no other key has the name.
+  // The options that say what keys send: by what their legends may mean, by their places, or by words that they are like, as far as
+  // no other key has the name.
   #namings(unclear) {
-    const guesses = unclear.map(([at, { guess }]) => [this.keys[at].number, [guess, this.places.nameByRow(at, this.taken)].find(name => name && !this.taken.has(name))]);
+    const guesses = unclear.map(([at, { guess, like }]) => {
+      const names = [guess, this.places.nameByRow(at, this.taken), like];
+      return [this.keys[at].number, names.find(name => name && !this.taken.has(name))];
+    });
     const guessed = guesses.filter(([, name]) => name).slice(0, AT_ONCE), isFirst = guessed[0]?.[0] === guesses[0][0];
     const [number, name] = isFirst ? guessed[0] : [guesses[0][0], 'NAME'];
     const others = guessed.slice(isFirst ? 1 : 0).map(([other, its]) => `--key ${other}=${its}`);
@@ -124,7 +128,7 @@ class Legends {
 
   #reading(at) {
     const key = this.keys[at], said = this.said[at], isSaid = said.words.length + said.characters.length > 0;
-    if (said.unknown.length) throw new Unclear(`its legend ${shownLegends(key)} isn't known`, likelyKey(said.unknown[0]));
+    if (said.unknown.length) throw new Unclear(`its legend ${shownLegends(key)} isn't known`, knownKey(said.unknown[0]), likelyKey(said.unknown[0]));
     if (said.icons.length && !isSaid) throw new Unclear(`its icon ${said.icons.join(' ')} isn't known`);
     if (said.icons.length) this.passedOver.push(`${said.icons.join(' ')} (${key.where})`);
     if (said.words.length) return said.characters.length ? this.#ofBoth(at) : this.#ofWords(at);
