@@ -31,15 +31,17 @@ function iconOf(tag) {
   const [, double, single, bare] = /\bclass\s*=\s*(?:"([^"]*)"|'([^']*)'|([^\s"'>]+))/i.exec(tag) ?? [];
   const classes = wordsIn((double ?? single ?? bare ?? '').replace(/\s+/g, ' '));
   const named = classes.find(it => /^(fa|kb)-/i.test(it) && !MODIFIERS.includes(it.slice(3)) && !TURNED.test(it));
-  if (!named) return { text: /^<i\b/i.test(tag) ? classes.join(' ') || 'i' : 'picture', plain: null, isIcon: true };
+  if (!named) return { text: /^<(i|span)\b/i.test(tag) ? classes.join(' ') || 'i' : 'picture', plain: null, isIcon: true };
   return { text: named.slice(3), plain: shownByIcon(named.slice(3), classes.some(it => TURNED.test(it))), isIcon: true };
 }
 
+// A span of a class without a text is an icon; with one it is a style.
+const PICTURE = /(<(?:i|img|svg)\b[^<>]*>|<span\b[^<>]*\bclass\b[^<>]*>(?=\s*<\/span\b))/i;
 const STROKE = /(?<=\p{L}{2})\s+\/\s+(?=\p{L}{2})/gu; // between two words
 
 /** The pieces of a legend as it is seen: each as messages have it, and as it is read. */
 export function legendPieces(legend) {
-  const parts = legend.split(/(<(?:i|img|svg)\b[^<>]*>)/i);
+  const parts = legend.split(PICTURE);
   return parts.flatMap((part, at) => {
     if (at % 2) return [iconOf(part)];
     return piecesOf(unescaped(part.replace(/<\/?[A-Za-z][^<>]*>/g, ' ')).replace(STROKE, ' ')).map(text => ({ text, plain: text, isIcon: false }));
