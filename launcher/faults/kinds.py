@@ -9,6 +9,8 @@ from pathlib import Path
 TABLE = Path(__file__).resolve().parent.parent.parent / "examples/kle/kinds.json"
 # So many bytes of a file are looked at.
 LOOKED_AT = 65536
+# So many bytes at least and at most show that a text is UTF-16.
+WIDE_FROM, WIDE_TO = 4, 64
 
 
 @lru_cache(maxsize=1)
@@ -16,7 +18,14 @@ def table():
     try:
         return json.loads(TABLE.read_text(encoding="utf-8"))
     except (OSError, ValueError):
-        return {"bytes": [], "texts": []}
+        return {"bytes": [], "texts": [], "wide": None}
+
+
+def is_wide(data):
+    """Whether a text is UTF-16 without a mark: every other one of its first bytes is zero, and the others aren't."""
+    begin = data[: min(WIDE_TO, len(data) // 2 * 2)]
+    halves = begin[::2], begin[1::2]
+    return len(begin) >= WIDE_FROM and any(all(one) and not any(other) for one, other in (halves, halves[::-1]))
 
 
 def of_bytes(data):
@@ -25,6 +34,8 @@ def of_bytes(data):
     for entry in table()["bytes"]:
         if begin.startswith(entry["begins"]):
             return {"kind": "bytes", **entry}
+    if table()["wide"] and is_wide(data):
+        return {"kind": "bytes", **table()["wide"]}
     try:
         text = data[:LOOKED_AT].decode("utf-8-sig", errors="strict" if len(data) <= LOOKED_AT else "ignore")
     except UnicodeDecodeError:
