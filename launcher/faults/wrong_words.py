@@ -22,6 +22,10 @@ OTHERS = {
 }
 COUNTS = {"step": (0, 1_000_000, "a number of steps"), "sample": (1, 10_000, "a number of strokes")}
 MOST_BYTES = 4096
+# Options of other programs that name the file for the text.
+OUTPUTS = ("-o", "--output", "--out")
+# A line that would be right may take as many corrections.
+MOST_CORRECTIONS = 4
 FILES = {"IMAGE": "hex", "SOURCE": "asm", "LAYOUT": "layout", "KEYS": "keys", "SCRIPT": "script", "CERT": "cert", "TEXT": "text"}
 WHAT = {
     "IMAGE": "a HEX image", "SOURCE": "an assembler source", "LAYOUT": "a layout", "KEYS": "a key file", "SCRIPT": "a script",
@@ -86,9 +90,20 @@ def explained(words):
     given, before = shown(["kbd48", *words]), shown(["kbd48", *words[: wrong.at]])
     width = len(shown(words[wrong.at : wrong.at + 1])) or 1
     lines = [given, " " * (len(before) + 1) + "^" * width, wrong.why]
-    if wrong.right is not None:
-        lines.append(f"did you mean {shown(['kbd48', *wrong.right])}")
+    right = corrected(form, wrong.right, every)
+    if right is not None:
+        lines.append(f"did you mean {shown(['kbd48', *right])}")
     return [*lines, f"the form is {form.line}; kbd48 {form.command} --help says more"]
+
+
+def corrected(form, right, every):
+    """A line of words in which nothing is wrong, or None if there is none to suggest."""
+    for _ in range(MOST_CORRECTIONS):
+        wrong = right and first_wrong(form, right, every)
+        if not wrong:
+            return right
+        right = wrong.right
+    return None
 
 
 def of_no_command(words, every):
@@ -139,14 +154,23 @@ def wrong_operand(form, words, at, operand, every):
 def missing(form, words, at, operand):
     """A word that isn't there. A file that is there may be another one's."""
     given = words[1:at]
-    wanted = form.operands[:at]
-    for place, (name, kind) in enumerate(zip(given, wanted), 1):
-        found = kinds.of_file(name) if os.path.isfile(name) else None
+    kinds_given = {name: (kinds.of_file(name) or {}) for name in given if os.path.isfile(name)}
+    for place, (name, kind) in enumerate(zip(given, form.operands), 1):
+        found = kinds_given.get(name)
         if found and kind in FILES and found["kind"] != FILES[kind] and found["kind"] in [FILES.get(it) for it in form.operands]:
-            rest = [SAMPLES[it] if FILES.get(it) != found["kind"] else name for it in form.operands]
+            by_kind = {it["kind"]: other for other, it in kinds_given.items() if it}
+            rest = [by_kind.get(FILES.get(it)) or sample_beside(it, given) for it in form.operands]
             return Wrong(place, f"{shown([name])} is {found['is']}, and {WHAT[kind]} comes in its place", [form.command, *rest])
+        if found == {} and kind == "LAYOUT" and operand == "TEXT":
+            return Wrong(place, f"{shown([name])} isn't a layout, which comes before the text", [form.command, SAMPLES["LAYOUT"], name])
     why = {"COUNT": f"{COUNTS.get(form.command, (0, 0, 'a number'))[2]} is missing"}.get(operand, f"{operand} is missing: {WHAT[operand]}")
-    return Wrong(at, why, [form.command, *given, *(SAMPLES[it] for it in form.operands[at - 1 :])])
+    return Wrong(at, why, [form.command, *given, *(sample_beside(it, given) for it in form.operands[at - 1 :])])
+
+
+def sample_beside(operand, given):
+    """A file for an operand: of an image the one beside a file that is given, or else the sample."""
+    images = (os.path.splitext(name)[0] + ".hex" for name in given) if operand == "IMAGE" else ()
+    return next((it for it in images if os.path.isfile(it)), SAMPLES[operand])
 
 
 def misplaced_option(form, words, at, operand, every):
@@ -241,18 +265,36 @@ def wrong_option(form, words, at, every):
     if not word.startswith("-") or word == "-":
         return None
     name, equals, value = word.partition("=")
+    if name in OUTPUTS:
+        return output_named(form, words, at, value, every)
     if equals and name in form.options:
         given = [name, *([value] if form.options[name] else [])]
         return Wrong(at, "a blank is between an option and its value" if form.options[name] else f"{name} has no value", [*words[:at], *given, *words[at + 1 :]])
+    without = words[:at] + words[at + 1 + has_value(form, words, at) :]
     others = [it.command for it in every.values() if name in it.options]
     if others:
         mine = f"; the options of {form.command} are {' '.join(form.options)}" if form.options else f"; {form.command} has no options"
-        return Wrong(at, f"{name} is an option of {' and '.join(others)}{mine}", words[:at] + words[at + 1 :])
+        return Wrong(at, f"{name} is an option of {' and '.join(others)}{mine}", without)
     meant = nearest(name.lstrip("-"), [it.lstrip("-") for it in form.options])
     if meant:
         return Wrong(at, f"there is no option {name}", [*words[:at], f"--{meant}", *words[at + 1 :]])
     what = f"its options are {' '.join(form.options)}" if form.options else f"{form.command} has no options"
-    return Wrong(at, f"there is no option {shown([name])}: {what}", words[:at] + words[at + 1 :])
+    return Wrong(at, f"there is no option {shown([name])}: {what}", without)
+
+
+def has_value(form, words, at):
+    """Whether the word after an unknown option is its value: no file, and one more than the command takes."""
+    plain = [it for it in words[1:] if not it.startswith("-")]
+    after = words[at + 1] if at + 1 < len(words) else "-"
+    return not after.startswith("-") and not os.path.isfile(after) and len(plain) > len(form.operands)
+
+
+def output_named(form, words, at, value, every):
+    """An option that would name the file for the text."""
+    named = value or (words[at + 1] if at + 1 < len(words) else "FILE")
+    left = words[:at] + words[at + (1 if value else 2) :]
+    right = shown(["kbd48", *(corrected(form, left, every) or left)])
+    return Wrong(at, f"{form.command} names no file for its text, which goes to the standard output: {right} > {shlex.quote(named)}")
 
 
 def extra(form, words, at):
