@@ -37,14 +37,14 @@ function iconOf(tag) {
 
 // A span of a class without a text is an icon; with one it is a style.
 const PICTURE = /(<(?:i|img|svg)\b[^<>]*>|<span\b[^<>]*\bclass\b[^<>]*>(?=\s*<\/span\b))/i;
-const STROKE = /(?<=\p{L}{2})\s+\/\s+(?=\p{L}{2})/gu; // between two words
+const WORD_STROKE = /(?<=\p{L}{2})\s+\/\s+(?=\p{L}{2})/gu; // between two words
 
 /** The pieces of a legend as it is seen: each as messages have it, and as it is read. */
 export function legendPieces(legend) {
   const parts = legend.split(PICTURE);
   return parts.flatMap((part, at) => {
     if (at % 2) return [iconOf(part)];
-    return piecesOf(unescaped(part.replace(/<\/?[A-Za-z][^<>]*>/g, ' ')).replace(STROKE, ' ')).map(text => ({ text, plain: text, isIcon: false }));
+    return piecesOf(unescaped(part.replace(/<\/?[A-Za-z][^<>]*>/g, ' ')).replace(WORD_STROKE, ' ')).map(text => ({ text, plain: text, isIcon: false }));
   });
 }
 
