@@ -3,7 +3,6 @@ use Rattle.std.specs.Prelude.{◌≡◌, ◌+◌, ℕ, suc, List, Option, None, 
 use Rattle.board_terms.specs.declared.event.Edge.{Edge}
 use Rattle.board_terms.specs.declared.event.HostEvent.{HostEvent}
 use Rattle.mcs48_core.specs.Cpu.{Cpu}
-use Rattle.mcs48_core.specs.Reset.{reset_in}
 use Rattle.joint_run.specs.Run.{World, after_cycles, joint_step, run_at, seen}
 use Rattle.joint_run.specs.Joint.{Beside, joint_board, joint_cycle, joint_start_of, powered}
 use Rattle.joint_run.specs.Filled.{filled}
@@ -54,6 +53,6 @@ RunLaw =
     → (n : ℕ) (w : World Beside) → run_at (joint_board edges events) program (joint_start_of held) n ≡ Some w
     → chips n ≡ chip_of program w.cpu
 
--- a chip that was just switched on was reset in a part that held this byte all over
+-- a chip that was just switched on is such a part that held this byte all over
 abbrev pub FillLaw : Type 0
-FillLaw = (fill : ℕ) (program : List ℕ) → powered_on fill program ≡ chip_of program (reset_in (filled fill))
+FillLaw = (fill : ℕ) (program : List ℕ) → powered_on fill program ≡ chip_of program (powered (filled fill))

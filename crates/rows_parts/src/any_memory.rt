@@ -141,12 +141,12 @@ fn waits_alike(mcu: &Mcu, cleared: &Mcu) -> bool {
     !mcu.mb && !mcu.ext_on && mcu.tim_on && mcu.run == cleared.run
 }
 
-/// The free places up to the end are NOPs. Of 200 such processors each reaches its first tick start when one after reset does,
-/// and in the same state.
+/// The free places from the end of the debounce to the end of the program are NOPs. Of 200 such processors each reaches its
+/// first tick start when one after reset does, and in the same state.
 #[test]
 fn any_state_at_000_comes_to_one_first_tick(rt: HostRuntime) -> Result<(), Fail> {
     let image = kernel();
-    assert!(rt; image.bytes[0x500..].iter().all(|byte| *byte == 0));
+    assert!(rt; image.bytes[0x523..].iter().all(|byte| *byte == 0));
     let mut cleared = reset();
     let start = to_first_start(&mut cleared, &image)?;
     for seed in 1..201 {
