@@ -168,10 +168,10 @@ int32_t kbd48_key(kbd48 *handle, uint8_t place, bool down);
 int32_t kbd48_run(kbd48 *handle, uint64_t cycles, bool watched, uint64_t *passed, kbd48_spot *spot);
 
 /* A queue of edges of keys. It hands each edge to the keyboard as soon as the keyboard can see it and has had the time
-   to send the edge before: 2,240 cycles after a press, 4,480 after a release. So the keyboard sees the edges in the order
-   in which they were pushed, and a stroke of any length. The queue is a struct of yours: it begins as
-   KBD48_NO_KEYS, is written only by these functions, takes no memory and has no pointer. Copy it by assignment; keep
-   one for each keyboard. */
+   to send the edge before: 2,240 cycles after a press, 4,480 after a release. If the layout has a debounce, it is 4,480
+   after each edge. So the keyboard sees the edges in the order in which they were pushed, and a stroke of any length. The
+   queue is a struct of yours: it begins as KBD48_NO_KEYS, is written only by these functions, takes no memory and has no
+   pointer. Copy it by assignment; keep one for each keyboard. */
 typedef struct {
     KBD48_ALIGNED uint64_t stamp; /* when it happened: the cycle minus 4,096 */
     uint8_t place;
@@ -204,7 +204,8 @@ int32_t kbd48_queued(kbd48_keys *queue, uint8_t *count);
 
 /* Hands over the edge of the queue that is due, and then runs as kbd48_run does, but at most up to the next edge that
    is due. KBD48_KEY_DUE says that fewer than `cycles` cycles have passed: call again with the rest. The edge is handed
-   over as by kbd48_key, so it waits while four edges of that call wait. */
+   over as by kbd48_key, so it waits while four edges of that call wait. The byte at 3F2 of the keyboard's program says
+   whether there is a debounce: a layout's image has 0 there if there is none. */
 int32_t kbd48_run_keys(kbd48 *handle, kbd48_keys *queue, uint64_t cycles, bool watched, uint64_t *passed,
                        kbd48_spot *spot);
 

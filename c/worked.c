@@ -297,6 +297,34 @@ static void keys_that_are_pushed_at_once_are_read_in_their_order(void) {
     CHECK(kbd48_queued(&keys, &count) == KBD48_DONE && count == 0 && kbd48_close(&k) == KBD48_DONE);
 }
 
+/* The queue gives a press 2,240 cycles, and with a debounce 4,480, since two looks must show it. */
+static void a_press_lasts_as_long_as_its_layout_needs(void) {
+    static const struct { const char *text; uint64_t press; } layouts[] = {
+        {"format = 1\n[[key]]\nkey = \"a\"\ncolumn = 11\nrow = 7\n", 2240},
+        {"format = 1\ndebounce = true\n[[key]]\nkey = \"a\"\ncolumn = 11\nrow = 7\n", 4480},
+    };
+    for (size_t i = 0; i < sizeof layouts / sizeof *layouts; i++) {
+        kbd48 k = KBD48_EMPTY;
+        kbd48_keys keys = KBD48_NO_KEYS;
+        kbd48_fault fault;
+        kbd48_spot spot;
+        uint64_t passed;
+        uint16_t word = 0;
+        CHECK(kbd48_open_layout((const uint8_t *)layouts[i].text, strlen(layouts[i].text), &k, &fault) == KBD48_DONE);
+        CHECK(kbd48_bios(&k, true) == KBD48_DONE && kbd48_run(&k, SECOND, false, &passed, &spot) == KBD48_DONE);
+        for (int stroke = 0; stroke < 2; stroke++)
+            for (int down = 1; down >= 0; down--) CHECK(kbd48_queue_key(&keys, 0, 95, down) == KBD48_DONE);
+        CHECK(kbd48_run_keys(&k, &keys, SECOND, false, &passed, &spot) == KBD48_KEY_DUE);
+        CHECK(passed == layouts[i].press || passed == layouts[i].press + 1);
+        CHECK(kbd48_run_keys(&k, &keys, SECOND, false, &passed, &spot) == KBD48_KEY_DUE);
+        CHECK(passed >= 4479 && passed <= 4481);
+        CHECK(kbd48_run_keys(&k, &keys, SECOND, false, &passed, &spot) == KBD48_KEY_DUE);
+        CHECK(kbd48_run_keys(&k, &keys, 20000, false, &passed, &spot) == KBD48_DONE);
+        for (int stroke = 0; stroke < 2; stroke++) CHECK(kbd48_take(&k, &word) == KBD48_DONE && word == 0x1e61);
+        CHECK(kbd48_take(&k, &word) == KBD48_NO_WORD && kbd48_close(&k) == KBD48_DONE);
+    }
+}
+
 static void a_key_has_its_place_by_its_name(void) {
     static const uint8_t text[] = "format = 1\n[[key]]\nkey = \"h\"\ncolumn = 1\nrow = 2\n", no_layout[] = "format = ";
     static const uint8_t g = 'g', h = 'h', capital_h = 'H';
@@ -390,7 +418,8 @@ int main(void) {
     a_handle_may_go_to_another_thread();
     a_bit_that_is_turned_round_makes_the_controller_ask_again();
     keys_that_are_pushed_at_once_are_read_in_their_order();
+    a_press_lasts_as_long_as_its_layout_needs();
     a_key_has_its_place_by_its_name();
     a_keyboard_is_loaded_as_it_was_saved_and_other_bytes_are_refused();
-    puts("worked: sixteen worked examples, call by call");
+    puts("worked: seventeen worked examples, call by call");
 }

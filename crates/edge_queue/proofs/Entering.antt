@@ -38,14 +38,14 @@ take_few (suc m) [] = omega arith
 take_few (suc m) (x ∷ xs) = let few = take_few m xs in omega (arith, few)
 
 -- the first is taken
-pub removes : (edges : List Pushed) (count : ℕ) (down : List Bool) (ready now time n : ℕ) (turned : List Pushed) (d : Pushed)
+pub removes : (debounce : Bool) (edges : List Pushed) (count : ℕ) (down : List Bool) (ready now time n : ℕ) (turned : List Pushed) (d : Pushed)
     → 0 < count → 0 < length edges → n ≡ length (take count edges) → turned ≡ drop 1 edges ++ take 1 edges
-    → time ≡ time_of (get_or edges 0 d).down
+    → time ≡ time_of debounce (get_or edges 0 d).down
     → queue_from turned (n - 1) down (now + time)
-    ≡ without_first now (take count edges) (queue_from edges count down ready)
-removes [] count down ready now time n turned d some long same is takes = absurd (omega (arith, long))
-removes (x ∷ xs) zero down ready now time n turned d some long same is takes = absurd (omega (arith, some))
-removes (x ∷ xs) (suc m) down ready now time n turned d some long same is takes =
+    ≡ without_first debounce now (take count edges) (queue_from edges count down ready)
+removes debounce [] count down ready now time n turned d some long same is takes = absurd (omega (arith, long))
+removes debounce (x ∷ xs) zero down ready now time n turned d some long same is takes = absurd (omega (arith, some))
+removes debounce (x ∷ xs) (suc m) down ready now time n turned d some long same is takes =
     let less : n - 1 ≡ length (take m xs) = omega (arith, same) in
     let few : length (take m xs) ≤ length xs = take_few m xs in
     ap (λ w. record { waiting = w; down = down; ready = now + time })

@@ -26,25 +26,27 @@ empty_fits =
     record { room = omega (arith, none); long = refl }
 
 pub are_lawful : AreLawful
-are_lawful calls stop placed =
-    let spaced = handed_spaced calls empty in (
+are_lawful debounce calls stop placed =
+    let edges = handed debounce calls empty in
+    let spaced = handed_spaced debounce calls empty in (
       spaced,
       record {
-        in_matrix = handed_in calls empty placed tt;
-        edges_in_order = in_order 0 (handed calls empty) spaced;
+        in_matrix = handed_in debounce calls empty placed tt;
+        edges_in_order = in_order debounce 0 edges spaced;
         host_in_order = tt;
         written = All-nil _;
         flips = All-nil _;
-        alternate = λ p. handed_turns calls placed empty (λ n. false) empty_sound p;
-        dwell = λ p. dwells 0 (of_place p (handed calls empty)) (spaced_of p 0 (handed calls empty) spaced);
-        thin = thin 0 (handed calls empty) spaced;
+        alternate = λ p. handed_turns debounce calls placed empty (λ n. false) empty_sound p;
+        dwell = λ p. dwells debounce 0 (of_place p edges) (spaced_of debounce p 0 edges spaced);
+        thin = thin debounce 0 edges spaced;
       },
     )
 
 pub are_in_order : AreInCallersOrder
-are_in_order calls = kept calls empty
+are_in_order debounce calls = kept debounce calls empty
 
 pub releases_fit : ReleasesFit
-releases_fit calls placed stamp place l =
-    let fits = after_fits calls empty empty_fits in
-    (λ h. release_fits stamp place (after calls empty) fits h, all_up_then stamp place (after calls empty) l fits)
+releases_fit debounce calls placed stamp place l =
+    let fits = after_fits debounce calls empty empty_fits in
+    let left = after debounce calls empty in
+    (λ h. release_fits stamp place left fits h, all_up_then stamp place left l fits)

@@ -29,23 +29,6 @@ pushed_in e q l a =
       ]
     ]
 
-take_in : (now : ℕ) (cs : List Call) (q : Queue) (waiting : List Pushed) → InMatrix q.waiting → InMatrix waiting
-    → ((r : Queue) → InMatrix r.waiting → ArePlaces (handed cs r))
-    → ArePlaces (if_taken (first_taken now q.ready waiting) ++ handed cs (after_first now waiting q))
-take_in now cs q [] whole a rest = rest q whole
-take_in now cs q (e ∷ es) whole a rest =
-    let next : Queue = record { waiting = es; down = q.down; ready = now + time_of e.down } in
-    elim (nat_lt now (due_at q.ready e.stamp)) as (λ b. ArePlaces
-    (if_taken (if b then None else Some (edge_at now e.place e.down)) ++ handed cs (if b then q else next))) [
-      | true ↦ rest q whole
-      | false ↦ (a.0, rest next a.1)
-    ]
-
-pub handed_in : (calls : List Call) (q : Queue) → ArePlaced calls → InMatrix q.waiting → ArePlaces (handed calls q)
-handed_in [] q placed a = tt
-handed_in (Push e ∷ cs) q placed a = handed_in cs (pushed e q) placed.1 (pushed_in e q placed.0 a)
-handed_in (Take now ∷ cs) q placed a = take_in now cs q q.waiting a a (λ r b. handed_in cs r placed.1 b)
-
 -- what waits after a push
 waits_on : (e : Pushed) (q : Queue) → map edge_of (pushed e q).waiting ≡ map edge_of q.waiting ++ if_queued (answer_of e q) e
 waits_on e q =
@@ -59,30 +42,48 @@ waits_on e q =
           ]
     ]
 
-abbrev pub IsKept : List Call → Queue → Type 0
-IsKept cs q =
-    map key_of (handed cs q ++ map edge_of (after cs q).waiting) ≡ map key_of (map edge_of q.waiting ++ let_in cs q)
+module _ (debounce : Bool) where
+  take_in : (now : ℕ) (cs : List Call) (q : Queue) (waiting : List Pushed) → InMatrix q.waiting → InMatrix waiting
+      → ((r : Queue) → InMatrix r.waiting → ArePlaces (handed debounce cs r))
+      → ArePlaces (if_taken (first_taken now q.ready waiting) ++ handed debounce cs (after_first debounce now waiting q))
+  take_in now cs q [] whole a rest = rest q whole
+  take_in now cs q (e ∷ es) whole a rest =
+      let next : Queue = record { waiting = es; down = q.down; ready = now + time_of debounce e.down } in
+      elim (nat_lt now (due_at q.ready e.stamp)) as (λ b. ArePlaces
+      (if_taken (if b then None else Some (edge_at now e.place e.down)) ++ handed debounce cs (if b then q else next))) [
+        | true ↦ rest q whole
+        | false ↦ (a.0, rest next a.1)
+      ]
 
-kept_take : (now : ℕ) (cs : List Call) (waiting : List Pushed) (down : List Bool) (ready : ℕ) → ((r : Queue) → IsKept cs r)
-    → map key_of ((if_taken (first_taken now ready waiting)
-    ++ handed cs (after_first now waiting (record { waiting = waiting; down = down; ready = ready })))
-    ++ map edge_of (after cs (after_first now waiting (record { waiting = waiting; down = down; ready = ready }))).waiting)
-    ≡ map key_of (map edge_of waiting ++ let_in cs (after_first now waiting (record { waiting = waiting; down = down; ready = ready })))
-kept_take now cs [] down ready rest = rest (record { waiting = []; down = down; ready = ready })
-kept_take now cs (e ∷ es) down ready rest =
-    let q : Queue = record { waiting = e ∷ es; down = down; ready = ready } in
-    let next : Queue = record { waiting = es; down = down; ready = now + time_of e.down } in
-    elim (nat_lt now (due_at ready e.stamp)) as (λ b. map key_of ((if_taken (if b then None else Some (edge_at now e.place e.down))
-    ++ handed cs (if b then q else next)) ++ map edge_of (after cs (if b then q else next)).waiting)
-    ≡ map key_of (map edge_of (e ∷ es) ++ let_in cs (if b then q else next))) [
-      | true ↦ rest q
-      | false ↦ ap (λ v. (e.place, e.down) ∷ v) (rest next)
-    ]
+  pub handed_in : (calls : List Call) (q : Queue) → ArePlaced calls → InMatrix q.waiting → ArePlaces (handed debounce calls q)
+  handed_in [] q placed a = tt
+  handed_in (Push e ∷ cs) q placed a = handed_in cs (pushed e q) placed.1 (pushed_in e q placed.0 a)
+  handed_in (Take now ∷ cs) q placed a = take_in now cs q q.waiting a a (λ r b. handed_in cs r placed.1 b)
 
-pub kept : (calls : List Call) (q : Queue) → IsKept calls q
-kept [] q = ap (map key_of) (sym (append-nil (map edge_of q.waiting)))
-kept (Push e ∷ cs) q =
-    kept cs (pushed e q)
-    ∙ ap (λ v. map key_of (v ++ let_in cs (pushed e q))) (waits_on e q)
-    ∙ ap (map key_of) (append_assoc (map edge_of q.waiting) (if_queued (answer_of e q) e) (let_in cs (pushed e q)))
-kept (Take now ∷ cs) q = kept_take now cs q.waiting q.down q.ready (λ r. kept cs r)
+  abbrev pub IsKept : List Call → Queue → Type 0
+  IsKept cs q =
+      map key_of (handed debounce cs q ++ map edge_of (after debounce cs q).waiting) ≡ map key_of (map edge_of q.waiting ++ let_in debounce cs q)
+
+  kept_take : (now : ℕ) (cs : List Call) (waiting : List Pushed) (down : List Bool) (ready : ℕ) → ((r : Queue) → IsKept cs r)
+      → map key_of ((if_taken (first_taken now ready waiting)
+      ++ handed debounce cs (after_first debounce now waiting (record { waiting = waiting; down = down; ready = ready })))
+      ++ map edge_of (after debounce cs (after_first debounce now waiting (record { waiting = waiting; down = down; ready = ready }))).waiting)
+      ≡ map key_of (map edge_of waiting ++ let_in debounce cs (after_first debounce now waiting (record { waiting = waiting; down = down; ready = ready })))
+  kept_take now cs [] down ready rest = rest (record { waiting = []; down = down; ready = ready })
+  kept_take now cs (e ∷ es) down ready rest =
+      let q : Queue = record { waiting = e ∷ es; down = down; ready = ready } in
+      let next : Queue = record { waiting = es; down = down; ready = now + time_of debounce e.down } in
+      elim (nat_lt now (due_at ready e.stamp)) as (λ b. map key_of ((if_taken (if b then None else Some (edge_at now e.place e.down))
+      ++ handed debounce cs (if b then q else next)) ++ map edge_of (after debounce cs (if b then q else next)).waiting)
+      ≡ map key_of (map edge_of (e ∷ es) ++ let_in debounce cs (if b then q else next))) [
+        | true ↦ rest q
+        | false ↦ ap (λ v. (e.place, e.down) ∷ v) (rest next)
+      ]
+
+  pub kept : (calls : List Call) (q : Queue) → IsKept calls q
+  kept [] q = ap (map key_of) (sym (append-nil (map edge_of q.waiting)))
+  kept (Push e ∷ cs) q =
+      kept cs (pushed e q)
+      ∙ ap (λ v. map key_of (v ++ let_in debounce cs (pushed e q))) (waits_on e q)
+      ∙ ap (map key_of) (append_assoc (map edge_of q.waiting) (if_queued (answer_of e q) e) (let_in debounce cs (pushed e q)))
+  kept (Take now ∷ cs) q = kept_take now cs q.waiting q.down q.ready (λ r. kept cs r)

@@ -77,23 +77,24 @@ pushed_fits e q f =
       ] refl
     ] refl
 
-take_fits : (now : ℕ) (waiting : List Pushed) (down : List Bool) (ready : ℕ)
-    → Fits (record { waiting = waiting; down = down; ready = ready })
-    → Fits (after_first now waiting (record { waiting = waiting; down = down; ready = ready }))
-take_fits now [] down ready f = f
-take_fits now (e ∷ es) down ready f =
-    let q : Queue = record { waiting = e ∷ es; down = down; ready = ready } in
-    let next : Queue = record { waiting = es; down = down; ready = now + time_of e.down } in
-    let old = f.room in
-    elim (nat_lt now (due_at ready e.stamp)) as (λ b. Fits (if b then q else next)) [
-      | true ↦ f
-      | false ↦ record { room = omega (arith, old); long = f.long }
-    ]
+module _ (debounce : Bool) where
+  take_fits : (now : ℕ) (waiting : List Pushed) (down : List Bool) (ready : ℕ)
+      → Fits (record { waiting = waiting; down = down; ready = ready })
+      → Fits (after_first debounce now waiting (record { waiting = waiting; down = down; ready = ready }))
+  take_fits now [] down ready f = f
+  take_fits now (e ∷ es) down ready f =
+      let q : Queue = record { waiting = e ∷ es; down = down; ready = ready } in
+      let next : Queue = record { waiting = es; down = down; ready = now + time_of debounce e.down } in
+      let old = f.room in
+      elim (nat_lt now (due_at ready e.stamp)) as (λ b. Fits (if b then q else next)) [
+        | true ↦ f
+        | false ↦ record { room = omega (arith, old); long = f.long }
+      ]
 
-pub after_fits : (calls : List Call) (q : Queue) → Fits q → Fits (after calls q)
-after_fits [] q f = f
-after_fits (Push e ∷ cs) q f = after_fits cs (pushed e q) (pushed_fits e q f)
-after_fits (Take now ∷ cs) q f = after_fits cs _ (take_fits now q.waiting q.down q.ready f)
+  pub after_fits : (calls : List Call) (q : Queue) → Fits q → Fits (after debounce calls q)
+  after_fits [] q f = f
+  after_fits (Push e ∷ cs) q f = after_fits cs (pushed e q) (pushed_fits e q f)
+  after_fits (Take now ∷ cs) q f = after_fits cs _ (take_fits now q.waiting q.down q.ready f)
 
 downs_some : (bs : List Bool) (p : ℕ) → get_or bs p false ≡ true → 1 ≤ downs bs
 downs_some bs p h = let less = downs_less bs p h in omega (arith, less)

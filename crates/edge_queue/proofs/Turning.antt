@@ -100,33 +100,34 @@ first_sound made e es down ready later s = record {
   long = s.long;
 }
 
--- what later calls hand over turns each key
-abbrev pub Turns : List Call → Type 0
-Turns cs = (r : Queue) (made : ℕ → Bool) → Sound made r → (p : ℕ) → Alternates (made p) (of_place p (handed cs r))
+module _ (debounce : Bool) where
+  -- what later calls hand over turns each key
+  abbrev pub Turns : List Call → Type 0
+  Turns cs = (r : Queue) (made : ℕ → Bool) → Sound made r → (p : ℕ) → Alternates (made p) (of_place p (handed debounce cs r))
 
-turns_take : (now : ℕ) (cs : List Call) (made : ℕ → Bool) (waiting : List Pushed) (down : List Bool) (ready : ℕ)
-    → Sound made (record { waiting = waiting; down = down; ready = ready }) → Turns cs → (p : ℕ)
-    → Alternates (made p) (of_place p (if_taken (first_taken now ready waiting)
-    ++ handed cs (after_first now waiting (record { waiting = waiting; down = down; ready = ready }))))
-turns_take now cs made [] down ready s rest p = rest (record { waiting = []; down = down; ready = ready }) made s p
-turns_take now cs made (e ∷ es) down ready s rest p =
-    let q : Queue = record { waiting = e ∷ es; down = down; ready = ready } in
-    let next : Queue = record { waiting = es; down = down; ready = now + time_of e.down } in
-    elim (nat_lt now (due_at ready e.stamp)) as (λ b. Alternates (made p)
-    (of_place p (if_taken (if b then None else Some (edge_at now e.place e.down)) ++ handed cs (if b then q else next)))) [
-      | true ↦ rest q made s p
-      | false ↦ elim (e.place == p) as (λ c.
-          Alternates (made p) (if c then edge_of e ∷ of_place p (map edge_of es) else of_place p (map edge_of es))
-          → Alternates (if c then e.down else made p) (of_place p (handed cs next))
-          → Alternates (made p) (if c then edge_of (edge_at now e.place e.down) ∷ of_place p (handed cs next) else of_place p (handed cs next))) [
-            | true ↦ λ a b. (a.0, b)
-            | false ↦ λ a b. b
-          ] (s.turns p) (rest next (then_made made e) (first_sound made e es down ready (now + time_of e.down) s) p)
-    ]
+  turns_take : (now : ℕ) (cs : List Call) (made : ℕ → Bool) (waiting : List Pushed) (down : List Bool) (ready : ℕ)
+      → Sound made (record { waiting = waiting; down = down; ready = ready }) → Turns cs → (p : ℕ)
+      → Alternates (made p) (of_place p (if_taken (first_taken now ready waiting)
+      ++ handed debounce cs (after_first debounce now waiting (record { waiting = waiting; down = down; ready = ready }))))
+  turns_take now cs made [] down ready s rest p = rest (record { waiting = []; down = down; ready = ready }) made s p
+  turns_take now cs made (e ∷ es) down ready s rest p =
+      let q : Queue = record { waiting = e ∷ es; down = down; ready = ready } in
+      let next : Queue = record { waiting = es; down = down; ready = now + time_of debounce e.down } in
+      elim (nat_lt now (due_at ready e.stamp)) as (λ b. Alternates (made p)
+      (of_place p (if_taken (if b then None else Some (edge_at now e.place e.down)) ++ handed debounce cs (if b then q else next)))) [
+        | true ↦ rest q made s p
+        | false ↦ elim (e.place == p) as (λ c.
+            Alternates (made p) (if c then edge_of e ∷ of_place p (map edge_of es) else of_place p (map edge_of es))
+            → Alternates (if c then e.down else made p) (of_place p (handed debounce cs next))
+            → Alternates (made p) (if c then edge_of (edge_at now e.place e.down) ∷ of_place p (handed debounce cs next) else of_place p (handed debounce cs next))) [
+              | true ↦ λ a b. (a.0, b)
+              | false ↦ λ a b. b
+            ] (s.turns p) (rest next (then_made made e) (first_sound made e es down ready (now + time_of debounce e.down) s) p)
+      ]
 
-pub handed_turns : (calls : List Call) → ArePlaced calls → Turns calls
-handed_turns [] placed q made s p = tt
-handed_turns (Push e ∷ cs) placed q made s p =
-    handed_turns cs placed.1 (pushed e q) made (pushed_sound made e q placed.0 s) p
-handed_turns (Take now ∷ cs) placed q made s p =
-    turns_take now cs made q.waiting q.down q.ready s (λ r m t. handed_turns cs placed.1 r m t) p
+  pub handed_turns : (calls : List Call) → ArePlaced calls → Turns calls
+  handed_turns [] placed q made s p = tt
+  handed_turns (Push e ∷ cs) placed q made s p =
+      handed_turns cs placed.1 (pushed e q) made (pushed_sound made e q placed.0 s) p
+  handed_turns (Take now ∷ cs) placed q made s p =
+      turns_take now cs made q.waiting q.down q.ready s (λ r m t. handed_turns cs placed.1 r m t) p

@@ -1,5 +1,5 @@
--- Calls of a queue, one after another, and the edges that they hand over.
-use Rattle.std.specs.Prelude.{◌<◌, ℕ, List, [], ◌∷◌, ◌++◌, Some, None, Ok, Err}
+-- Calls of a queue, one after another, and the edges that they hand over to a keyboard with a debounce or without.
+use Rattle.std.specs.Prelude.{◌<◌, ℕ, Bool, List, [], ◌∷◌, ◌++◌, Some, None, Ok, Err}
 use Rattle.std.specs.declared.option.Option.{Option}
 use Rattle.std.specs.declared.result.Result.{Result}
 use Rattle.board_terms.specs.declared.event.Edge.{Edge}
@@ -12,14 +12,14 @@ pub data Call : Type 0 where
   Push : Pushed → Call
   Take : ℕ → Call
 
-abbrev pub after_call : Call → Queue → Queue
-after_call (Push e) q = pushed e q
-after_call (Take now) q = after_taken now q
+abbrev pub after_call : Bool → Call → Queue → Queue
+after_call debounce (Push e) q = pushed e q
+after_call debounce (Take now) q = after_taken debounce now q
 
 -- the queue after calls
-abbrev pub after : List Call → Queue → Queue
-after [] q = q
-after (c ∷ cs) q = after cs (after_call c q)
+abbrev pub after : Bool → List Call → Queue → Queue
+after debounce [] q = q
+after debounce (c ∷ cs) q = after debounce cs (after_call debounce c q)
 
 -- an edge of a key as the keyboard has it
 abbrev pub edge_of : Pushed → Edge
@@ -34,9 +34,9 @@ handed_by (Push e) q = []
 handed_by (Take now) q = if_taken (taken now q)
 
 -- the edges that calls hand over, in order
-abbrev pub handed : List Call → Queue → List Edge
-handed [] q = []
-handed (c ∷ cs) q = handed_by c q ++ handed cs (after_call c q)
+abbrev pub handed : Bool → List Call → Queue → List Edge
+handed debounce [] q = []
+handed debounce (c ∷ cs) q = handed_by c q ++ handed debounce cs (after_call debounce c q)
 
 abbrev pub if_queued : Result (Unit {0}) NotQueued → Pushed → List Edge
 if_queued (Ok done) e = edge_of e ∷ []
@@ -47,9 +47,9 @@ let_in_by (Push e) q = if_queued (answer_of e q) e
 let_in_by (Take now) q = []
 
 -- the edges that were pushed and not refused, in order
-abbrev pub let_in : List Call → Queue → List Edge
-let_in [] q = []
-let_in (c ∷ cs) q = let_in_by c q ++ let_in cs (after_call c q)
+abbrev pub let_in : Bool → List Call → Queue → List Edge
+let_in debounce [] q = []
+let_in debounce (c ∷ cs) q = let_in_by c q ++ let_in debounce cs (after_call debounce c q)
 
 -- what is pushed are edges of places of the matrix
 abbrev pub IsPlaced : Call → Type 0

@@ -1,5 +1,5 @@
 -- A queue of edges: what it holds, what goes in, and when an edge is due.
-use Rattle.std.specs.Prelude.{ℕ, zero, suc, ◌+◌, nat_lt, nat_le, Bool, false, not, if◌then◌else◌}
+use Rattle.std.specs.Prelude.{ℕ, zero, suc, ◌+◌, nat_lt, nat_le, Bool, false, not, ◌&&◌, if◌then◌else◌}
 use Rattle.std.specs.Prelude.{List, [], ◌∷◌, ◌++◌, length, take, slice_index_or, Some, None, Ok, Err}
 use Rattle.std.specs.declared.option.Option.{Option}
 use Rattle.std.specs.declared.result.Result.{Result}
@@ -60,9 +60,9 @@ unfoldable pub all_released : ℕ → Queue → Queue
 all_released stamp q = released_to 96 stamp q
 
 -- how long an edge takes: the keyboard looks at its keys once in 2,048 cycles and sends one byte from one look to the
--- next. A press is one byte, and a release two
-abbrev pub time_of : Bool → ℕ
-time_of down = if down then 2240 else 4480
+-- next. A press is one byte, and a release two. With a debounce each takes two looks, since both must show it
+abbrev pub time_of : Bool → Bool → ℕ
+time_of debounce down = if down && not debounce then 2240 else 4480
 
 -- an edge is due as soon as it has happened and the edge before it has had its time
 abbrev pub due_at : ℕ → ℕ → ℕ
@@ -85,14 +85,16 @@ abbrev pub taken : ℕ → Queue → Option Pushed
 taken now q = first_taken now q.ready q.waiting
 
 -- after that it waits no longer, and its time begins
-abbrev pub without_first : ℕ → List Pushed → Queue → Queue
-without_first now [] q = q
-without_first now (e ∷ es) q = record { waiting = es; down = q.down; ready = now + time_of e.down }
+module _ (debounce : Bool) where
+  abbrev pub without_first : ℕ → List Pushed → Queue → Queue
+  without_first now [] q = q
+  without_first now (e ∷ es) q = record { waiting = es; down = q.down; ready = now + time_of debounce e.down }
 
-abbrev pub after_first : ℕ → List Pushed → Queue → Queue
-after_first now [] q = q
-after_first now (e ∷ es) q =
-    if nat_lt now (due_at q.ready e.stamp) then q else record { waiting = es; down = q.down; ready = now + time_of e.down }
+  abbrev pub after_first : ℕ → List Pushed → Queue → Queue
+  after_first now [] q = q
+  after_first now (e ∷ es) q =
+      if nat_lt now (due_at q.ready e.stamp) then q
+      else record { waiting = es; down = q.down; ready = now + time_of debounce e.down }
 
-abbrev pub after_taken : ℕ → Queue → Queue
-after_taken now q = after_first now q.waiting q
+  abbrev pub after_taken : ℕ → Queue → Queue
+  after_taken now q = after_first now q.waiting q

@@ -8,15 +8,15 @@ use crate::queue::{EdgeQueue, Pushed};
 /// How long a press takes until the next edge, in cycles.
 const PRESS: u64 = 2240;
 
-/// How long a release takes.
+/// How long a release takes, and with a debounce each edge.
 const RELEASE: u64 = 4480;
 
-/// How long an edge takes until the next.
-fn time_of(down: bool) -> u64
-    ensures time { result ≡ time_of down }
+/// How long an edge takes until the next, on a keyboard with a debounce or without.
+fn time_of(debounce: bool, down: bool) -> u64
+    ensures time { result ≡ time_of debounce down }
     ensures range { result < 4481 }
 {
-    if down { PRESS } else { RELEASE }
+    if down && !debounce { PRESS } else { RELEASE }
 }
 
 /// The later of two stamps.
@@ -39,23 +39,23 @@ impl EdgeQueue {
     }
 
     /// The first edge waits no longer: it is handed over at this stamp.
-    fn remove_first(&mut self, now: u64)
+    fn remove_first(&mut self, now: u64, debounce: bool)
         requires some { 0 < self.old.count }
         requires near { now < 2 ^ 63 }
-        ensures after { queue_of self.new ≡ without_first now (queue_of self.old).waiting (queue_of self.old) }
+        ensures after { queue_of self.new ≡ without_first debounce now (queue_of self.old).waiting (queue_of self.old) }
     {
         let down = self.edges[0].down;
         let left = self.waiting() - 1;
         self.edges.rotate_left(1);
         self.count = left as u8;
-        self.ready = now + time_of(down);
+        self.ready = now + time_of(debounce, down);
     }
 
-    /// The next edge, if it is due at this stamp. It waits no longer.
-    pub fn take_due(&mut self, now: u64) -> Option<Pushed>
+    /// The next edge, if it is due at this stamp, for a keyboard with a debounce or without. It waits no longer.
+    pub fn take_due(&mut self, now: u64, debounce: bool) -> Option<Pushed>
         requires near { now < 2 ^ 63 }
         ensures taken { result ≡ taken now (queue_of self.old) }
-        ensures after { queue_of self.new ≡ after_taken now (queue_of self.old) }
+        ensures after { queue_of self.new ≡ after_taken debounce now (queue_of self.old) }
     {
         if self.count == 0 || now < later(self.edges[0].stamp, self.ready) {
             return None;
@@ -65,7 +65,7 @@ impl EdgeQueue {
             place: self.edges[0].place,
             down: self.edges[0].down,
         };
-        self.remove_first(now);
+        self.remove_first(now, debounce);
         Some(first)
     }
 }

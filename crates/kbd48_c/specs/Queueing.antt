@@ -1,11 +1,12 @@
 -- What C does with a queue of edges.
-use Rattle.std.specs.Prelude.{◌≡◌, ◌^◌, ◌+◌, ◌-◌, ℕ, ℤ, pos, nat_lt, nat_le, ◌&&◌, Bool, if◌then◌else◌}
-use Rattle.std.specs.Prelude.{length, Option, Some, None, Ok, Err}
+use Rattle.std.specs.Prelude.{◌≡◌, ◌^◌, ◌+◌, ◌-◌, ℕ, ℤ, pos, nat_lt, nat_le, ◌&&◌, Bool, not, ◌==◌, if◌then◌else◌}
+use Rattle.std.specs.Prelude.{length, slice_index, Option, Some, None, Ok, Err}
 use Rattle.std.specs.declared.result.Result.{Result}
 use Rattle.edge_queue.specs.Queue.{Queue, after_taken, answer_of, due_of, edge_at, pushed, taken}
 use Rattle.edge_queue.specs.declared.queue.Pushed.{Pushed}
 use Rattle.edge_queue.specs.declared.refusal.NotQueued.{NotQueued}
 use Rattle.edge_queue.specs.declared.refusal.NotQueued.TheVariants as whys
+use Rattle.fw_kernel.specs.Tables.{debounce_at}
 use Rattle.live_board.specs.Calls.{pressed_now}
 use Rattle.live_board.specs.Heard.{HasKeptAll}
 use Rattle.live_board.specs.Pasts.{Past}
@@ -44,12 +45,16 @@ abbrev pub may_take : Keyboard → Bool
 may_take k =
     nat_le 4096 k.joint.cycle && nat_lt k.joint.cycle (2 ^ 62) && nat_lt (length k.due.edges.items) 4
 
+-- whether a keyboard's program says that keys are debounced, as a layout's image does
+abbrev pub debounces : Keyboard → Bool
+debounces k = not (slice_index k.joint.image.bytes debounce_at == 0)
+
 -- the edge that is handed to a keyboard now, and the queue without it
 abbrev pub handed_now : Queue → Keyboard → Option Pushed
 handed_now q k = if may_take k then taken (k.joint.cycle - 4096) q else None
 
 abbrev pub left_now : Queue → Keyboard → Queue
-left_now q k = if may_take k then after_taken (k.joint.cycle - 4096) q else q
+left_now q k = if may_take k then after_taken (debounces k) (k.joint.cycle - 4096) q else q
 
 -- the past with that edge, whose stamp is this moment
 abbrev pub past_with : Option Pushed → Keyboard → Past → Past

@@ -3,7 +3,7 @@
 ghost use Rattle.std.specs.Prelude.{◌≡◌, ◌<◌, ◌^◌, None};
 ghost use Rattle.edge_queue.specs.Queue.{queue_of};
 ghost use Rattle.kbd48_c.specs.Exports.{Through};
-ghost use Rattle.kbd48_c.specs.Queueing.{HandsOver, HasGoneKeyed, keyed_status, may_take, room_of, wait_for};
+ghost use Rattle.kbd48_c.specs.Queueing.{HandsOver, HasGoneKeyed, debounces, keyed_status, may_take, room_of, wait_for};
 
 use crate::calls::press;
 use crate::going::{Spot, put_spot};
@@ -18,6 +18,9 @@ use std::alloc::Global;
 /// From this cycle on no step is made.
 const LAST: u64 = 1 << 62;
 
+/// Where a layout's image says whether keys are debounced.
+const DEBOUNCE: u16 = 0x3f2;
+
 /// How many edges can wait for a step.
 const EDGES: usize = 4;
 
@@ -29,6 +32,13 @@ fn may_take(keyboard: &Keyboard) -> bool
     STAMP_0 <= cycle && cycle < LAST && keyboard.edges_waiting() < EDGES
 }
 
+/// Whether the keyboard's program says that keys are debounced, as a layout's image does.
+fn debounces(keyboard: &Keyboard) -> bool
+    ensures { result ≡ debounces keyboard.now }
+{
+    keyboard.program_byte(DEBOUNCE) != 0
+}
+
 /// Hands over the edge that is due, if one is.
 fn hand_over(keyboard: &mut Keyboard, queue: &mut EdgeQueue)
     ensures hands { HandsOver (queue_of queue.old) keyboard.old (queue_of queue.new) keyboard.new }
@@ -37,7 +47,8 @@ fn hand_over(keyboard: &mut Keyboard, queue: &mut EdgeQueue)
         return;
     }
     let now = stamp_of(keyboard.cycle());
-    if let Some(edge) = queue.take_due(now) {
+    let debounce = debounces(keyboard);
+    if let Some(edge) = queue.take_due(now, debounce) {
         let _ = press(keyboard, edge.place, edge.down);
     }
 }

@@ -9,7 +9,7 @@ use Rattle.edge_queue.specs.Laws.{AreSpaced}
 use Rattle.edge_queue.specs.Queue.{time_of}
 use Rattle.edge_queue.proofs.Law.{are_lawful}
 use Rattle.link_model.specs.TickEdges.{is_seen, none_before, read_at}
-use Rattle.keys_seen.specs.Turns.{AreInTurn, AreSeenInTurn, IsSeenAfter, bytes_of}
+use Rattle.keys_seen.specs.Turns.{AreInTurn, AreSeenInTurn, IsSeenAfter, ticks_of}
 
 both_left : (a b : Bool) → (a && b) ≡ true → a ≡ true
 both_left true b h = refl
@@ -26,21 +26,25 @@ too_soon p k h = elim (p k) as (λ b. (not b && none_before p k) ≡ true → b 
   | false ↦ λ g. refl
 ] h
 
--- the time of an edge is more than its bytes take
-time_enough : (down : Bool) → 2240 * bytes_of down ≤ time_of down
-time_enough true = omega arith
-time_enough false = omega arith
+-- the time of an edge is more than it takes
+pub time_enough : (debounce down : Bool) → 2240 * ticks_of debounce down ≤ time_of debounce down
+time_enough true true = omega arith
+time_enough true false = omega arith
+time_enough false true = omega arith
+time_enough false false = omega arith
 
-few_bytes : (down : Bool) → bytes_of down ≤ 2
-few_bytes true = omega arith
-few_bytes false = omega arith
+few_ticks : (debounce down : Bool) → ticks_of debounce down ≤ 2
+few_ticks true down = omega arith
+few_ticks false true = omega arith
+few_ticks false false = omega arith
 
-some_bytes : (down : Bool) → 1 ≤ bytes_of down
-some_bytes true = omega arith
-some_bytes false = omega arith
+pub some_ticks : (debounce down : Bool) → 1 ≤ ticks_of debounce down
+some_ticks true down = omega arith
+some_ticks false true = omega arith
+some_ticks false false = omega arith
 
 -- when an edge is seen in a tick: by its stamp
-seen_by : (starts : ℕ → ℕ) (n : ℕ) (e : Edge) → KeepsCadence starts → e.place < 96 → is_seen starts n e ≡ true
+pub seen_by : (starts : ℕ → ℕ) (n : ℕ) (e : Edge) → KeepsCadence starts → e.place < 96 → is_seen starts n e ≡ true
     → e.stamp ≤ 2048 * n + 197
 seen_by starts n e cadence l h =
     let p : ℕ → Bool = λ j. nat_le e.stamp (read_at starts e.place j) in
@@ -49,7 +53,7 @@ seen_by starts n e cadence l h =
     let most = (cadence n).most in
     omega (arith, at, most, l)
 
-seen_past : (starts : ℕ → ℕ) (n : ℕ) (e : Edge) → KeepsCadence starts → is_seen starts n e ≡ true → 2048 * n ≤ e.stamp + 2031
+pub seen_past : (starts : ℕ → ℕ) (n : ℕ) (e : Edge) → KeepsCadence starts → is_seen starts n e ≡ true → 2048 * n ≤ e.stamp + 2031
 seen_past starts zero e cadence h = omega arith
 seen_past starts (suc k) e cadence h =
     let p : ℕ → Bool = λ j. nat_le e.stamp (read_at starts e.place j) in
@@ -59,28 +63,27 @@ seen_past starts (suc k) e cadence h =
     let least = (cadence k).least in
     omega (arith, at, least)
 
--- 2,240 cycles for each byte are a tick for each, whatever the columns
-ticks_apart : (n m bytes sooner later : ℕ) → 1 ≤ bytes → bytes ≤ 2 → 2048 * n ≤ sooner + 2031 → later ≤ 2048 * m + 197
-    → sooner + 2240 * bytes ≤ later → n + bytes ≤ m
-ticks_apart n m bytes sooner later some few past by apart = omega (arith, some, few, past, by, apart)
+-- 2,240 cycles for each tick are as many ticks, whatever the columns
+ticks_apart : (n m ticks sooner later : ℕ) → 1 ≤ ticks → ticks ≤ 2 → 2048 * n ≤ sooner + 2031 → later ≤ 2048 * m + 197
+    → sooner + 2240 * ticks ≤ later → n + ticks ≤ m
+ticks_apart n m ticks sooner later some few past by apart = omega (arith, some, few, past, by, apart)
 
-after_one : (starts : ℕ → ℕ) (e f : Edge) → KeepsCadence starts → f.place < 96 → e.stamp + time_of e.down ≤ f.stamp
-    → IsSeenAfter starts e f
-after_one starts e f cadence l apart = λ n m is at.
-    let enough = time_enough e.down in
-    ticks_apart n m (bytes_of e.down) e.stamp f.stamp (some_bytes e.down) (few_bytes e.down)
-    (seen_past starts n e cadence is) (seen_by starts m f cadence l at) (omega (arith, enough, apart))
+module _ (debounce : Bool) (starts : ℕ → ℕ) (cadence : KeepsCadence starts) where
+  after_one : (e f : Edge) → f.place < 96 → e.stamp + time_of debounce e.down ≤ f.stamp → IsSeenAfter debounce starts e f
+  after_one e f l apart = λ n m is at.
+      let enough = time_enough debounce e.down in
+      ticks_apart n m (ticks_of debounce e.down) e.stamp f.stamp (some_ticks debounce e.down) (few_ticks debounce e.down)
+      (seen_past starts n e cadence is) (seen_by starts m f cadence l at) (omega (arith, enough, apart))
 
-in_turn : (starts : ℕ → ℕ) (ready : ℕ) (es : List Edge) → KeepsCadence starts → ArePlaces es → AreSpaced ready es
-    → AreInTurn starts es
-in_turn starts ready [] cadence placed spaced = tt
-in_turn starts ready (e ∷ []) cadence placed spaced = tt
-in_turn starts ready (e ∷ f ∷ es) cadence placed spaced = (
-  after_one starts e f cadence placed.1.0 spaced.1.0,
-  in_turn starts (e.stamp + time_of e.down) (f ∷ es) cadence placed.1 spaced.1,
-)
+  in_turn : (ready : ℕ) (es : List Edge) → ArePlaces es → AreSpaced debounce ready es → AreInTurn debounce starts es
+  in_turn ready [] placed spaced = tt
+  in_turn ready (e ∷ []) placed spaced = tt
+  in_turn ready (e ∷ f ∷ es) placed spaced = (
+    after_one e f placed.1.0 spaced.1.0,
+    in_turn (e.stamp + time_of debounce e.down) (f ∷ es) placed.1 spaced.1,
+  )
 
 pub seen_in_turn : AreSeenInTurn
-seen_in_turn starts cadence calls placed =
-    let lawful = are_lawful calls 0 placed in
-    in_turn starts 0 _ cadence lawful.1.in_matrix lawful.0
+seen_in_turn debounce starts cadence calls placed =
+    let lawful = are_lawful debounce calls 0 placed in
+    in_turn debounce starts cadence 0 _ lawful.1.in_matrix lawful.0

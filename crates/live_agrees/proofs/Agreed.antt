@@ -116,6 +116,7 @@ logs_agree law layout p stop k s is bytes fine lawful =
     record {
       starts = agrees.starts;
       each = agrees.each;
+      cadence = λ m. both.0.near m (agrees.starts m) (agrees.each m);
       tick = n;
       rest = on.0;
       beginning = sym (agrees.log n stamp start) ∙ on.1;

@@ -3,6 +3,7 @@ use Rattle.std.specs.Prelude.{◌≡◌, ◌<◌, ◌^◌, ℕ, Bool, List, [], 
 use Rattle.std.specs.declared.option.Option.{Option}
 use Rattle.std.specs.declared.result.Result.{Result}
 use Rattle.agreement.specs.AnyStart.{AreFor, model_from}
+use Rattle.board_terms.specs.Cadence.{KeepsCadence}
 use Rattle.board_terms.specs.declared.event.HostAct.{HostAct}
 use Rattle.fw_compile.specs.Image.{image_of}
 use Rattle.fw_kernel.specs.declared.labels.TheConstants.{TICK}
@@ -34,10 +35,11 @@ use Rattle.live_board.specs.declared.stops.Stops.{Stops}
 abbrev pub history_of : Past → ℕ → KeyHistory
 history_of p stop = record { edges = p.edges; host = p.events; end = stop }
 
--- a log is the beginning of what the model says up to one of the run's own tick starts
+-- a log is the beginning of what the model says up to one of the run's own tick starts, which keep their cadence
 pub record BeginsExpected (layout : KeyLayout) (p : Past) (log : List Stamped) : Type 0 where
   pub starts : ℕ → ℕ
   pub each : (n : ℕ) → IsStart (joint_board p.edges p.events) TICK (image_of layout) (joint_start_of p.held) n (starts n)
+  pub cadence : KeepsCadence starts
   pub tick : ℕ
   pub rest : List Stamped
   pub beginning : (whole_at (keyboard layout) p.edges p.events starts tick).side.log ≡ log ++ rest

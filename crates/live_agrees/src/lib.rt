@@ -7,7 +7,7 @@
 ghost use Rattle.live_agrees.specs.Law.{AnswersAreAlike, AnyUseIsLawful, CallsAreAlike, FillsAreFine, KeysAreAlike, LogsAgree};
 ghost use Rattle.live_agrees.specs.Law.{LogsAreShown, NeverStuck, RunsEndAlike, RunsStopAlike, StatesAreAlike, WordsAreAlike};
 ghost use Rattle.live_agrees.specs.Opened.{OpenedIsMasked, ReadyIsMasked};
-ghost use Rattle.live_agrees.specs.Queued.{QueuedLogsAgree, StaysQueued};
+ghost use Rattle.live_agrees.specs.Queued.{ImageSaysDebounce, QueuedLogsAgree, StaysQueued};
 ghost use Rattle.live_agrees.specs.Saved.{CallsKeepAlike, HandsKeepAlike, KeysKeepAlike, LoadedAreAlike, RunsKeepAlike, SavesAreAlike};
 ghost use Rattle.live_agrees.specs.Saved.{StopsKeepAlike};
 
@@ -69,12 +69,13 @@ pub fn opened_is_lawful()
     any_keys();
 }
 
-/// Keys that come out of a queue: let each key of a keyboard's past be one that the queue handed over when it was due,
-/// whatever was pushed, and whenever. Then the keys are lawful, and what was said so far is the beginning of what the model
-/// says, if the keys are the layout's and the host's events are lawful too. Nothing is done when it is called; the laws are
-/// its contract.
+/// Keys that come out of a queue: let each key of a keyboard's past be one that the queue handed over when it was due, with
+/// the time of a debounce or without, whatever was pushed, and whenever. Then the keys are lawful, and what was said so far is the beginning of what the model
+/// says, if the keys are the layout's and the host's events are lawful too. Whether the layout has a debounce is at 3F2 of its
+/// image. Nothing is done when it is called; the laws are its contract.
 pub fn queued_keys_agree()
     ensures queued { StaysQueued }
+    ensures says_debounce { ImageSaysDebounce }
     ensures agrees { QueuedLogsAgree }
 {
     edges_are_lawful();

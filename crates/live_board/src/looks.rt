@@ -1,6 +1,6 @@
 //! What is seen of a keyboard between two steps. No step is made, and nothing changes.
 
-ghost use Rattle.std.specs.Prelude.{◌≡◌, ◌≤◌, length};
+ghost use Rattle.std.specs.Prelude.{◌≡◌, ◌≤◌, ◌<◌, length, slice_index};
 ghost use Rattle.board_terms.specs.Matrix.{rows_of};
 ghost use Rattle.joint_run.specs.Cycle.{outside_wires};
 ghost use Rattle.joint_run.specs.Joint.{latch_of};
@@ -67,6 +67,15 @@ impl Keyboard {
         let pc = self.parts.joint.mcu().pc;
         let byte = self.parts.joint.image().bytes[(pc % 2048) as usize];
         Stuck { pc, byte }
+    }
+
+    /// The byte of the program at a place, 0 to 2,047.
+    pub fn program_byte(&self, place: u16) -> u8
+        requires place { place < 2048 }
+        ensures byte { result ≡ slice_index self.now.joint.image.bytes place }
+        ensures state { (p : Past) → HasPast p self.now → result ≡ slice_index p.bytes place }
+    {
+        self.parts.joint.image().bytes[place as usize]
     }
 
     /// The keys of a column of the matrix, as the processor reads them: bit k is row k, 0 for down. Columns from 12 on

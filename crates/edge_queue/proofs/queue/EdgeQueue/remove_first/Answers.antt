@@ -7,6 +7,6 @@ returns c =
     let q = c.args.self.now in
     let long = c.waiting-left.ensures.long in
     record {
-      after = removes q.edges q.count q.down q.ready c.args.now c.time_of.result c.waiting-left.result c.rotate_left.new.self _
+      after = removes c.args.debounce q.edges q.count q.down q.ready c.args.now c.time_of.result c.waiting-left.result c.rotate_left.new.self _
           c.requires.some (omega (arith, long)) c.waiting-left.ensures.count c.rotate_left.ensures.after c.time_of.ensures.time;
     }
