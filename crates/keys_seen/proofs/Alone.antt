@@ -93,6 +93,7 @@ module _ (debounce : Bool) (starts : ℕ → ℕ) (cadence : KeepsCadence starts
     where
       later : 2048 * from ≤ e.stamp + time_of debounce e.down + 1850
       later = let at = spaced.0 in omega (arith, at, low)
+
       by : (b : Bool) → is_seen starts n e ≡ b → filter (is_seen starts n) es ≡ [] → filter (is_seen starts n) (e ∷ es) ≡ []
       by true h rest = absurd (let l = is_late from ready n e placed.0 low spaced.0 h in omega (arith, l, less))
       by false h rest = skip (is_seen starts n) e es h ∙ rest

@@ -3,9 +3,9 @@
 use crate::playing::play;
 use crate::rows::Row::{
     Alike, Column, ComesBack, Copies, Cycle, Drives, Flip, Hears, Interrupt, Items, Key, Lights,
-    Loads, Looks, Lost, NoKey, NoRead, NoWrite, Passes, Quiet, Read, Ready, Refuses, Rises,
-    RisesIn, Rose, Run, RunTo, Short, Shows, Status, Statuses, Steps, Sticks, Swap, Together,
-    Waiting, Write,
+    Loads, Looks, Lost, NoKey, NoRead, NoWrite, Passes, Program, Quiet, Read, Ready, Refuses,
+    Rises, RisesIn, Rose, Run, RunTo, Short, Shows, Status, Statuses, Steps, Sticks, Swap,
+    Together, Waiting, Write,
 };
 use crate::rows::{NOTHING, NOTHING_MET, SECOND};
 use ctl_core::Port::{P60, P64};
@@ -109,6 +109,10 @@ fn looks_change_nothing_and_show_what_the_ports_would_read(
                 ..AT_FIRST
             }),
             Looks,
+            Program(0, 0x35),
+            Program(7, 0x23),
+            Program(0x3ce, 49),
+            Program(0x3f2, 0),
             Key(true),
             Waiting(1, 0),
             Column(0, 0xff),

@@ -87,6 +87,7 @@ fn play_look(keyboard: &Keyboard, row: Row) -> bool {
         Row::Lights(lights) => keyboard.lights() == lights,
         Row::Shows(registers) => keyboard.registers() == registers,
         Row::Looks => looks(keyboard),
+        Row::Program(place, byte) => place < 2048 && keyboard.program_byte(place) == byte,
         Row::Column(column, rows) => keyboard.rows(column) == rows,
         Row::Waiting(edges, words) => {
             keyboard.edges_waiting() == edges && keyboard.words_waiting() == words

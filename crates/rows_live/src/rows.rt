@@ -89,6 +89,8 @@ pub(crate) enum Row {
     Shows(Registers),
     /// Looks, between which no cycle passes and the interrupt line stays up.
     Looks,
+    /// The byte of the program at a place, 0 to 2,047.
+    Program(u16, u8),
     /// The keys of a column.
     Column(u8, u8),
     /// How many edges and how many words wait.
