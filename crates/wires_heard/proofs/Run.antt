@@ -18,7 +18,6 @@ use Rattle.joint_run.specs.Run.{Board, World, step_on}
 use Rattle.joint_run.specs.Starts.{at_tick, IsStart, starts_before}
 use Rattle.link_model.specs.Expected.{meeting_from, whole_at}
 use Rattle.link_model.specs.Machine.{keyboard}
-use Rattle.mcs48_core.specs.Cpu.{Cpu}
 use Rattle.mcs48_core.specs.Reset.{reset_cpu}
 use Rattle.std.proofs.lemmas.Bool.Decides.{nat_tests}
 use Rattle.std.specs.Prelude.{nat_lt}
