@@ -100,6 +100,7 @@ export function meaningOf(code) {
   if (name === 'OSM' && words[0].startsWith('MOD_') && Object.hasOwn(modifiers, words[0].slice(4))) {
     return sends(modifiers[words[0].slice(4)], 'what it does when it is tapped is lost');
   }
+  if (name === 'OSM') return unsaid(CHORD);
   if (switches.includes(name)) return unsaid('since a layer is selected while a key is held, and in no other way');
   return heldLayer(name, words) ?? unsaid(STRANGE);
 }

@@ -42,19 +42,25 @@ export class KeyPlaces {
     return null;
   }
 
+  /** The row of letters or digits that a row of keys has, or undefined. */
+  #lettersOf(row) {
+    return LETTER_ROWS.find(({ known }) => known.filter(letter => row.some(other => this.characters[other] === letter)).length >= FEWEST_OF_ROW);
+  }
+
   /** What a key is by the letters or digits of its row, on boards that are like most; or null. Names that are taken don't count. */
   nameByRow(at, taken = new Set()) {
-    const row = this.#row(at), here = row.indexOf(at), { width } = this.keys[at];
-    for (const { known, last, after, first, before, wide } of LETTER_ROWS) {
-      if (known.filter(letter => row.some(other => this.characters[other] === letter)).length < FEWEST_OF_ROW) continue;
-      const begin = row.findIndex(other => first.includes(this.characters[other] || '-')), end = row.findIndex(other => this.characters[other] === last);
-      if (begin >= 0 && here === begin - 1) return before;
-      if (end < 0 || here <= end) return null;
-      if (width >= WIDE && !taken.has(wide)) return wide;
-      return after[here - end - 1]?.find(name => !taken.has(name)) ?? null;
-    }
-    return width >= 3 ? 'space' : null;
+    const row = this.#row(at), here = row.indexOf(at), { width } = this.keys[at], letters = this.#lettersOf(row);
+    if (!letters) return width >= 3 ? 'space' : null;
+    const { last, after, first, before, wide } = letters;
+    const begin = row.findIndex(other => first.includes(this.characters[other] || '-')), end = row.findIndex(other => this.characters[other] === last);
+    if (begin >= 0 && here === begin - 1) return before;
+    if (end < 0 || here <= end) return null;
+    if (width >= WIDE && !taken.has(wide)) return wide;
+    return after[here - end - 1]?.find(name => !taken.has(name)) ?? null;
   }
+
+  /** The wide key that ends rows like that of a key: Backspace, Enter or Shift; or null. */
+  endOfRow(at) { return this.#lettersOf(this.#row(at))?.wide ?? null; }
 
   /** Whether a key is the last of the digits' row, but for keys that are apart from it. */
   endsDigits(at) {

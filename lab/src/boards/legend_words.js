@@ -22,10 +22,14 @@ function plainForm(piece) {
 /** The words and signs of a table, each with its key and whether that is a move. */
 const known = (table, isMove) => Object.entries(namesByWord(table)).map(([word, key]) => [plainForm(word), { key, isMove }]);
 
+// Words that are one of several keys, each with these; such a word is its own key until its place says which.
+export const BY_PLACE = Object.fromEntries(Object.entries(TABLES.words.by_place).map(([word, keys]) => [word, wordsIn(keys)]));
+
 const FUNCTION_KEYS = Array.from({ length: 24 }, (_, at) => `f${at + 1}`), FIRST_OTHER = 10;
 const VOCABULARY = new Map([
   ...[...wordsIn(TABLES.words.others), ...wordsIn(TABLES.words.fn), ...FUNCTION_KEYS.slice(FIRST_OTHER)].map(word => [plainForm(word), { key: '', isMove: false }]),
   ...FUNCTION_KEYS.slice(0, FIRST_OTHER).map(name => [name, { key: name, isMove: false }]),
+  ...Object.keys(BY_PLACE).map(word => [word, { key: word, isMove: false }]),
   ...known(TABLES.words.keys, false), ...known(TABLES.words.shifts, false), ...known(TABLES.words.moves, true),
 ]);
 
@@ -40,14 +44,21 @@ function longestWord(pieces) {
   return null;
 }
 
+/** The words of a piece that strokes part, as in esc/ctrl; or none if one of them isn't known. */
+function strokedWords(piece) {
+  const parts = piece.split('/').map(text => ({ text, plain: plainForm(text) }));
+  return parts.every(({ plain }) => VOCABULARY.has(plain)) ? parts.map(part => ({ ...part, ...VOCABULARY.get(part.plain), isPicture: false })) : [];
+}
+
 /** What pieces say: the longest words that they make together, and else characters; and what isn't known. */
 export function saidBy(pieces) {
   const said = { words: [], characters: [], unknown: [], icons: pieces.filter(piece => piece.plain === null).map(piece => piece.text) };
   let left = pieces.filter(piece => piece.plain !== null);
   while (left.length) {
-    const found = longestWord(left.map(piece => piece.plain)), [{ plain, isIcon }] = left, first = charactersOf(plain);
+    const found = longestWord(left.map(piece => piece.plain)), [{ plain, isIcon }] = left, first = charactersOf(plain), stroked = strokedWords(plain);
     if (found) said.words.push({ ...found.word, isPicture: isIcon || charactersOf(found.word.text).length === 1 });
     else if (first.length === 1 || (first.length <= 3 && first.filter(isAlnum).length < 2)) said.characters.push(...first);
+    else if (stroked.length) said.words.push(...stroked);
     else said.unknown.push(plain);
     left = left.slice(found?.count ?? 1);
   }
@@ -61,13 +72,13 @@ export function namesOf(all) {
   const named = words.filter(word => word.key || !word.isPicture);
   const kept = named.length ? named : words, more = new Set(kept.flatMap(word => WITH_MORE[word.key] ?? []));
   const left = kept.filter(word => !(word.key === '' && more.has(word.plain)) && !(word.key && more.has(word.key)));
-  const names = [...new Set(left.map(word => word.key))];
+  const keys = left.map(word => word.key), names = [...new Set(keys.filter(key => !BY_PLACE[key]?.some(it => keys.includes(it))))];
   const isShift = names.length > 1 && names.every(name => ['shift', 'lshift', 'rshift'].includes(name));
   return { words: left, names: isShift ? names.filter(name => name !== 'shift') : names };
 }
 
 const SHORTEST = 4; // letters of a word whose likely meaning can be said
-const sided = key => (key === 'shift' ? 'lshift' : key ?? null);
+const sided = key => (key === 'shift' ? 'lshift' : BY_PLACE[key] ? null : key ?? null);
 
 /** The key that a word names that is known by itself; or null. */
 export const knownKey = word => sided(VOCABULARY.get(plainForm(word))?.key || null);

@@ -3,7 +3,7 @@ import { COUNTRIES, countryOf } from './countries.js';
 import { KeyPlaces } from './legend_places.js';
 import { withoutFront } from './front_legends.js';
 import { legendPieces, shownLegends } from './legend_text.js';
-import { knownKey, likelyKey, namesOf, saidBy } from './legend_words.js';
+import { BY_PLACE, knownKey, likelyKey, namesOf, saidBy } from './legend_words.js';
 import { Refused, isLeftOut } from './refused.js';
 import { TABLES } from './tables.js';
 
@@ -128,12 +128,18 @@ class Legends {
 
   #reading(at) {
     const key = this.keys[at], said = this.said[at], isSaid = said.words.length + said.characters.length > 0;
-    if (said.unknown.length) throw new Unclear(`its legend ${shownLegends(key)} isn't known`, knownKey(said.unknown[0]), likelyKey(said.unknown[0]));
+    if (said.unknown.length) throw this.#ofUnknown(key, said);
     if (said.icons.length && !isSaid) throw new Unclear(`its icon ${said.icons.join(' ')} isn't known`);
     if (said.icons.length) this.passedOver.push(`${said.icons.join(' ')} (${key.where})`);
     if (said.words.length) return said.characters.length ? this.#ofBoth(at) : this.#ofWords(at);
     if (said.characters.length) return { name: this.#ofCharacters(at, said.characters.slice(0, 2)) };
     return this.#ofBlank(key);
+  }
+
+  // Why a word isn't known, with the key of one beside it, or else of one that it is like.
+  #ofUnknown(key, { words, unknown }) {
+    const [beside = knownKey(unknown[0])] = words.filter(word => !word.isMove).map(word => knownKey(word.text)).filter(Boolean);
+    return new Unclear(`its legend ${shownLegends(key)} isn't known`, beside, likelyKey(unknown.join('')));
   }
 
   // A key without legends, which is Space if it is wide.
@@ -163,6 +169,7 @@ class Legends {
     }
     if (names.length > 1) throw new Unclear(`its legends ${shownLegends(key)} are of two keys`, names.find(name => name && name !== 'shift'));
     if (isWide && words.length === 1 && words[0].plain === '⇑' && SHIFT_KEYS.includes(this.places.nameByRow(at))) return this.#takenAs(at, 'Shift');
+    if (BY_PLACE[names[0]]) return this.#ofEither(at, BY_PLACE[names[0]]);
     const name = names[0] !== 'shift' ? names[0] : this.taken.has('lshift') ? 'rshift' : 'lshift', sign = signOf(said);
     if (isWide && name === 'kpdot' && !this.hasBackspace) return wideBackspace;
     if (sign && this.#isEnterByPlace(at)) return { name: 'enter', note: 'is taken as Enter, since the key ends a row of letters' };
@@ -181,6 +188,13 @@ class Legends {
     if (!showsLeft(at) || this.hasEnter || this.places.nameByRow(at, this.taken) !== 'enter') return false;
     const isOther = it => it !== at && showsLeft(it) && !isLeftOut(this.keys[it], this.without);
     return this.hasBackspace || [...this.keys.keys()].some(it => isOther(it) && this.places.endsDigits(it));
+  }
+
+  // A key whose word is one of several keys, which its row says.
+  #ofEither(at, names) {
+    const name = this.places.endOfRow(at), whole = { backspace: ['Backspace', 'the row of digits'], enter: ['Enter', 'a row of letters'] }[name];
+    if (!names.includes(name)) throw new Unclear(`its legend ${shownLegends(this.keys[at])} may be ${names.join(' or ')}`, names.find(it => !this.taken.has(it)));
+    return { name, note: `is taken as ${whole[0]}, since the key is in ${whole[1]}` };
   }
 
   // A key that is what it is by the keys beside it.
@@ -206,7 +220,7 @@ class Legends {
     if (name === null && alone && this.country.shifts(first)) {
       throw new Unclear(`its only legend ${first} is typed with Shift in ${this.country.name}`, this.country.shifts(first));
     }
-    if (name === null) throw new Unclear(`its legends ${shownLegends(this.keys[at])} are on no key of ${this.country.name}`);
+    if (name === null) throw new Unclear(`its legends ${shownLegends(this.keys[at])} are on no key of ${this.country.name}`, this.places.nameByRow(at) === 'esc' ? 'grave' : null);
     return name;
   }
 }
