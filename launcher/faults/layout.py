@@ -13,9 +13,11 @@ except ModuleNotFoundError:  # before Python 3.11
     tomllib = None
 
 SAMPLE = Path(__file__).resolve().parent.parent.parent / "examples/us84.toml"
-TOP = ["format", "name", "rate", "key"]
+TOP = ["format", "name", "rate", "debounce", "key"]
 FIRST = ["key", "column", "row", "sends"]
 SECOND = [*FIRST, "fn", "fn_sends", "make_only"]
+YES_OR_NO = ["debounce", "fn", "make_only"]
+FLAG = re.compile(r"""\s*["']?\w+["']?\s*=\s*(yes|no|on|off|y|n|true|false)\b""", re.IGNORECASE)
 HEADER = re.compile(r"""\s*\[\[\s*["']?key["']?\s*\]\]""")
 
 
@@ -57,7 +59,7 @@ def line_of(fault, name):
     """The line of a field in the faulty entry, with its text, or None."""
     within = span(fault)
     for number in range(*within) if within else ():
-        if re.match(rf"""\s*["']?{re.escape(name)}["']?\s*=""", fault.lines[number - 1]):
+        if re.match(rf"""\s*(\[\[?\s*["']?{re.escape(name)}["']?\s*\]|["']?{re.escape(name)}["']?\s*=)""", fault.lines[number - 1]):
             return number, fault.lines[number - 1]
     return None
 
@@ -80,7 +82,7 @@ def suspects(fault):
 
 
 def of_kind(name, value, at):
-    wanted = {"format": int, "rate": int, "name": str, "column": int, "row": int, "fn": bool, "make_only": bool}
+    wanted = {"format": int, "rate": int, "name": str, "column": int, "row": int, **dict.fromkeys(YES_OR_NO, bool)}
     kind = wanted.get(name, str) if at or name != "key" else list
     return isinstance(value, kind) and not (kind is int and isinstance(value, bool))
 
@@ -121,7 +123,7 @@ def hints(fault):
     here = entry(fault, fault.at)
     if fault.number == 1:
         found = unreadable(fault)
-        return [found[1]] if found else []
+        return [flag(fault.lines[found[0] - 1]) or found[1]] if found else []
     of = {2: field, 3: missing, 4: wrong_kind, 6: unknown_key, 8: taken, 11: named_before, 12: second_fn}
     if fault.number in of:
         return of[fault.number](fault, here)
@@ -133,11 +135,19 @@ def hints(fault):
     }.get(fault.number, [])
 
 
+def flag(line):
+    """What a line should say that has yes, True or the like for true or false, or None."""
+    found = FLAG.match(line)
+    return found and f"did you mean {line[: found.start(1)].strip()} {'true' if found[1].lower() in ('yes', 'on', 'y', 'true') else 'false'}?"
+
+
 def field(fault, here):
     known = TOP if fault.at == 0 else SECOND if entry(fault, 0).get("format") == 2 else FIRST
     for name in suspects(fault)[:1]:
         if fault.at and name in SECOND:
             return [f"{name} needs format = 2"]
+        if fault.at and name in ("format", "rate", "debounce"):
+            return [f"{name} is a field of the whole layout: it comes before the first line [[key]]"]
         if not fault.at and name in SECOND:
             return [f"{name} is a field of an entry: it comes after a line [[key]]"]
         return meant(name, known, f"the fields are {', '.join(known)}")
@@ -152,7 +162,7 @@ def missing(fault, here):
 
 def wrong_kind(fault, _here):
     for name in suspects(fault)[:1]:
-        if name in ("fn", "make_only"):
+        if name in YES_OR_NO:
             return [f"{name} is true or false, without quotes"]
         whole = name in ("format", "rate", "column", "row")
         return [f"{name} is {'a whole number, without quotes' if whole else 'a list of tables [[key]]' if not fault.at and name == 'key' else 'a text in quotes'}"]
