@@ -325,8 +325,8 @@ int32_t kbd48_look(kbd48 *handle, kbd48_registers *registers);
 /* How many edges of keys wait for a step, at most 4, and how many words in the buffer of INT 09h, at most 15. */
 int32_t kbd48_waiting(kbd48 *handle, uint8_t *edges, uint8_t *words);
 
-/* The keys of a column of the matrix, 0 to 11, as the keyboard's processor reads them: bit k is row k, 0 for down. An
-   edge that waits isn't made yet. */
+/* The keys of a column of the matrix, 0 to 11, as the keyboard's processor reads them, before a debounce: bit k is row k,
+   0 for down. An edge that waits isn't made yet. */
 int32_t kbd48_column(kbd48 *handle, uint8_t number, uint8_t *rows);
 
 /* The keyboard's processor, an 8049. */
