@@ -28,6 +28,8 @@ EXAMPLES = """
     wrong_parity.script unset_cell.asm run_on.asm timer.asm delay.asm delay.hex delay.cert us84.hex
     kernel_delay.cert every_instruction.asm
 """.split()
+# The documents that the page shows.
+DOCUMENTS = {"firmware": "OWN-FIRMWARE.md", "instructions": "INSTRUCTIONS.md"}
 NAME = re.compile(r"^(?:async )?(?:class|function\*?) ([A-Za-z_]\w*)", re.MULTILINE)
 # A line may begin several constants.
 LINE, CONSTANT = re.compile(r"^(?:const|let) .*$", re.MULTILINE), re.compile(r"(?:^const|^let|,) ([A-Za-z_]\w*) = ")
@@ -139,7 +141,7 @@ def page(keyboard: str, program: str, sources: str) -> str:
         "/*FILES*/": data(examples()),
         "/*FAULTS*/": data(faults()),
         "/*BOARDS*/": data(tables()),
-        "/*MANUAL*/": data((ROOT / "docs/OWN-FIRMWARE.md").read_text(encoding="utf-8")),
+        "/*MANUAL*/": data({name: (ROOT / "docs" / page).read_text(encoding="utf-8") for name, page in DOCUMENTS.items()}),
         "/*CHIPS*/": data(chips()),
         "/*KEYBOARD*/": keyboard,
         "/*PROGRAM*/": program,

@@ -1,5 +1,6 @@
 // Board files of other tools, opened beside the keyboard: they become a layout, or what is wrong is said, with the ways on.
 import { BOARD_BUTTONS, downloadFor } from './board_downloads.js';
+import { optionsOf, withOption } from './board_options.js';
 import { fromKle, isKeymapText } from './boards/from_kle.js';
 import { Refused } from './boards/refused.js';
 import { TABLES } from './boards/tables.js';
@@ -56,6 +57,9 @@ export async function keepLayout(name, { text, shapes: drawn }) {
   return isKept;
 }
 
+// Whether an option that is offered is one of those that are chosen.
+const isChosen = (options, { words }) => words !== undefined && options.some(it => it.join(' ') === words.join(' '));
+
 export class BoardOpener {
   /** `chosen(name)` draws a layout; `bench(words)` shows words in the workbench. */
   constructor({ chosen, bench }) {
@@ -95,19 +99,24 @@ export class BoardOpener {
   }
 
   async #try(options) {
-    const words = [...options, ...[this.board, this.keymap].filter(Boolean)], said = answerOfBoards(words);
-    const ways = waysIn(said.told).filter(({ words: more }) => !more || !options.join(' ').includes(more.join(' ')))
-      .map(({ words: more, label, number }) => (more ? this.#button(label, () => this.#try([...options, ...more]))
-        : this.#naming(number, name => this.#try([...options, '--key', `${number}=${name}`]))));
+    const named = [this.board, this.keymap].filter(Boolean), words = [...options.flat(), ...named], said = answerOfBoards(words);
+    const again = more => this.#try(withOption(options, more)), ways = waysIn(said.told).filter(it => !isChosen(options, it))
+      .map(({ words: more, label, number }) => (more ? this.#button(label, () => again(more)) : this.#naming(number, name => again(['--key', `${number}=${name}`]))));
+    ways.push(...options.map(option => this.#button(`Take back ${option.join(' ')}`, () => this.#try(options.filter(it => it !== option)))));
     ways.push(this.#button('The words in the workbench', () => this.bench(['from_kle', ...words].join(' '))));
+    const table = answerOfBoards(['--table', ...words]);
+    if (table.status === 0) ways.push(optionsOf(table.text, again));
     if (said.status !== 0) {
       this.#say(said.told.join('\n'), false, ways);
       return;
     }
     const name = layoutNameOf(words);
-    if (!await keepLayout(name, said)) return;
+    if (!await keepLayout(name, said)) {
+      this.#say(`${name} stays as you have changed it, and ${named.join(' and ')} isn't drawn.`, undefined, ways);
+      return;
+    }
     const forPico = this.#button(BOARD_BUTTONS.pico, () => downloadFor('pico', name, byId('download-told')));
-    this.#say(`${name} is made of ${[this.board, this.keymap].filter(Boolean).join(' and ')}.`, true, [forPico, ...ways], said.told);
+    this.#say(`${name} is made of ${named.join(' and ')}.`, true, [forPico, ...ways], said.told);
     this.chosen(name);
   }
 

@@ -8,7 +8,7 @@ import { files, offer, onFile, originals, put, replace, undo, undoable } from '.
 import { HandIns } from './hand_ins.js';
 import { keeping } from './keeping.js';
 import { LESSONS, PATHS } from './lessons.js';
-import { sectionOf } from './manual.js';
+import { instructionTables, sectionOf } from './manual.js';
 import { FAULTS, kbd48 } from './program.js';
 import { offerLink } from './share.js';
 import { Sheets } from './sheets.js';
@@ -26,6 +26,8 @@ export class LessonsPane {
     this.sheets = new Sheets(() => this.number + 1);
     byId('lesson-print').onclick = () => this.sheets.print([this.number + 1]);
     byId('print-path').onclick = () => this.sheets.print(this.path.lessons);
+    byId('print-instructions').onclick = () => this.sheets.printInstructions();
+    byId('instructions').lastElementChild.append(...instructionTables());
     byId('lesson-next').onclick = () => {
       this.open(this.next - 1);
       byId('lesson-title').focus();
@@ -158,8 +160,7 @@ export class LessonsPane {
 
   // The first difference: what was expected beside what came, and the wires, if it is about them.
   #show(found) {
-    byId('lesson-differs').hidden = Boolean(found.refused);
-    if (found.refused) return;
+    byId('lesson-differs').hidden = false;
     const upTo = list => list.slice(0, found.line).map(text => `  ${text}`), [expected, got] = firstOf(found);
     byId('lesson-expected').textContent = [...upTo(found.expected), `> ${expected}`].join('\n');
     byId('lesson-got').textContent = [...upTo(found.got), `> ${got}`].join('\n');

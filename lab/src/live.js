@@ -222,11 +222,16 @@ export class Live {
     if (this.items.length > KEPT) this.items.splice(0, KEPT - TRIMMED);
   }
 
-  /** What was done so far, as a key file: { keys, isCut }. The longest that a key file may be is the first part of a longer
-      session. */
+  /** What was done so far, as a key file; of a session that is longer than a key file may be, its first part, and what that leaves
+      out: { keys, taken, left }, each of the last two with events and with seconds. `left` is null if nothing is left out. */
   keyFile() {
-    const taken = this.events.slice(0, MOST_EVENTS - 1).filter(({ stamp }) => stamp < LAST_STAMP), isCut = this.stamp > LAST_STAMP || taken.length < this.events.length;
-    const end = taken.length < this.events.length ? Math.min(LAST_STAMP, this.events[taken.length].stamp) : Math.min(LAST_STAMP, this.stamp);
-    return { keys: [...taken.map(({ stamp, words }) => `${stamp} ${words}`), `${Math.max(end, 1)} end`, ''].join('\n'), isCut };
+    const { events, stamp } = this, late = events.findIndex(it => it.stamp >= LAST_STAMP), inTime = late < 0 ? events.length : late;
+    const many = Math.min(inTime, MOST_EVENTS - 1); // `end` is one too
+    const end = Math.max(1, Math.min(LAST_STAMP, many < inTime ? events[many].stamp : stamp));
+    const keys = [...events.slice(0, many).map(({ stamp: at, words }) => `${at} ${words}`), `${end} end`, ''].join('\n');
+    const left = { events: events.length - many, seconds: secondsOf(Math.max(0, stamp - end)) };
+    return { keys, taken: { events: many, seconds: secondsOf(end) }, left: left.events || stamp > LAST_STAMP ? left : null };
   }
 }
+
+const secondsOf = stamps => stamps / CYCLES_OF_A_MS / 1000;

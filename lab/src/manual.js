@@ -1,14 +1,18 @@
-// The sections of docs/OWN-FIRMWARE.md, which is the long text of the lessons: the page has the document itself, and shows the
-// section that a lesson names. It reads as much of Markdown as the document has.
+// The documents that the page has: docs/OWN-FIRMWARE.md, the long text of the lessons, of which a lesson shows the section that it
+// names; and docs/INSTRUCTIONS.md. It reads as much of Markdown as the two have.
 import { byId, make } from './dom.js';
 
-const sections = new Map(JSON.parse(byId('manual').textContent).split(/^## /m).slice(1).map(text => {
-  const end = text.indexOf('\n');
-  return [text.slice(0, end), text.slice(end + 1)];
-}));
+const documents = JSON.parse(byId('manual').textContent);
 
-/** The titles of its sections. */
-export const manualTitles = [...sections.keys()];
+/** The sections of a document, by their titles; what is before the first has the title ''. */
+function sectionsIn(text) {
+  return new Map(`\n${text}`.split(/^## /m).map((part, n) => {
+    const end = part.indexOf('\n');
+    return n === 0 ? ['', part.trim()] : [part.slice(0, end), part.slice(end + 1)];
+  }));
+}
+
+const sections = sectionsIn(documents.firmware), instructions = sectionsIn(documents.instructions);
 
 const MARKED = /`([^`]+)`|\*\*([^*]+)\*\*|\[([^\]]+)\]\([^)]*\)/g;
 
@@ -35,5 +39,14 @@ function block(text) {
   return make('p', {}, ...inline(lines.join(' ')));
 }
 
-/** A section as elements. A program's text may have empty lines, so it is found first. */
-export const sectionOf = title => sections.get(title).trim().split(/(^```[^]*?^```$)/m).flatMap(part => (part.startsWith('```') ? [part] : part.trim().split(/\n\n+/))).filter(Boolean).map(block);
+// A text as elements. A program's text may have empty lines, so it is found first.
+const blocksOf = text => text.trim().split(/(^```[^]*?^```$)/m).flatMap(part => (part.startsWith('```') ? [part] : part.trim().split(/\n\n+/))).filter(Boolean).map(block);
+
+/** A section of docs/OWN-FIRMWARE.md as elements. */
+export const sectionOf = title => blocksOf(sections.get(title));
+
+const FIRST_WORDS = '**What there is**'; // before them the document speaks of other documents
+
+/** docs/INSTRUCTIONS.md as elements. */
+export const instructionTables = () => [...instructions].flatMap(([title, text]) => (title
+  ? [make('h4', { textContent: title }), ...blocksOf(text)] : blocksOf(text.slice(text.indexOf(FIRST_WORDS)))));

@@ -125,7 +125,7 @@ export class ProcessorPane {
     const made = how ? kbd48([how, name]) : { exit: 0, text: files[name] };
     try {
       if (made.exit !== 0) throw new Error(explained(made)?.words ?? made.text);
-      this.session = new Session(made.text, files[byId('program-layout').value], files[byId('program-keys').value]);
+      this.session = new Session(made.text, files[byId('program-layout').value], files[byId('program-keys').value], () => this.#show());
       this.code = how === 'asm' ? sourceLines(files[name]) : how === 'compile' ? sourceLines(files[KERNEL])
         : listLines(kbd48(['list', name]).text);
       tell(byId('program-fault'), '');

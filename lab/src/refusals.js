@@ -2,13 +2,13 @@
 
 export const EXIT = { DONE: 0, WORDS: 2, INPUT: 3, TIMING: 4, READ: 5, WRITE: 6, MEMORY: 7, STUCK: 8 };
 
-/** What a refusal says, and the line of a file that it names: { kind, words, line } or null. `faults` has the words of each kind
+/** What a refusal says, and the line of a file that it names, with the fault's number: { kind, words, line, number } or null. `faults` has the words of each kind
     of file's faults, by number. */
 export function explanationOf(answer, faults) {
   const faultText = (kind, number) => faults[kind]?.[number] ?? `fault ${number}`;
   const text = answer.text.trimEnd(), last = text.slice(text.lastIndexOf('\n') + 1);
   let found = /^input: (\w+) line (\d+) fault (\d+)/.exec(last);
-  if (found) return { kind: found[1], line: Number(found[2]), words: `line ${found[2]}: ${faultText(found[1], found[3])}` };
+  if (found) return { kind: found[1], line: Number(found[2]), number: Number(found[3]), words: `line ${found[2]}: ${faultText(found[1], found[3])}` };
   found = /^input: layout entry (\d+) fault (\d+)/.exec(last);
   if (found) {
     const entry = found[1] === '0' ? 'the layout' : `entry ${found[1]} of the layout`;

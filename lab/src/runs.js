@@ -17,6 +17,16 @@ const isLong = (words, all) => words.slice(1).some(word => word.endsWith('.keys'
 
 const answerOf = (exit, text, traced = null) => ({ exit, text, bytes: { length: new Blob([text]).size }, traced });
 
+// The edges of a worker's trace, of which there may be millions: each is made when it is looked at.
+class TracedEdges {
+  constructor({ cycles, levels }) { Object.assign(this, { cycles, levels, length: cycles.length }); }
+
+  at(n) {
+    const place = n < 0 ? this.length + n : n;
+    return place in this.cycles ? { cycle: this.cycles[place], levels: this.levels[place] } : undefined;
+  }
+}
+
 class Runs {
   /** `module` has the bytes of the program's module; `serves` is the name of the function that answers in a worker. */
   begin(module, serves) { Object.assign(this, { module, serves, worker: null, stop: null, isBarred: false, waiting: new Map(), last: 0 }); }
@@ -50,7 +60,7 @@ class Runs {
   // Hands each answer to the call that it is of. `waiting` has the calls without an answer, by their numbers.
   #listen(worker) {
     worker.onmessage = ({ data: { number, exit, text, traced } }) => this.#end(number, () =>
-      answerOf(exit, text, traced && { ...traced, edges: Array.from(traced.cycles, (cycle, n) => ({ cycle, levels: traced.levels[n] })) }));
+      answerOf(exit, text, traced && { ...traced, edges: new TracedEdges(traced) }));
     // A browser may let this page have no worker: then the runs are made at once.
     worker.onerror = event => {
       event.preventDefault();

@@ -2,6 +2,7 @@
 import { hex } from './dom.js';
 import { FIRST_STAMP } from './live.js';
 import { explained, kbd48 } from './program.js';
+import { runs } from './runs.js';
 
 export const CELLS = 128;
 const PSW = { carry: 0x80, 'auxiliary carry': 0x40, F0: 0x20, bank: 0x10 };
@@ -42,15 +43,24 @@ export const partsOf = (psw, cells) => ({
 });
 
 export class Session {
-  /** The texts of an image, a layout and a key file; refused as the program refuses them. */
-  constructor(image, layout, keys) {
+  /** The texts of an image, a layout and a key file; refused as the program refuses them. The log of a long run comes later, and
+      `onLog` is called then. */
+  constructor(image, layout, keys, onLog) {
     this.files = { 'session.image': image, 'session.layout': layout, 'session.keys': keys };
     this.kept = new Map();
     this.ahead = { gone: [] };
+    this.said = [];
     this.state = this.at(0);
-    const said = kbd48(['board', 'session.image', 'session.layout', 'session.keys'], this.files);
-    this.said = said.text.trimEnd().split('\n').filter(line => /^-?\d+ /.test(line))
-      .map(line => ({ stamp: Number.parseInt(line, 10), line }));
+    const answer = runs.run(['board', 'session.image', 'session.layout', 'session.keys'], this.files);
+    if (answer instanceof Promise) answer.then(later => this.#take(later, onLog));
+    else this.#take(answer);
+  }
+
+  // The log of the whole run; nothing, if somebody stopped it.
+  #take(answer, then = () => {}) {
+    if (!answer) return;
+    this.said = answer.text.trimEnd().split('\n').filter(line => /^-?\d+ /.test(line)).map(line => ({ stamp: Number.parseInt(line, 10), line }));
+    then();
   }
 
   /** What the log said up to now. */

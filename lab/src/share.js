@@ -24,20 +24,33 @@ async function through(bytes, transform, most = Infinity) {
 
 export const unpacked = bytes => through(bytes, new DecompressionStream('gzip'));
 
+const base64Of = bytes => btoa(Array.from(bytes, byte => String.fromCharCode(byte)).join(''));
+
 export const bytesOf = base64 => Uint8Array.from(atob(base64), letter => letter.charCodeAt(0));
 
-// The address of this page with { files, open, command, lesson }.
+// The address of this page with { files, open, command, lesson }; one that `sharedIn` would refuse isn't made.
 async function linkOf(shared) {
-  const packed = await through(new TextEncoder().encode(JSON.stringify(shared)), new CompressionStream('gzip'));
-  const base64 = btoa(Array.from(packed, byte => String.fromCharCode(byte)).join(''));
-  return location.href.split('#')[0] + KEY + base64.replaceAll('+', '-').replaceAll('/', '_').replaceAll('=', '');
+  const bytes = new TextEncoder().encode(JSON.stringify(shared));
+  if (bytes.length > MOST_UNPACKED) throw new RangeError(`they have ${bytes.length} bytes, and a link carries at most ${MOST_UNPACKED}`);
+  const packed = await through(bytes, new CompressionStream('gzip'));
+  const hash = KEY + base64Of(packed).replaceAll('+', '-').replaceAll('/', '_').replaceAll('=', '');
+  if (hash.length > MOST_PACKED) throw new RangeError(`packed they have ${hash.length} letters, and a link has at most ${MOST_PACKED}`);
+  return location.href.split('#')[0] + hash;
 }
 
-/** Lets the address of the page carry this, as `linkOf` has it, and says so with the link in `told`. */
+/** Lets the address of the page carry this, as `linkOf` has it, and says so with the link in `told`; or says why there is no link. */
 export async function offerLink(told, shared) {
-  const link = await linkOf(shared);
+  const names = Object.keys(shared.files).join(', ');
+  let link;
+  try {
+    link = await linkOf(shared);
+  } catch (error) {
+    if (!(error instanceof RangeError)) throw error;
+    tell(told, `No link carries ${names}: ${error.message}. Save all in the workbench saves them as one file.`, false);
+    return;
+  }
   history.replaceState(null, '', link);
-  tell(told, `The address of this page now carries ${Object.keys(shared.files).join(', ')}. `);
+  tell(told, `The address of this page now carries ${names}. `);
   told.append(make('a', { href: link, textContent: 'The link' }));
   if (location.protocol === 'file:') told.append('. This page is a file of this computer, so the link works here alone. For others, put the page on a web server, or send them what Save all saves.');
 }

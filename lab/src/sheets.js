@@ -4,6 +4,7 @@ import { firstText, nameOf } from './course/judged.js';
 import { byId, make } from './dom.js';
 import { originals } from './files.js';
 import { LESSONS } from './lessons.js';
+import { instructionTables } from './manual.js';
 
 const EMPTY_LINES = 12, SUBROUTINE = /\n; send: [^]*?\n {8}RET\n/;
 
@@ -29,6 +30,11 @@ export class Sheets {
 
   print(numbers) {
     this.make(numbers);
+    globalThis.print();
+  }
+
+  printInstructions() {
+    byId('sheets').replaceChildren(make('article', { className: 'sheet manual' }, make('h2', { textContent: 'The instructions' }), ...instructionTables()));
     globalThis.print();
   }
 }

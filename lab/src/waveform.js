@@ -10,7 +10,7 @@ const LEAST_ZOOM = 0.125, MOST_ZOOM = 8;
 
 export class Waveform {
   /** `source()` answers { edges, bytes, cycle }: each edge has a cycle and the levels after it, and who pulls which wire, if
-      that is known. */
+      that is known. Of edges it needs `length` and `at`. */
   constructor(canvas, source) {
     Object.assign(this, { canvas, source, zoom: 0.5, back: 0, shown: null, size: [0, 0] });
     // The browser says the size; it isn't asked for each picture, since it may have to lay the page out for the answer.
@@ -91,11 +91,11 @@ export class Waveform {
     let x = width - 10 + this.back, last = cycle;
     this.places = new Map();
     for (let n = edges.length - 1; x > 0; n--) {
-      const { cycle: from, levels, pulls } = n >= 0 ? edges[n] : { cycle: last - LONG - 1, levels: CLOCK | DATA };
+      const { cycle: from, levels, pulls } = n >= 0 ? edges.at(n) : { cycle: last - LONG - 1, levels: CLOCK | DATA };
       const cut = last - from > LONG, wide = n < 0 ? x : (cut ? LONG : last - from) * this.zoom;
       this.places.set(from, x - wide);
       // On whole pixels two stretches meet without a seam.
-      if (x - wide < width) each({ left: Math.round(x - wide), right: Math.round(Math.min(x, width)), levels, pulls, before: n > 0 ? edges[n - 1].levels : CLOCK | DATA, cut });
+      if (x - wide < width) each({ left: Math.round(x - wide), right: Math.round(Math.min(x, width)), levels, pulls, before: n > 0 ? edges.at(n - 1).levels : CLOCK | DATA, cut });
       x -= wide;
       last = from;
     }

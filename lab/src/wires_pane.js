@@ -10,7 +10,6 @@ import { Waveform, pullersOf } from './waveform.js';
 
 const LIVE = 'what I type';
 const STEP = 160; // pixels
-const CUT = 'the first part of this session, as long as a key file may be: 600 seconds and 65,536 events';
 const BITS = [...Array.from({ length: 8 }, (_, bit) => `data bit ${bit + 1}`), 'the parity bit'];
 const PULLERS = { keyboard: 'the keyboard', host: 'the PC' };
 // Each command with the bytes that the PC writes: to port 60h, or to 64h.
@@ -51,9 +50,9 @@ export class WiresPane {
     onFile(({ isNew }) => { if (isNew) list(); });
     byId('shown').onchange = ({ target }) => this.#show(target.value);
     byId('session').onclick = () => {
-      const { keys, isCut } = live().keyFile();
-      replace('session.keys', keys, 'this session took its place');
-      tell(byId('judged'), `session.keys is in the workbench${isCut ? `; it has ${CUT}` : ''}`);
+      const file = live().keyFile();
+      replace('session.keys', file.keys, 'this session took its place');
+      tell(byId('judged'), `session.keys is in the workbench${file.left ? `; it has ${firstPart(file)}` : ''}`);
     };
     byId('judge').onclick = () => this.#judge();
     byId('noisy-bit').append(...BITS.map((words, at) => new Option(words, at + 1)));
@@ -92,12 +91,12 @@ export class WiresPane {
 
   // What was done so far as a key file, under the model and under the firmware.
   async #judge() {
-    const { name, text } = this.opened(), { keys, isCut } = this.live().keyFile(), given = { 'session.keys': keys, [name]: text };
+    const { name, text } = this.opened(), file = this.live().keyFile(), given = { 'session.keys': file.keys, [name]: text };
     tell(byId('judged'), 'It runs ..');
     const run = await runs.run(['run', name, 'session.keys'], given), expect = run && await runs.run(['expect', name, 'session.keys'], given);
     if (!expect) tell(byId('judged'), 'The run was stopped.', false);
     else if (run.exit !== 0) tell(byId('judged'), `the session is no key file: ${explained(run)?.words}`, false);
-    else if (run.text === expect.text) tell(byId('judged'), `run and expect print the same ${run.text.split('\n').length - 1} lines of ${isCut ? CUT : 'this session'}`, true);
+    else if (run.text === expect.text) tell(byId('judged'), `run and expect print the same ${run.text.split('\n').length - 1} lines of ${file.left ? firstPart(file) : 'this session'}`, true);
     else tell(byId('judged'), 'run and expect differ', false);
   }
 
@@ -121,6 +120,11 @@ export class WiresPane {
     this.log.scroll();
   }
 }
+
+const inWords = ({ events, seconds }) => `${events} event${events === 1 ? '' : 's'} and ${seconds.toFixed(1)} seconds`;
+
+// What the key file of a long session has, and what it leaves out.
+const firstPart = ({ taken, left }) => `the first ${inWords(taken)} of this session, since a key file has at most 65,536 events and 600 seconds; the last ${inWords(left)} are left out`;
 
 // Whole seconds at full speed: each text that changes costs a picture.
 const timeOf = stamp => `${(stamp / CYCLES_OF_A_MS / 1000).toFixed(byId('speed').value === '1' ? 0 : 4)} s`;

@@ -5,7 +5,7 @@ import { readFileSync } from 'node:fs';
 import { gunzipSync } from 'node:zlib';
 import { Program } from '../kbd48.mjs';
 import { LESSONS, PATHS } from '../src/lessons.js';
-import { firstText, judged, nameOf, saidOf } from '../src/course/judged.js';
+import { firstOf, firstText, judged, nameOf, saidOf } from '../src/course/judged.js';
 import { SOLUTIONS } from './solutions.mjs';
 
 const html = readFileSync(process.argv[2], 'utf8'), inPage = id => new RegExp(`id="${id}">(.*?)</script>`, 's').exec(html)[1];
@@ -20,12 +20,15 @@ function used() {
   return (user + system) / 1000;
 }
 
-/** What a check says of a file, as one text; or null if it is right. */
+/** What a check says of a file, as one text; or null if it is right. Whatever is wrong, what was expected differs from what came. */
 function check(lesson, text) {
   const steps = judged(lesson, say, text, files);
   let step;
   do step = steps.next(); while (!step.done);
-  return step.value && saidOf(step.value, faults);
+  if (!step.value) return null;
+  const said = saidOf(step.value, faults), [expected, got] = firstOf(step.value);
+  must(expected && got && expected !== got && step.value.line < Math.max(step.value.expected.length, step.value.got.length), `${said}: expected ${expected}, got ${got}`);
+  return said;
 }
 
 const edited = (answer, edit) => (typeof edit === 'string' ? edit : edit.reduce((text, [from, to]) => {
@@ -63,7 +66,7 @@ for (const [at, lesson] of LESSONS.entries()) {
   counts.wrong += wrong.length + 1;
 }
 // The lessons and docs/OWN-FIRMWARE.md are one text: the page has the document, and the document's table has each lesson's section.
-const manual = JSON.parse(inPage('manual')), sections = [...manual.matchAll(/^## (.*)$/gm)].map(([, title]) => title);
+const { firmware: manual } = JSON.parse(inPage('manual')), sections = [...manual.matchAll(/^## (.*)$/gm)].map(([, title]) => title);
 const listed = new Map([...manual.matchAll(/^\| ([^|]+) \| ([\d, ]+) \|$/gm)].map(([, title, numbers]) => [title, numbers]));
 const wanted = new Map(sections.filter(title => LESSONS.some(it => it.section === title)).map(title => [title, LESSONS.flatMap((it, n) => (it.section === title ? [n + 1] : [])).join(', ')]));
 must(LESSONS.every(it => sections.includes(it.section)), 'a lesson names a section that the document lacks');

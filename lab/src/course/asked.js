@@ -1,18 +1,19 @@
 // What each kind of lesson asks of a file: `judges(say, text, files)` goes on trial by trial, and returns the first thing that is
-// wrong, or null. A refusal of the program's is handed on as { refused }.
+// wrong, or null.
 import { hex } from '../dom.js';
 import { framesSent, stampOf } from './frames.js';
-import { differing, itemsIn, itemsOfBytes, judging } from './judge.js';
+import { differing, itemsIn, itemsOfBytes, judging, unfinished } from './judge.js';
 import { AT_CODES } from './programs.js';
+import { refusedBytes, refusedFile } from './refusal.js';
 import { askedAfter, askedBefore, brokenOff, brokenOffAgain, inFrame, keyFileOf, makeTrials, silences, switchedOff } from './trials.js';
 import { readTrace } from '../vcd.js';
 
 const done = answer => answer.exit === 0;
 
-/** The image of a source, or the program's refusal. */
+/** The image of a source, or what is found of it if the program refuses it. */
 function imageOf(say, text) {
   const made = say(['asm', 'own.asm'], { 'own.asm': text });
-  return done(made) ? { image: made.text } : { refused: made };
+  return done(made) ? { image: made.text } : { refused: refusedFile(made, text) };
 }
 
 /** The layout of keys in column 0, from row 0 on. */
@@ -31,7 +32,7 @@ const frameOf = (say, image, layout, name) => framesOf(say, image, layout, keyFi
 /** Keys that send a byte each when they go down; each in column 0, from row 0 on. */
 export const sendsOnPress = (names, codes) => function* judged(say, text) {
   const { image, refused } = imageOf(say, text), layout = columnOf(names);
-  if (refused) return { refused };
+  if (refused) return refused;
   const first = yield* judging(say, image, layout, [...makeTrials(names, codes), ...silences(names)]);
   if (first) return first;
   const frame = frameOf(say, image, layout, names[0]);
@@ -47,7 +48,7 @@ const FIRST_PLACE = /^(?:[ \t]*(?:;.*)?\n)*[ \t]*ORG[ \t]+0+H?[ \t]*(?:;.*)?\n|^
 /** A program that sends these bytes after power-on does so too if the PC writes before or within the first of them. */
 export const sendsAtAnyTime = (layout, bytes) => function* judgedAtAnyTime(say, text) {
   const { image, refused } = imageOf(say, text.replace(FIRST_PLACE, first => first + LATER));
-  if (refused) return { refused };
+  if (refused) return refused;
   const [frame] = framesOf(say, image, layout, keyFileOf([{ ms: 60, words: 'write64 AE' }]));
   if (!frame) return differing('power-on', 'the bytes on the wires', bytes, []);
   return yield* judging(say, image, layout, [...inFrame([], bytes, frame), ...askedBefore(frame)].map(trial => ({ ...trial, says: `the program begins later, and ${trial.says}` })));
@@ -56,7 +57,7 @@ export const sendsAtAnyTime = (layout, bytes) => function* judgedAtAnyTime(say, 
 /** A program that answers FF with FA and AA sends AA too if the PC breaks it off; and it doesn't send it if the PC wants to write. */
 export const answersAtAnyTime = layout => function* judgedAnswers(say, text) {
   const { image, refused } = imageOf(say, text), lines = [{ ms: 10, words: 'write60 FF' }];
-  if (refused) return { refused };
+  if (refused) return refused;
   const [first, second] = framesOf(say, image, layout, keyFileOf(lines));
   return yield* judging(say, image, layout, [...askedAfter(lines, first), ...inFrame(lines, ['FA', 'AA'], second)]);
 };
@@ -69,7 +70,7 @@ export const both = (first, second) => function* judgedByBoth(...given) {
 /** A program on a board with this layout, in these trials; and then in those that depend on the frame of a key, if one is named. */
 export const doesInTrials = (layout, trials, byKey) => function* judgedInTrials(say, text) {
   const { image, refused } = imageOf(say, text);
-  if (refused) return { refused };
+  if (refused) return refused;
   const first = yield* judging(say, image, layout, trials);
   if (first || !byKey) return first;
   const frame = frameOf(say, image, layout, byKey.name);
@@ -90,8 +91,8 @@ export const columnsOf = columns => `format = 1\n${columns.flatMap((names, colum
 /** Bytes after `words`, whose items are those of one of these lists. */
 export const saysOfBytes = (...lists) => function* judged(say, text) {
   yield { made: 0, of: 1 };
-  const said = say(['words', ...text.trim().split(/\s+/).filter(Boolean)], {});
-  if (!done(said)) return { refused: said };
+  const words = text.trim().split(/\s+/).filter(Boolean), said = say(['words', ...words], {});
+  if (!done(said)) return refusedBytes(said, words);
   const got = itemsIn(said.text, false), found = lists.map(bytes => differing('these bytes', 'what the PC reads', itemsOfBytes(say, bytes), got));
   // The one that agrees for longest says what differs.
   return found.includes(null) ? null : found.reduce((best, it) => (it.line > best.line ? it : best));
@@ -129,12 +130,12 @@ function* usesOfCell(say, image, files, fill) {
 /** The program writes 00 to a cell before it reads it, and gives one log whatever memory holds at power-on. */
 export const writesBeforeRead = (keys, items) => function* judged(say, text) {
   const { image, refused } = imageOf(say, text);
-  if (refused) return { refused };
+  if (refused) return refused;
   const files = { 'own.hex': image, 'board.toml': columnOf(['a']), 'trial.keys': keys };
   for (const [n, fill] of POWER_ON_FILLS.entries()) {
     yield { made: n, of: POWER_ON_FILLS.length };
     const says = `memory holds ${fill} at power-on`, log = say(['board', 'own.hex', 'board.toml', 'trial.keys', '--fill', fill], files);
-    if (!done(log)) return { refused: log };
+    if (!done(log)) return unfinished(says, log);
     const differs = differing(says, 'what the log says', items, itemsIn(log.text, true));
     if (differs) return differs;
     const uses = [...usesOfCell(say, image, files, fill)], read = uses.findIndex(it => it.isRead);
@@ -151,7 +152,7 @@ const TARGET = /^target ([0-9A-F]{3})$/im;
 export const certifies = (imageName, target, place, most) => function* judged(say, text, files) {
   yield { made: 0, of: 1 };
   const said = say(['cert', imageName, 'own.cert'], { [imageName]: files[imageName], 'own.cert': text });
-  if (!done(said)) return { refused: said };
+  if (!done(said)) return refusedFile(said, text);
   const named = TARGET.exec(text)?.[1].toUpperCase(), row = new RegExp(`^${place} (\\d+)(?: (\\d+) \\d)?\\s*$`, 'im').exec(text);
   const got = row ? (row[2] && row[2] !== '0' ? 'a bound that counts a register' : Number(row[1]) > most ? `${row[1]} cycles` : 'that') : 'no line for this place';
   return differing('the certificate', 'the target', [target], [named ?? 'none'])

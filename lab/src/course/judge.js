@@ -1,6 +1,7 @@
 // Judges a program: it makes the run of each trial, and finds the first thing in which one isn't what it must be. `say(words,
 // files)` is the proved program: it answers { exit, text }. What is found has `says`, where it was; `what` is compared; what was
-// `expected` and `got`, line by line, up to the first `line` that differs; and a `trace` with the cycle `at`, if it is of wires.
+// `expected` and `got`, line by line, up to the first `line` that differs; and a `trace` with the cycle `at`, if it is of wires. Of a
+// file that the program refuses it has `refused` in place of the first two (refusal.js).
 import { hex } from '../dom.js';
 import { readTrace } from '../vcd.js';
 import { calmFault, fallsOf, heardFault, stampOf, takenFault } from './frames.js';
@@ -44,6 +45,9 @@ function expectedOf(say, layout, { items, likeModel, bytes, read = bytes, keys, 
   return itemsOfBytes(say, read);
 }
 
+/** What is found if a run isn't made up to its end. */
+export const unfinished = (says, log) => ({ says, what: 'the run', line: 0, expected: ['it goes on to its end'], got: [log.text.trimEnd().split('\n').at(-1)] });
+
 // A fault of the wires as what is found.
 const wireFound = (says, found, trace) => found && {
   says, what: `${found.rule}, at stamp ${stampOf(found.cycle)}`, line: 0, expected: [found.expected], got: [found.got], trace, at: found.cycle,
@@ -52,7 +56,7 @@ const wireFound = (says, found, trace) => found && {
 /** The first thing in which one trial isn't as it must be, or null. */
 export function tried(say, image, layout, trial) {
   const { log, trace } = runOf(say, image, layout, trial), { says, reads = asTheyAre } = trial;
-  if (!trace) return { says, what: 'the run', line: 0, expected: ['it goes on to its end'], got: [log.text.trimEnd().split('\n').at(-1)] };
+  if (!trace) return unfinished(says, log);
   const inOrder = list => (trial.any ? [...list].sort() : list), heard = trace.bytes.filter(it => it.sender === 'keyboard').map(it => hex(it.byte));
   const wires = wireFound(says, trial.calm ? calmFault(trace) : heardFault(trace) ?? (trial.takes ? takenFault(trace) : null), trace);
   const more = { trace, at: trace.edges.at(-1)?.cycle };
