@@ -33,6 +33,8 @@ DOCUMENTS = {"firmware": "OWN-FIRMWARE.md", "instructions": "INSTRUCTIONS.md"}
 NAME = re.compile(r"^(?:async )?(?:class|function\*?) ([A-Za-z_]\w*)", re.MULTILINE)
 # A line may begin several constants.
 LINE, CONSTANT = re.compile(r"^(?:const|let) .*$", re.MULTILINE), re.compile(r"(?:^const|^let|,) ([A-Za-z_]\w*) = ")
+# The parts of a value that get names: `const { one, two: TWO } = ..` or `const [one, two] = ..`.
+TAKEN_APART, PART = re.compile(r"^(?:const|let) [{\[]([^}\]=]*)[}\]] = ", re.MULTILINE), re.compile(r"([A-Za-z_]\w*)(?=\s*(?:,|$))")
 IMPORT = re.compile(r"^import [^;]*? from '(\.[^']+)';\n", re.MULTILINE)
 
 
@@ -54,7 +56,8 @@ def modules_in_order(entry: Path, done: list[Path]) -> list[Path]:
 def names_of(script: str) -> list[str]:
     """The names at the top of a script."""
     constants = [name for line in LINE.findall(script) for name in CONSTANT.findall(line)]
-    return [*NAME.findall(script), *constants]
+    parts = [name for taken in TAKEN_APART.findall(script) for name in PART.findall(taken)]
+    return [*NAME.findall(script), *constants, *parts]
 
 
 def script() -> str:

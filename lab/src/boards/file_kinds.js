@@ -2,7 +2,7 @@
 import { Refused } from './refused.js';
 import { TABLES } from './tables.js';
 
-const { bytes: BY_BYTES, wide: WIDE, texts: BY_TEXTS } = TABLES.kinds;
+const { bytes: BY_BYTES, wide: WIDE_TEXT, texts: BY_TEXTS } = TABLES.kinds;
 const WIDE_FROM = 4, WIDE_TO = 64; // bytes that show that a text is UTF-16
 const READ_HERE = ['json', 'keymap'];
 const KIND_FORMS = BY_TEXTS.map(entry => ({ ...entry, form: new RegExp(entry.form, 'mi') }));
@@ -18,7 +18,7 @@ function isWide(bytes) {
 /** What a file's first bytes say of it, in words; or null. */
 function kindOfBytes(bytes, name) {
   const begin = Array.from(bytes.slice(0, 4), byte => byte.toString(16).padStart(2, '0').toUpperCase()).join('');
-  const found = BY_BYTES.find(entry => begin.startsWith(entry.begins)) ?? (isWide(bytes) ? WIDE : null);
+  const found = BY_BYTES.find(entry => begin.startsWith(entry.begins)) ?? (isWide(bytes) ? WIDE_TEXT : null);
   return found ? said(found, name) : null;
 }
 
