@@ -226,7 +226,7 @@ export class Live {
       out: { keys, taken, left }, each of the last two with events and with seconds. `left` is null if nothing is left out. */
   keyFile() {
     const { events, stamp } = this, late = events.findIndex(it => it.stamp >= LAST_STAMP), inTime = late < 0 ? events.length : late;
-    const many = Math.min(inTime, MOST_EVENTS - 1); // `end` is one too
+    const many = Math.min(inTime, MOST_EVENTS);
     const end = Math.max(1, Math.min(LAST_STAMP, many < inTime ? events[many].stamp : stamp));
     const keys = [...events.slice(0, many).map(({ stamp: at, words }) => `${at} ${words}`), `${end} end`, ''].join('\n');
     const left = { events: events.length - many, seconds: secondsOf(Math.max(0, stamp - end)) };

@@ -3,16 +3,11 @@
 import { Program } from '../kbd48.mjs';
 import { readTrace } from './vcd.js';
 
-/** In a worker: answers each call { number, words, files } with { number, exit, text }, and the edges and bytes of a trace. The first message
-    is the module. */
+/** In a worker: answers each call { number, words, files } with { number, exit, text }, and the edges and bytes of a trace; or with
+    { number, failed }, which says why there is no answer. The first message is the module. */
 export function serveRuns(scope) {
-  let program = null;
-  scope.onmessage = async ({ data }) => {
-    if (data instanceof Uint8Array) {
-      program = Program.load(data);
-      return;
-    }
-    const { number, words, files } = data, { exit, text } = (await program).run(words, files);
+  let module = null, program = null;
+  const answer = ({ number, words, files }, { exit, text }) => {
     const traced = exit === 0 && text.startsWith('$timescale') ? readTrace(text) : null;
     if (!traced) {
       scope.postMessage({ number, exit, text });
@@ -21,6 +16,19 @@ export function serveRuns(scope) {
     // As two arrays, which cost the page nothing to take.
     const cycles = Float64Array.from(traced.edges, it => it.cycle), levels = Uint8Array.from(traced.edges, it => it.levels);
     scope.postMessage({ number, exit, text, traced: { cycles, levels, bytes: traced.bytes, cycle: traced.cycle } }, [cycles.buffer, levels.buffer]);
+  };
+  scope.onmessage = async ({ data }) => {
+    if (data instanceof Uint8Array) {
+      module = data;
+      return;
+    }
+    try {
+      program ??= await Program.load(module);
+      answer(data, program.run(data.words, data.files));
+    } catch (error) {
+      program = null;
+      scope.postMessage({ number: data.number, failed: error.message });
+    }
   };
 }
 

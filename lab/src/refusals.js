@@ -5,6 +5,7 @@ export const EXIT = { DONE: 0, WORDS: 2, INPUT: 3, TIMING: 4, READ: 5, WRITE: 6,
 /** What a refusal says, and the line of a file that it names, with the fault's number: { kind, words, line, number } or null. `faults` has the words of each kind
     of file's faults, by number. */
 export function explanationOf(answer, faults) {
+  if (answer.failed) return { words: `the browser could not finish this run: ${answer.failed}` };
   const faultText = (kind, number) => faults[kind]?.[number] ?? `fault ${number}`;
   const text = answer.text.trimEnd(), last = text.slice(text.lastIndexOf('\n') + 1);
   let found = /^input: (\w+) line (\d+) fault (\d+)/.exec(last);

@@ -2,6 +2,7 @@
 import { byId } from './dom.js';
 import { files } from './files.js';
 import { kbd48 } from './program.js';
+import { EXIT } from './refusals.js';
 import { readTrace } from './vcd.js';
 
 const END_OF_WORKER = '/* The end of what a worker runs. */';
@@ -46,7 +47,8 @@ class Runs {
     return this.worker;
   }
 
-  /** What the program answers: { exit, text, bytes, traced }, at once or later; or undefined if somebody stopped the run. */
+  /** What the program answers: { exit, text, bytes, traced }, at once or later; or undefined if somebody stopped the run. A long run
+      that the browser has no room for has `failed`, which says so. */
   run(words, more = {}) {
     const all = { ...files, ...more };
     return isLong(words, all) && this.#start() ? this.#later(words, more, all) : this.#now(words, more);
@@ -59,8 +61,8 @@ class Runs {
 
   // Hands each answer to the call that it is of. `waiting` has the calls without an answer, by their numbers.
   #listen(worker) {
-    worker.onmessage = ({ data: { number, exit, text, traced } }) => this.#end(number, () =>
-      answerOf(exit, text, traced && { ...traced, edges: new TracedEdges(traced) }));
+    worker.onmessage = ({ data: { number, exit, text, traced, failed } }) => this.#end(number, () =>
+      (failed ? { ...answerOf(EXIT.MEMORY, ''), failed } : answerOf(exit, text, traced && { ...traced, edges: new TracedEdges(traced) })));
     // A browser may let this page have no worker: then the runs are made at once.
     worker.onerror = event => {
       event.preventDefault();

@@ -57,6 +57,11 @@ export async function open(program, url, [width, height], media = {}) {
     async control(code) {
       for (const type of ['keyDown', 'keyUp']) await key(type, code, { modifiers: CONTROL });
     },
+    /** Presses a key so many times. */
+    async presses(code, times, isShifted = false) {
+      const modifiers = isShifted ? SHIFT : 0;
+      await Promise.all(Array.from({ length: times }, () => ['keyDown', 'keyUp'].map(type => key(type, code, { modifiers }))).flat());
+    },
     async tabBack() {
       for (const type of ['keyDown', 'keyUp']) await key(type, 'Tab', { modifiers: SHIFT });
     },

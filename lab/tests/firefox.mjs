@@ -74,6 +74,10 @@ export async function open(program, url, [width, height], media = {}) {
       if (isEnter) await said('if (globalThis.entered?.matches("button, summary")) entered.click(); 0');
     },
     control: code => chord(KEYS.ControlLeft, keyOf(code)),
+    async presses(code, times, isShifted = false) {
+      const strokes = Array.from({ length: times }, () => ['keyDown', 'keyUp'].map(type => ({ type, value: keyOf(code) }))).flat(), shift = type => (isShifted ? [{ type, value: KEYS.ShiftLeft }] : []);
+      if (times) await act('keys', 'key', [...shift('keyDown'), ...strokes, ...shift('keyUp')]);
+    },
     tabBack: () => chord(KEYS.ShiftLeft, KEYS.Tab),
     mouse: pointer('mouse', 'mouse'),
     touch: pointer('finger', 'touch'),

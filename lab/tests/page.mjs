@@ -79,12 +79,15 @@ try {
   const boards = await part('every board', () => keyboard.everyBoard(browser, answers));
   await part('as the board has them', () => keyboard.asTheBoardHasThem(browser, shot, join(examples, 'boards')));
   await part('board files', () => keyboard.boardFiles(browser, shot, join(examples, 'boards')));
+  await part('options of a board', () => keyboard.boardOptions(browser, shot, join(examples, 'boards')));
+  await part('a layout of mine', () => keyboard.keepsMine(browser, join(examples, 'boards')));
   await part('broken files', () => workbench.brokenFiles(browser, folder));
   await part('share link', () => workbench.shareLink(browser, url));
   const lessons = await part('lessons', () => lessonParts.lessons(browser, shot));
   await part('differences', () => lessonParts.differences(browser, shot));
   await part('paths', () => lessonParts.paths(browser, shot));
   await part('link', () => lessonParts.link(browser));
+  await part('instructions', () => lessonParts.instructions(browser, shot));
   await part('sheets', () => lessonParts.sheets(browser, shot));
   await part('by keyboard', () => lessonParts.byKeyboard(browser));
   await part('contrast of the lessons', () => look.contrast(browser));
@@ -99,7 +102,7 @@ try {
   const load = await part('load', () => look.loads(browser));
   await part('phones', () => look.phones(browser, shot));
   await part('fingers', () => screens.fingers(browser));
-  await part('first window', () => screens.firstWindow(browser));
+  await part('first window', () => screens.firstWindow(browser, url));
   await part('where keys go', () => screens.whereKeysGo(browser));
   await part('screen readers', () => screens.readers(browser));
   await part('tour', () => screens.tour(browser));

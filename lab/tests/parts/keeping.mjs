@@ -151,11 +151,37 @@ export async function edges(browser, url) {
     return events.map(event => event.defaultPrevented); })()`);
   assert.deepEqual(await dropped('dropped.keys'), [true, true], 'the page takes what is dropped');
   await browser.until('document.getElementById("file").value === "dropped.keys"');
+  await cutSessions(browser);
+}
+
+const MOST_EVENTS = 65_536, LONGEST = 240_000_000; // stamps
+
+// A session that is longer than a key file may be: the page says what its key file has and what it leaves out, and the program takes
+// that key file as it is, but none with an event more.
+async function cutSessions(browser) {
+  const session = (stamps, at) => browser.evaluate(`(() => {
+    const { live } = lab, { events, cycle } = live;
+    live.events = ${stamps}.map((stamp, n) => ({ stamp, words: n % 2 ? 'release a' : 'press a' }));
+    live.cycle = ${at} + 4096;
+    document.getElementById('session').click();
+    Object.assign(live, { events, cycle });
+    return [document.getElementById('judged').textContent, lab.files['session.keys'].trimEnd().split('\\n').length];
+  })()`);
+  const accepted = change => browser.evaluate(`lab.program.run(['debug', 'us84.toml', 'session.keys', 'one.script'], { 'us84.toml': lab.files['us84.toml'], 'one.script': 'step 1\\n', 'session.keys': (${change})(lab.files['session.keys']) })`);
+  const asItIs = 'keys => keys';
   await browser.only('wires');
-  await browser.evaluate('lab.live.events.push({ stamp: 240000001, words: "press a" }); globalThis.cycle = lab.live.cycle; lab.live.cycle = 240005000; document.getElementById("session").click(); lab.live.cycle = cycle; lab.live.events.pop(); 0');
-  await browser.says('judged', /session\.keys is in the workbench; it has the first part of this session, as long as a key file may be/);
-  assert.match(await browser.evaluate('lab.files["session.keys"]'), /\n?240000000 end\n$/);
-  assert.equal(await browser.evaluate('(it => it.run(["expect", "us84.toml", "session.keys"], { "us84.toml": lab.files["us84.toml"], "session.keys": lab.files["session.keys"].replace("240000000 end", "240000 end") }).exit)(lab.program)'), 0);
+  let [said, lines] = await session('[4000, 8000, 239990000, 240000000, 240100000]', LONGEST + 5000 * 400);
+  assert.equal(said, 'session.keys is in the workbench; it has the first 3 events and 600.0 seconds of this session, since a key file has at most 65,536 events and 600 seconds; the last 2 events and 5.0 seconds are left out');
+  assert.equal(lines, 4);
+  assert.deepEqual((await accepted(asItIs)).exit, 0, '600 seconds');
+  assert.notEqual((await accepted(`keys => keys.replace('${LONGEST} end', '${LONGEST + 1} end')`)).exit, 0, 'no key file is longer');
+  [said, lines] = await session(`Array.from({ length: ${MOST_EVENTS + 100} }, (_, n) => 4000 + 3000 * n)`, 4000 + 3000 * (MOST_EVENTS + 100));
+  assert.match(said, /it has the first 65536 events and 491\.5 seconds of this session, .*; the last 100 events and 0\.8 seconds are left out$/);
+  assert.equal(lines, MOST_EVENTS + 1, 'the events and the end');
+  assert.equal((await accepted(asItIs)).exit, 0, '65,536 events');
+  assert.notEqual((await accepted(`keys => keys.replace(/(\\d+) end/, '$1 release a\\n$1 end')`)).exit, 0, 'no key file has more events');
+  [said, lines] = await session('[4000, 8000]', 400_000);
+  assert.deepEqual([said, lines], ['session.keys is in the workbench', 3]);
 }
 
 /** A hand-in has the files of the lessons; the teacher's page checks each anew, whatever the hand-in says. */

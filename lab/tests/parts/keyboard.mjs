@@ -207,6 +207,75 @@ export async function boardFiles(browser, shot, boards) {
   await browser.says('answer', /^key +column,row +switch/);
 }
 
+/** Whatever is said of a board, its keys may be changed: one sends something else, is left out, is Fn, or none is; and that may be
+    taken back. */
+export async function boardOptions(browser, shot, boards) {
+  const layout = name => browser.evaluate(`lab.files[${JSON.stringify(name)}]`), option = (list, value) => browser.evaluate(`{ const it = document.querySelectorAll('.board-options select')[${list}]; it.value = ${JSON.stringify(value)}; it.dispatchEvent(new Event('change')); }; 0`);
+  const open = () => browser.evaluate('document.querySelector(".board-options").open = true');
+  await browser.only('keyboard');
+  await browser.choose('#open-board', [join(boards, '../sixty.json')]);
+  await browser.says('board-told', /sixty\.toml is made of sixty\.json/);
+  const first = await layout('sixty.toml');
+  await open();
+  assert.ok(await browser.evaluate('[...document.querySelectorAll(".board-options button")].every(it => it.disabled === (it.textContent !== "No key is Fn"))'), 'nothing is chosen yet');
+  await option(0, '1,1');
+  await option(1, 'esc');
+  await shot('board_options');
+  await browser.pressed('board-told', 'Let it send this');
+  await browser.says('board-told', /by --key: esc \(row 1, key 1\)/);
+  assert.match(await layout('sixty.toml'), /key = "esc"\ncolumn = 0\nrow = 0/);
+  await browser.pressed('board-told', 'Take back --key 1,1=esc');
+  await browser.until(`lab.files['sixty.toml'] === ${JSON.stringify(first)}`);
+  await open();
+  await option(0, '1,2');
+  await browser.pressed('board-told', 'Leave it out');
+  await browser.says('board-told', /left out by --without: row 1, key 2/);
+  await browser.choose('#open-board', ['keyboard.json', 'keymap.json'].map(name => join(boards, 'ortho48', name)));
+  await browser.says('board-told', /keyboard\.toml is made of keyboard\.json and keymap\.json\./);
+  const stored = readFileSync(join(boards, 'ortho48.toml'), 'utf8'), fn = /key = "(\w+)"\ncolumn = (\d+)\nrow = (\d+)\nfn = true/.exec(stored);
+  assert.equal(await layout('keyboard.toml'), stored);
+  await browser.pressed('board-told', 'No key is Fn');
+  await browser.until('!/fn = true/.test(lab.files["keyboard.toml"])');
+  await open();
+  const others = await browser.evaluate('[...document.querySelector(".board-options select").options].filter(it => /MO\\(|LT\\(/.test(it.textContent)).map(it => it.value)');
+  assert.ok(fn && others.length > 0, `${others} may be Fn`);
+  for (const number of others) {
+    await open();
+    await option(0, number);
+    await browser.pressed('board-told', 'Make it Fn');
+    await browser.until(`document.getElementById('board-told').textContent.includes('Take back --fn ${number}')`);
+    assert.match(await layout('keyboard.toml'), /fn = true/);
+    assert.ok(!(await browser.textOf('board-told')).includes('--no-fn'), 'one option takes the place of the other');
+  }
+  await browser.put('layout', 'us84.toml');
+}
+
+/** A layout that was made of a board and then changed stays, or is replaced, as its owner says. */
+export async function keepsMine(browser, boards) {
+  const answer = async id => {
+    await browser.choose('#open-board', [join(boards, 'editor/german.json')]);
+    await browser.until('document.getElementById("ask").open');
+    assert.match(await browser.textOf('ask-text'), /This board has german\.toml too, which you have changed/);
+    await browser.click(`#${id}`);
+    await browser.until('!document.getElementById("ask").open');
+  };
+  await browser.only('keyboard');
+  await browser.choose('#open-board', [join(boards, 'editor/german.json')]);
+  await browser.says('board-told', /german\.toml is made of german\.json/);
+  const made = await browser.evaluate('lab.files["german.toml"]'), mine = `${made}# mine\n`;
+  await browser.evaluate('lab.workbench.open("german.toml")');
+  await browser.put('text', mine);
+  await answer('ask-no');
+  await browser.says('board-told', /^german\.toml stays as you have changed it/);
+  assert.equal(await browser.evaluate('lab.files["german.toml"]'), mine);
+  await answer('ask-yes');
+  await browser.says('board-told', /^german\.toml is made of german\.json/);
+  assert.equal(await browser.evaluate('lab.files["german.toml"]'), made);
+  await browser.evaluate('document.getElementById("undo").click()');
+  assert.equal(await browser.evaluate('lab.files["german.toml"]'), mine, 'undo brings the changed one back');
+  await browser.put('layout', 'us84.toml');
+}
+
 /** A board's own legends are drawn, with what the PC makes of a key; turned keys are drawn turned, and within the board. */
 export async function asTheBoardHasThem(browser, shot, boards) {
   const textOfKey = name => browser.evaluate(`document.querySelector('[data-key=${name}]').textContent`);

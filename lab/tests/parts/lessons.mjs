@@ -11,7 +11,7 @@ const checks = async (browser, text, form) => {
   await browser.says('lesson-result', form);
 };
 
-/** Each lesson's first file fails its check with two hints beside it, a wrong solution fails it and the answer passes. */
+/** Each lesson's first file fails its check with two hints beside it, and wrong solutions fail it. */
 export async function lessons(browser, shot) {
   await browser.only('lessons');
   const many = await browser.evaluate('document.querySelectorAll("#lesson-list button").length');
@@ -26,15 +26,14 @@ export async function lessons(browser, shot) {
       await checks(browser, text, /^Not yet/);
       await browser.says('lesson-result', says);
     }
-    await checks(browser, answer, /^Done/);
-    assert.ok(await browser.evaluate('document.getElementById("lesson-differs").hidden && document.getElementById("lesson-wave").hidden'));
   }
-  assert.equal(await browser.evaluate('document.querySelectorAll("#lesson-list .done").length'), many);
+  assert.equal(await browser.evaluate('document.querySelectorAll("#lesson-list .done").length'), 0);
   return many;
 }
 
 /** A wrong answer shows what was expected beside what came; if it is about the wires, their picture too. */
 export async function differences(browser, shot) {
+  await browser.only('lessons');
   await browser.evaluate('lab.lessons.open(0)');
   const answer = readFileSync(new URL('../../answers/lesson1.asm', import.meta.url), 'utf8');
   await checks(browser, answer.replace('DB 29H', 'DB 1CH'), /^Not yet: key a goes down and up: what the PC reads: expected port 39, got port 1E$/);
@@ -46,12 +45,28 @@ export async function differences(browser, shot) {
   const drawn = await browser.evaluate('(it => { const { data } = it.getContext("2d").getImageData(0, 0, it.width, it.height); return new Set(new Uint32Array(data.buffer)).size; })(document.getElementById("lesson-wave"))');
   assert.ok(drawn > 2, 'the wires are drawn');
   await shot('lessons');
-  await checks(browser, 'MOV B,A\n', /^Not yet: line 1: the instruction has no such operands/);
+  await refusals(browser, answer);
   // Whoever opens another lesson while one is checked hears nothing of it there.
   await browser.put('lesson-file', answer);
   await browser.evaluate('document.getElementById("lesson-check").click(); lab.lessons.open(3)');
   await browser.wait(1500);
   assert.equal(await browser.textOf('lesson-result'), '');
+}
+
+// What the program refuses has what was expected and what came too: a source, a list of bytes, a certificate.
+async function refusals(browser, answer) {
+  const refused = async (number, text, form, expected, got) => {
+    await browser.evaluate(`lab.lessons.open(${number - 1})`);
+    await checks(browser, text, form);
+    assert.deepEqual([await browser.textOf('lesson-expected'), await browser.textOf('lesson-got')], [expected, got]);
+    assert.ok(await browser.evaluate('document.getElementById("lesson-got").checkVisibility() && document.getElementById("lesson-wave").hidden'));
+  };
+  const certificate = readFileSync(new URL('../../answers/lesson8.cert', import.meta.url), 'utf8').replace('01D 398', '01D 397');
+  await refused(4, '12 1C ZZ F0', /^Not yet: /, '  12\n  1C\n> a byte: two hexadecimal digits', '  12\n  1C\n> ZZ');
+  await refused(8, certificate, /^Not yet: line 2: the bound is too small/, '  1 target 057\n> 2 a bound that is at least that of each place that can follow, plus the cycles of this instruction', '  1 target 057\n> 2 01D 397');
+  await refused(1, 'MOV A,#1\nMOV B,A\n', /^Not yet: line 2: the instruction has no such operands/, '  1 MOV A,#1\n> 2 an instruction with operands that it takes', '  1 MOV A,#1\n> 2 MOV B,A');
+  await refused(1, 'JMP nowhere\n', /^Not yet: line 1: no line defines/, '> 1 names that some line defines', '> 1 JMP nowhere');
+  await browser.put('lesson-file', answer);
 }
 
 const MOST_TABS = 80;
@@ -68,28 +83,28 @@ async function press(browser, selector) {
   await browser.write('\n');
 }
 
-// In the open lesson's file the code of the first key, in the last line, becomes another.
-async function firstCode(browser, code) {
-  await browser.control('End');
-  await browser.stroke('ArrowUp', 5);
-  for (let count = 0; count < 'bytes:  DB '.length; count++) await browser.stroke('ArrowRight', 5);
-  for (let count = 0; count < code.length; count++) await browser.stroke('Delete', 5);
-  await browser.write(code);
+// A solution without what its comments say, since it is typed.
+const withoutComments = line => line.replace(/\s*;.*$/, '').replace(/ +/g, ' ');
+
+/** Makes the open lesson's file this text, or one that differs in its comments alone: the lines that differ are selected and typed. */
+async function typeOver(browser, text) {
+  const from = (await browser.valueOf('lesson-file')).split('\n'), to = text.split('\n'), most = Math.min(from.length, to.length);
+  let same = 0, sameAtEnd = 0;
+  while (same < most && from[same] === to[same]) same++;
+  while (sameAtEnd < most - same && from.at(-1 - sameAtEnd) === to.at(-1 - sameAtEnd)) sameAtEnd++;
+  const typed = to.slice(same, to.length - sameAtEnd).map(withoutComments);
+  await browser.control('Home');
+  await browser.presses('ArrowDown', same);
+  await browser.presses('ArrowDown', from.length - same - sameAtEnd, true);
+  await browser.write(typed.map(line => `${line}\n`).join(''));
+  const whole = [...to.slice(0, same), ...typed, ...to.slice(to.length - sameAtEnd)].join('\n');
+  await browser.until(`document.getElementById('lesson-file').value === ${JSON.stringify(whole)}`);
 }
 
-async function wholeText(browser, text) {
-  await browser.control('KeyA');
-  await browser.write(text);
-}
+const LAST_LESSON = 20;
 
-// How lessons are edited by keys: into something wrong, and into what is right. The others of the path are checked as they are.
-const EDITS = {
-  1: [browser => firstCode(browser, '39'), browser => firstCode(browser, '29')],
-  4: [browser => wholeText(browser, '12 1C F0 1C'), browser => wholeText(browser, '12 1C F0 1C F0 12')],
-};
-
-/** By the keyboard alone: a path is chosen and a lesson, its file is changed and checked, the first difference is read, the file is
-    repaired, and the next lesson follows, up to the end of the path. */
+/** The whole course by the keyboard alone: the path is chosen and its first lesson; then each lesson is begun again and checked, the
+    first difference is read, the file is edited into a solution and accepted, and the next lesson follows, up to the end. */
 export async function byKeyboard(browser) {
   await browser.only('keyboard');
   await browser.evaluate('document.querySelector("#panes button").focus()');
@@ -97,37 +112,37 @@ export async function byKeyboard(browser) {
   await browser.until('document.getElementById("lessons").checkVisibility()');
   await browser.evaluate('lab.show("keyboard", false)');
   await tabTo(browser, '#path');
-  for (let count = 0; count < 2; count++) await browser.stroke('ArrowDown', 5);
-  await browser.until('document.getElementById("path").value === "an hour"');
-  const path = await browser.evaluate('[...document.querySelectorAll("#lesson-list button")].map(it => Number(it.dataset.lesson))');
-  assert.deepEqual(path, [1, 4, 2, 3]);
+  for (const path of ['a day', 'an hour']) {
+    await browser.stroke('ArrowDown', 5);
+    await browser.until(`document.getElementById("path").value === ${JSON.stringify(path)}`);
+  }
+  assert.deepEqual(await browser.evaluate('[...document.querySelectorAll("#lesson-list button")].map(it => Number(it.dataset.lesson))'), [1, 4, 2, 3]);
+  for (let count = 0; count < 2; count++) await browser.stroke('ArrowUp', 5);
+  await browser.until('document.getElementById("path").value === "a term"');
   await press(browser, '#lesson-list [data-lesson="1"]');
-  for (const [at, number] of path.entries()) {
+  for (let number = 1; number <= LAST_LESSON; number++) {
     await browser.until(`lab.lessons.number === ${number - 1}`);
     await press(browser, '#lesson-reset');
     await browser.wait(100);
     if (await browser.evaluate('document.getElementById("ask").open')) await press(browser, '#ask-yes');
-    const [wrong, right] = EDITS[number] ?? [];
-    if (wrong) {
-      await tabTo(browser, '#lesson-file', true);
-      await wrong(browser);
-    }
     await press(browser, '#lesson-check');
     await browser.says('lesson-result', /^Not yet/);
-    await tabTo(browser, '#lesson-expected');
-    assert.match(await browser.textOf('lesson-expected'), /^> /m);
-    await tabTo(browser, '#lesson-got');
-    if (right) {
-      await tabTo(browser, '#lesson-file', true);
-      await right(browser);
-      await press(browser, '#lesson-check');
-      await browser.says('lesson-result', /^Done/);
-    } else await tabTo(browser, '#lesson-check', true);
-    if (at === path.length - 1) break;
+    for (const side of ['expected', 'got']) {
+      await tabTo(browser, `#lesson-${side}`);
+      assert.match(await browser.textOf(`lesson-${side}`), /^> ./m, `lesson ${number}: what was ${side}`);
+    }
+    assert.notEqual(await browser.textOf('lesson-expected'), await browser.textOf('lesson-got'));
+    await tabTo(browser, '#lesson-file', true);
+    await typeOver(browser, readFileSync(new URL(`../../answers/${await browser.evaluate('lab.lessons.name')}`, import.meta.url), 'utf8'));
+    await press(browser, '#lesson-check');
+    await browser.says('lesson-result', /^Done/);
+    assert.ok(await browser.evaluate('document.getElementById("lesson-differs").hidden && document.getElementById("lesson-wave").hidden'));
+    if (number === LAST_LESSON) break;
     await press(browser, '#lesson-next');
     await browser.until('document.activeElement.id === "lesson-title"');
   }
   assert.ok(await browser.evaluate('document.getElementById("lesson-next").hidden'), 'the path has an end');
+  assert.equal(await browser.evaluate('document.querySelectorAll("#lesson-list .done").length'), LAST_LESSON);
 }
 
 /** Each path has its lessons with their own numbers, and each lesson the section of the document that says more. */
@@ -144,6 +159,24 @@ export async function paths(browser, shot) {
   await browser.evaluate('lab.lessons.open(2); document.getElementById("lesson-more").open = true');
   assert.ok(await browser.evaluate('document.querySelectorAll("#lesson-more tr").length > 8 && document.querySelector("#lesson-more tbody td").textContent === "0"'), 'a table of the document is one of the page');
   await browser.evaluate('document.getElementById("lesson-more").open = false');
+}
+
+/** The instructions for beginners are in the page, with the flags that each changes, as the document has them. */
+export async function instructions(browser, shot) {
+  const document = readFileSync(new URL('../../../docs/INSTRUCTIONS.md', import.meta.url), 'utf8');
+  const rows = [...document.matchAll(/^\| (`.*) \| (.*) \| ([12]) \| (.*) \|$/gm)].map(([, ...cells]) => cells.map(cell => cell.replaceAll('`', '')));
+  assert.ok(rows.length > 50 && rows.some(([name, , , flags]) => name === 'DA A' && flags === 'C'), `${rows.length} rows`);
+  await browser.only('lessons');
+  await browser.click('#instructions summary');
+  const seen = await browser.evaluate('[...document.querySelectorAll("#instructions tbody tr")].map(row => [...row.cells].map(it => it.textContent)).filter(row => row.length === 4)');
+  assert.deepEqual(seen, rows);
+  assert.ok(await browser.evaluate('document.querySelector("#instructions table").checkVisibility()'));
+  await shot('instructions');
+  await browser.click('#instructions summary');
+  await browser.evaluate('globalThis.printed = 0; globalThis.print = () => { printed++; }; 0');
+  await browser.click('#print-instructions');
+  assert.deepEqual(await browser.evaluate('[printed, document.querySelectorAll(".sheet").length, document.querySelectorAll(".sheet tbody tr").length === document.querySelectorAll("#instructions tbody tr").length]'), [1, 1, true]);
+  await browser.evaluate('dispatchEvent(new Event("afterprint"))');
 }
 
 /** The sheets for the printer: each lesson's text, its program and lines to write on, and nothing of the page around them. */

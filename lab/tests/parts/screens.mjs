@@ -11,10 +11,13 @@ const NARROW = [360, 800];
 const presses = browser => browser.evaluate('lab.live.events.filter(it => it.words.startsWith("press ")).length');
 const selfTested = browser => browser.until('lab.live.stamp > 200000');
 
-/** On a small laptop the wires are in sight below the keyboard, whatever font there is; nothing lies over them or is pushed out. */
-export async function firstWindow(browser) {
+/** On a small laptop the wires are in sight below the keyboard when the page is opened, whatever font there is; nothing lies over them
+    or is pushed out. */
+export async function firstWindow(browser, url) {
   await browser.size(SMALL, 1, false);
-  await browser.evaluate('for (const name of ["keyboard", "wires"]) lab.show(name, true, false); for (const name of ["processor", "workbench", "lessons"]) lab.show(name, false); scrollTo(0, 0)');
+  await browser.go(`${url}#first`);
+  await browser.ready();
+  assert.deepEqual(await browser.evaluate('[scrollY, ...["keyboard", "wires", "processor", "workbench", "lessons"].map(id => document.getElementById(id).checkVisibility())]'), [0, true, true, false, false, false]);
   for (const [family, spacing] of FONTS) {
     await browser.evaluate(`Object.assign(document.documentElement.style, { fontFamily: '${family}', letterSpacing: '${spacing}' }); 0`);
     const named = `with ${family}, ${spacing}`, [top, bottom] = await browser.evaluate('(it => [it.top, it.bottom])(document.getElementById("wave").getBoundingClientRect())');
@@ -28,9 +31,17 @@ export async function firstWindow(browser) {
   await browser.size(null);
 }
 
-/** It is said where keys go; a click on a button of the PC's leaves the focus, and letters that nothing has the focus for are typed. */
+const focusOn = async (browser, what) => {
+  await browser.evaluate(`${what}; document.dispatchEvent(new FocusEvent('focusin'))`);
+};
+const focusNothing = browser => focusOn(browser, 'document.activeElement.blur()');
+const hasFocus = browser => browser.evaluate('document.activeElement.id');
+const pressed = (browser, name) => browser.evaluate(`lab.live.events.filter(it => it.words === 'press ${name}').length`);
+
+/** It is said where keys go; a click on a button of the PC's leaves the focus; what nobody else takes is typed. */
 export async function whereKeysGo(browser) {
-  await browser.evaluate('scrollTo(0, 0); document.getElementById("board").focus(); document.dispatchEvent(new FocusEvent("focusin"))');
+  await selfTested(browser);
+  await focusOn(browser, 'scrollTo(0, 0); document.getElementById("board").focus()');
   await browser.says('keys-go', /^your keys go to the keyboard below$/);
   const asked = () => browser.evaluate('lab.live.bytes.filter(it => it.sender === "host" && it.byte === 0xEE).length');
   const before = await asked(), echo = await browser.evaluate('(it => { it.id = "echo"; return it.textContent; })([...document.querySelectorAll("#commands button")].find(it => it.textContent.startsWith("EE")))');
@@ -40,14 +51,81 @@ export async function whereKeysGo(browser) {
   await browser.stroke('Space');
   await browser.says('screen', / ▁$/);
   assert.equal(await asked(), before + 1, 'a space isn\'t another EE');
-  await browser.evaluate('document.getElementById("any-byte").focus(); document.dispatchEvent(new FocusEvent("focusin"))');
-  await browser.says('keys-go', /^your keys go to: any byte/);
-  await browser.evaluate('document.activeElement.blur(); document.dispatchEvent(new FocusEvent("focusin"))');
-  await browser.says('keys-go', /^click the keyboard/);
+  await unfocused(browser);
+  await controls(browser);
+  await farAway(browser);
+}
+
+const SHIFT = { key: 'Shift' }, CAPITAL = { modifiers: 8 };
+
+// While nothing has the focus, keys that type are typed; Shift leaves the focus, because Shift and Tab go back.
+async function unfocused(browser) {
+  await focusNothing(browser);
+  await browser.says('keys-go', /^what you type goes to the keyboard below$/);
+  await browser.down('ShiftLeft', SHIFT);
+  await browser.until('document.querySelector("[data-key=lshift]").classList.contains("down")');
+  assert.notEqual(await hasFocus(browser), 'board');
+  await browser.down('KeyQ', { ...CAPITAL, key: 'Q' });
+  await browser.up('KeyQ', { ...CAPITAL, key: 'Q' });
+  await browser.up('ShiftLeft', SHIFT);
+  await browser.says('screen', /Q+▁$/);
+  assert.equal(await hasFocus(browser), 'board');
+  await browser.until('!document.querySelector("#board .down")');
+  await focusNothing(browser);
+  await browser.down('ShiftRight', SHIFT);
+  await browser.up('ShiftRight', SHIFT);
+  await browser.until('lab.live.events.some(it => it.words === "release rshift")');
+  assert.notEqual(await hasFocus(browser), 'board', 'Shift alone takes no focus');
+  for (const [code, name, form] of [['Enter', 'enter', /Q+\n+▁$/], ['Backspace', 'backspace', /Q+▁$/], ['Escape', 'esc', /▁$/], ['CapsLock', 'caps', /▁$/], ['CapsLock', 'caps', /▁$/]]) {
+    await focusNothing(browser);
+    const many = await pressed(browser, name);
+    await browser.stroke(code, 30, { key: code });
+    await browser.until(`lab.live.events.filter(it => it.words === 'release ${name}').length > ${many}`);
+    await browser.says('screen', form);
+    assert.equal(await hasFocus(browser), 'board', code);
+  }
+  // What scrolls the page, or is a command of the browser's, stays the browser's.
+  await focusNothing(browser);
+  const many = await presses(browser), others = [['PageDown', {}], ['ArrowDown', {}], ['Home', {}], ['Tab', {}], ['F5', {}], ['r', { ctrlKey: true }], ['d', { altKey: true }], ['l', { metaKey: true }]];
+  const kept = await browser.evaluate(`${JSON.stringify(others)}.map(([key, more]) => { const event = new KeyboardEvent('keydown', { key, code: key.length > 1 ? key : 'Key' + key.toUpperCase(), bubbles: true, cancelable: true, ...more }); document.body.dispatchEvent(event); return event.defaultPrevented; })`);
+  assert.deepEqual([kept.includes(true), await presses(browser)], [false, many]);
+}
+
+// A button keeps the space bar and Enter, and letters are typed; a field, a list and a question keep all keys.
+async function controls(browser) {
+  await focusOn(browser, 'document.getElementById("zoom-in").focus()');
+  await browser.says('keys-go', /^Space and Enter go to: Zoom in; letters go to the keyboard below$/);
+  const send = (id, key, code) => browser.evaluate(`(it => { const event = new KeyboardEvent('keydown', { key: '${key}', code: '${code}', bubbles: true, cancelable: true, shiftKey: ${key === 'Shift' || key === 'W'} }); it.dispatchEvent(event); return event.defaultPrevented; })(document.getElementById('${id}'))`);
   const many = await presses(browser);
-  await browser.evaluate('document.body.dispatchEvent(new KeyboardEvent("keydown", { code: "KeyQ", key: "q", bubbles: true, cancelable: true })); document.getElementById("board").dispatchEvent(new KeyboardEvent("keyup", { code: "KeyQ", key: "q", bubbles: true, cancelable: true }))');
-  await browser.until(`lab.live.events.filter(it => it.words.startsWith("press ")).length === ${many + 1}`);
-  assert.equal(await browser.evaluate('document.activeElement.id'), 'board');
+  for (const [key, code] of [[' ', 'Space'], ['Enter', 'Enter'], ['Shift', 'ShiftLeft']]) assert.equal(await send('zoom-in', key, code), false, key);
+  assert.equal(await presses(browser), many);
+  assert.equal(await send('zoom-in', 'W', 'KeyW'), true);
+  await browser.evaluate('for (const code of ["KeyW", "ShiftLeft"]) document.activeElement.dispatchEvent(new KeyboardEvent("keyup", { code, bubbles: true, cancelable: true }))');
+  await browser.says('screen', /W+▁$/);
+  assert.equal(await hasFocus(browser), 'board');
+  await focusOn(browser, 'document.getElementById("any-byte").focus()');
+  await browser.says('keys-go', /^your keys go to: any byte/);
+  const typed = await presses(browser);
+  for (const id of ['any-byte', 'speed']) {
+    await focusOn(browser, `document.getElementById("${id}").focus()`);
+    assert.equal(await send(id, 'e', 'KeyE'), false, id);
+  }
+  assert.equal(await presses(browser), typed, 'a field keeps its letters');
+}
+
+// If the keyboard has the focus and is out of sight, a corner of the window says so.
+async function farAway(browser) {
+  const isSaid = 'document.getElementById("keys-go-far").checkVisibility()';
+  await focusOn(browser, 'document.getElementById("board").focus(); scrollTo(0, 0)');
+  await browser.until(`!(${isSaid})`);
+  await browser.evaluate('for (const name of ["workbench", "lessons"]) lab.show(name, true); 0');
+  await browser.until(`${isSaid} && document.activeElement.id === "board"`);
+  assert.match(await browser.textOf('keys-go-far'), /go to the keyboard, which is out of sight/);
+  await focusOn(browser, 'document.getElementById("lesson-file").focus()');
+  await browser.until(`!(${isSaid})`);
+  await focusOn(browser, 'document.getElementById("board").focus()');
+  await browser.until(`!(${isSaid})`);
+  await browser.evaluate('for (const name of ["workbench", "lessons"]) lab.show(name, false); scrollTo(0, 0)');
 }
 
 /** A finger that moves the page types nothing; one that taps does. */

@@ -158,6 +158,48 @@ export async function longRuns(browser) {
   await browser.evaluate('lab.workbench.run("run us84.toml long.keys", "expect us84.toml long.keys"); 0');
   await browser.says('told', /^both print the same|^they differ/);
   await browser.evaluate('clearInterval(watching)');
+  await tenMinutes(browser);
+}
+
+const OF_TEN_MINUTES = 7400, LONGEST_WAIT = 300_000, MOST_PAUSE = 1500; // strokes; ms
+
+// A trace of ten minutes of typing is finished, and the page isn't blocked meanwhile; nor is it by such a key file in the processor.
+async function tenMinutes(browser) {
+  await browser.evaluate(`lab.workbench.take([new File([Array.from({ length: ${OF_TEN_MINUTES} }, (_, n) => (500 + 80 * n) + 'ms press a\\n' + (540 + 80 * n) + 'ms release a\\n').join('') + '600000ms end\\n'], 'ten_minutes.keys')])`);
+  await browser.until('"ten_minutes.keys" in lab.files');
+  await browser.evaluate('globalThis.pause = 0; globalThis.turned = performance.now(); globalThis.watching = setInterval(() => { const now = performance.now(); pause = Math.max(pause, now - turned); turned = now; }, 10); 0');
+  await run(browser, 'trace us84.toml ten_minutes.keys');
+  for (const end = Date.now() + LONGEST_WAIT; await browser.evaluate('document.getElementById("told").textContent === "It runs .."') && Date.now() < end;) await browser.wait(200);
+  await browser.says('told', /^exit 0, \d{7,} bytes/);
+  assert.equal(await browser.evaluate('lab.workbench.traced.bytes.length'), 1 + 3 * OF_TEN_MINUTES);
+  const [pause, lines] = await browser.evaluate('clearInterval(watching); [pause, document.getElementById("answer").textContent.split("\\n").length]');
+  assert.ok(pause < MOST_PAUSE, `the page stood still for ${Math.round(pause)} ms`);
+  assert.ok(lines < 2000, `${lines} lines are in the page`);
+  await browser.evaluate('lab.processor.choose("us84.toml", "us84.toml", "ten_minutes.keys"); 0');
+  assert.equal(await browser.evaluate('lab.processor.session.said.length'), 0, 'the log of the run comes later');
+  await browser.until('!document.getElementById("runs").hidden');
+  await browser.click('#stop-run');
+  await browser.until('document.getElementById("runs").hidden');
+  await browser.evaluate('lab.processor.choose("four_keys.asm", "four_keys.toml", "four_keys.keys"); 0');
+  assert.ok(await browser.evaluate('lab.processor.session.said.length > 0'));
+}
+
+// A link that the page would refuse isn't made: its files are too long, or too long when they are packed. One of the greatest length is.
+async function longLinks(browser) {
+  const address = await browser.evaluate('location.href');
+  const offered = async text => {
+    await browser.evaluate(`lab.files['long.text'] = ${text}; lab.workbench.open('long.text')`);
+    await browser.put('words', 'type us84.toml long.text');
+    await browser.evaluate('document.getElementById("shared").textContent = ""');
+    await browser.click('#share');
+    await browser.until('document.getElementById("shared").textContent !== ""');
+    return browser.textOf('shared');
+  };
+  assert.match(await offered('" ".repeat(5 << 20)'), /^No link carries long\.text, us84\.toml: they have 52\d{5} bytes, and a link carries at most 4194304\. Save all/);
+  assert.match(await offered('Array.from({ length: 30 }, () => crypto.getRandomValues(new Uint8Array(60000)).reduce((text, byte) => text + String.fromCharCode(33 + byte % 90), "")).join("")'), /^No link carries .*: packed they have \d{7,} letters, and a link has at most 1048576/);
+  assert.equal(await browser.evaluate('location.href'), address, 'the address stays');
+  assert.match(await offered('" ".repeat((4 << 20) - 10000)'), /now carries long\.text, us84\.toml/);
+  await browser.evaluate('delete lab.files["long.text"]; lab.workbench.open("own1.asm")');
 }
 
 /** A link carries the open file and those that the command names; a broken one is said to be broken. */
@@ -175,6 +217,7 @@ export async function shareLink(browser, url) {
   assert.equal(await browser.valueOf('text'), 'MOV A,#9\nloop: DEC A\nJMP loop\n');
   assert.match(await browser.evaluate('lab.files["mine.toml"]'), /"z"/);
   assert.equal(await browser.valueOf('words'), 'board own1.hex mine.toml four_keys.keys', 'the command comes too');
+  await longLinks(browser);
   for (const [broken, why] of BROKEN_LINKS) {
     await browser.go(`${url}#${broken}`);
     await browser.ready();
