@@ -56,10 +56,11 @@ def entry(fault, number):
 
 
 def line_of(fault, name):
-    """The line of a field in the faulty entry, with its text, or None."""
-    within = span(fault)
+    """The line of a field in the faulty entry, or of a table outside all entries, with its text, or None."""
+    within, quoted = span(fault), rf"""["']?{re.escape(name)}["']?\s*"""
+    form = re.compile(rf"\s*({quoted}=|\[\[?\s*{quoted}\])" if not fault.at else rf"\s*{quoted}=")
     for number in range(*within) if within else ():
-        if re.match(rf"""\s*(\[\[?\s*["']?{re.escape(name)}["']?\s*\]|["']?{re.escape(name)}["']?\s*=)""", fault.lines[number - 1]):
+        if form.match(fault.lines[number - 1]):
             return number, fault.lines[number - 1]
     return None
 
