@@ -22,3 +22,7 @@ reported_further h s more report =
 -- four texts that are appended one after another
 pub four : (t a b c d x y z w : List ℕ) → x ≡ t ++ a → y ≡ x ++ b → z ≡ y ++ c → w ≡ z ++ d → w ≡ t ++ (a ++ b ++ c ++ d)
 four t a b c d x y z w p q r s = let e : w ≡ (((t ++ a) ++ b) ++ c) ++ d = cc in e ∙ simp append_assoc
+
+-- three texts
+pub three : (t a b c x y z : List ℕ) → x ≡ t ++ a → y ≡ x ++ b → z ≡ y ++ c → z ≡ t ++ (a ++ b ++ c)
+three t a b c x y z p q r = let e : z ≡ ((t ++ a) ++ b) ++ c = cc in e ∙ simp append_assoc

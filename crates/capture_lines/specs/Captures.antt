@@ -5,9 +5,13 @@ use Rattle.vcd_reader.specs.Reads.{reads_of}
 use Rattle.wire_frames.specs.declared.finding.Timed.{Timed}
 use Rattle.wire_frames.specs.Listening.{Hearing, at_first, frame_at_end, heard_at, hearing_after, pulse_at_end}
 use Rattle.capture_lines.specs.declared.counts.Counts.{Counts}
-use Rattle.capture_lines.specs.Counting.{counted, none_yet, summary}
-use Rattle.capture_lines.specs.Lines.{finding_line}
+use Rattle.capture_lines.specs.declared.speech.Speech.{Speech}
+use Rattle.capture_lines.specs.Counting.{counted, none_yet}
+use Rattle.capture_lines.specs.Lines.{again_line, finding_line}
 use Rattle.capture_lines.specs.Receiving.{Receiver, at_power_on, item_lines, receipt_of}
+use Rattle.capture_lines.specs.Speech.{again_of, nothing_said, said_so}
+use Rattle.capture_lines.specs.Summary.{summary}
+use Rattle.capture_lines.specs.Timing.{Timing, timed_all, untimed}
 
 -- what is found at a pulse and in the frame that it ends
 abbrev pub listed : Option Timed → List Timed
@@ -24,21 +28,30 @@ found_by h (s ∷ more) =
     both (heard_at s.time s.lines h).frame (heard_at s.time s.lines h).pulse
     ++ found_by (hearing_after s.time s.lines h) more
 
--- what was said so far: the lines, with what the PC keeps and the counts
+-- the line of a byte that is asked for again, if one is
+abbrev pub again_lines : ℕ → Option ℕ → List ℕ
+again_lines time None = []
+again_lines time (Some byte) = again_line time byte
+
+-- what was said so far: the lines, with what the PC keeps, the counts, and what the bytes say
 pub record Report : Type 0 where
   pub receiver : Receiver
   pub counts : Counts
+  pub speech : Speech
   pub text : List ℕ
 
 abbrev pub at_start : Report
-at_start = record { receiver = at_power_on; counts = none_yet; text = [] }
+at_start = record { receiver = at_power_on; counts = none_yet; speech = nothing_said; text = [] }
 
--- a finding's line, and those of what the PC makes of it
+-- a finding's line, that of the byte that it asks for again, and those of what the PC makes of it
 abbrev pub reported : Timed → Report → Report
 reported t report = record {
   receiver = (receipt_of t.finding report.receiver).after;
   counts = counted t.finding report.counts;
-  text = report.text ++ finding_line t ++ item_lines t.time (receipt_of t.finding report.receiver).items;
+  speech = said_so t.finding report.speech;
+  text =
+      report.text ++ finding_line t ++ again_lines t.time (again_of t.finding report.speech)
+      ++ item_lines t.time (receipt_of t.finding report.receiver).items;
 }
 
 abbrev pub reported_all : List Timed → Report → Report
@@ -49,6 +62,12 @@ reported_all (t ∷ more) report = reported_all more (reported t report)
 abbrev pub report_of : List ℕ → List ℕ → List ℕ → Report
 report_of clk dat dump = reported_all (found_by at_first (reads_of clk dat dump).samples) at_start
 
--- and then the summary
+-- and of its times
+abbrev pub timing_of : List ℕ → List ℕ → List ℕ → Timing
+timing_of clk dat dump = timed_all (reads_of clk dat dump).samples untimed
+
+-- the lines of both, and then the summary
 abbrev pub capture_text : List ℕ → List ℕ → List ℕ → List ℕ
-capture_text clk dat dump = (report_of clk dat dump).text ++ summary (report_of clk dat dump).counts
+capture_text clk dat dump =
+    (report_of clk dat dump).text ++ (timing_of clk dat dump).text
+    ++ summary (report_of clk dat dump).counts (timing_of clk dat dump) (report_of clk dat dump).speech

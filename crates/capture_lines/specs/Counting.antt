@@ -1,4 +1,4 @@
--- How often each kind of finding comes, and the summary that says so.
+-- How often each kind of finding comes, and the lines that say so.
 use Rattle.std.specs.Prelude.{ℕ, ◌+◌, ◌-◌, ◌^◌, min, List, [], ◌∷◌, ◌++◌, codes, if◌then◌else◌}
 use Rattle.std.specs.Fmt.{decimal}
 use Rattle.wire_frames.specs.declared.finding.Finding.{Finding}
@@ -50,6 +50,3 @@ pulses_summary c =
     ++ count_line (codes "pulses too short: ") c.glitches
     ++ count_line (codes "holds: ") c.holds
     ++ count_line (codes "holds with a request: ") c.requests
-
-unfoldable pub summary : Counts → List ℕ
-summary c = frames_summary c ++ pulses_summary c

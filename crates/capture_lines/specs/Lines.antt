@@ -51,3 +51,7 @@ finding_text StaysLow = codes "clock stays low"
 -- its line
 abbrev pub finding_line : Timed → List ℕ
 finding_line t = time_text t.time ++ finding_text t.finding ++ 10 ∷ []
+
+-- the line of a byte that is asked for again
+abbrev pub again_line : ℕ → ℕ → List ℕ
+again_line time byte = time_text time ++ codes "asks for " ++ hex_byte byte ++ codes " again\n"

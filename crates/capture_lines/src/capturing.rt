@@ -2,10 +2,12 @@
 
 ghost use Rattle.std.specs.Prelude.{◌≡◌, ◌<◌, length, IfOk, OnOk};
 ghost use Rattle.capture_lines.specs.Captures.{capture_text, found_by, reported_all};
+ghost use Rattle.capture_lines.specs.Timing.{timed_all};
 ghost use Rattle.vcd_reader.specs.Reads.{reads_of};
 ghost use Rattle.wire_frames.specs.Listening.{at_first};
 
 use crate::report::Report;
+use crate::timing::Timing;
 use std::alloc::{AllocError, Global};
 use vcd_reader::{Reader, VcdFault};
 use wire_frames::Listener;
@@ -21,9 +23,11 @@ pub struct Captured {
 #[tactic(auto, using(crate::proofs::Parts::reported_further))]
 fn report_samples(
     report: &mut Report,
+    timing: &mut Timing,
     reader: &mut Reader<'_>,
 ) -> Result<Option<VcdFault>, AllocError>
     ensures reported { OnOk result (report.new ≡ reported_all (found_by at_first reader.old.samples) report.old) }
+    ensures timed { OnOk result (timing.new ≡ timed_all reader.old.samples timing.old) }
     ensures fault { IfOk result (λ fault. fault ≡ reader.old.fault) }
 {
     let mut listener = Listener::new();
@@ -32,6 +36,7 @@ fn report_samples(
             Ok(Some(sample)) => {
                 let said = listener.hear(sample.time, sample.lines);
                 report.report_said(said)?;
+                timing.take(sample)?;
             }
             Ok(None) => {
                 report.report_said(listener.end())?;
@@ -50,7 +55,8 @@ fn report_samples(
 ///
 /// A line has a time in microseconds with three decimals, and then a finding, or what the PC makes of it: `port` with the
 /// byte that INT 09h reads, and what INT 09h does. The time is that at which the finding begins; lines come in the order
-/// in which findings end. The summary is after the last of them.
+/// in which findings end. After them come the times outside the manual's limits, each with its limits in microseconds, and
+/// the summary.
 pub fn capture(alloc: Global, dump: &[u8], clk: &[u8], dat: &[u8]) -> Result<Captured, AllocError>
     requires size { length dump.now < 4294967295 }
     ensures text { IfOk result (λ captured. captured.text.items ≡ capture_text clk.now dat.now dump.now) }
@@ -58,7 +64,8 @@ pub fn capture(alloc: Global, dump: &[u8], clk: &[u8], dat: &[u8]) -> Result<Cap
 {
     let mut reader = Reader::new(dump, clk, dat);
     let mut report = Report::new(alloc)?;
-    let fault = report_samples(&mut report, &mut reader)?;
-    let text = report.finish()?;
+    let mut timing = Timing::new(alloc);
+    let fault = report_samples(&mut report, &mut timing, &mut reader)?;
+    let text = report.finish(&timing)?;
     Ok(Captured { text, fault })
 }

@@ -1,7 +1,7 @@
 //! How often each kind of finding comes, and the summary that says so.
 
 ghost use Rattle.std.specs.Prelude.{◌≡◌, ◌++◌, OnOk};
-ghost use Rattle.capture_lines.specs.Counting.{count_line, counted, frames_summary, none_yet, one_more, pulses_summary, summary};
+ghost use Rattle.capture_lines.specs.Counting.{count_line, counted, frames_summary, none_yet, one_more, pulses_summary};
 ghost use Rattle.capture_lines.specs.Receiving.{is_right};
 
 use std::alloc::AllocError;
@@ -30,7 +30,7 @@ pub(crate) fn is_right(frame: Whole) -> bool
 }
 
 /// Counts one more, which stands still at the greatest value.
-fn add_one(count: &mut u64)
+pub(crate) fn add_one(count: &mut u64)
     ensures { count.new ≡ one_more count.old }
 {
     *count = count.saturating_add(1);
@@ -38,7 +38,7 @@ fn add_one(count: &mut u64)
 
 /// Appends a line of the summary.
 #[tactic(auto, unfolding(crate::specs::Counting::count_line))]
-fn push_count(text: &mut Vec<u8>, what: &[u8], count: u64) -> Result<(), AllocError>
+pub(crate) fn push_count(text: &mut Vec<u8>, what: &[u8], count: u64) -> Result<(), AllocError>
     ensures { OnOk result (text.new.items ≡ text.old.items ++ count_line what.now count) }
 {
     text.extend_from_slice(what)?;
@@ -82,7 +82,7 @@ impl Counts {
     }
 
     /// Appends the summary of the frames.
-    fn push_frames(&self, text: &mut Vec<u8>) -> Result<(), AllocError>
+    pub(crate) fn push_frames(&self, text: &mut Vec<u8>) -> Result<(), AllocError>
         ensures { OnOk result (text.new.items ≡ text.old.items ++ frames_summary self.now) }
     {
         push_count(text, b"right frames: ", self.right)?;
@@ -93,23 +93,13 @@ impl Counts {
     }
 
     /// Appends the summary of the pulses.
-    fn push_pulses(&self, text: &mut Vec<u8>) -> Result<(), AllocError>
+    pub(crate) fn push_pulses(&self, text: &mut Vec<u8>) -> Result<(), AllocError>
         ensures { OnOk result (text.new.items ≡ text.old.items ++ pulses_summary self.now) }
     {
         push_count(text, b"edges without a start bit: ", self.strays)?;
         push_count(text, b"pulses too short: ", self.glitches)?;
         push_count(text, b"holds: ", self.holds)?;
         push_count(text, b"holds with a request: ", self.requests)?;
-        Ok(())
-    }
-
-    /// Appends the summary.
-    #[tactic(auto, unfolding(crate::specs::Counting::summary))]
-    pub(crate) fn push_summary(&self, text: &mut Vec<u8>) -> Result<(), AllocError>
-        ensures { OnOk result (text.new.items ≡ text.old.items ++ summary self.now) }
-    {
-        self.push_frames(text)?;
-        self.push_pulses(text)?;
         Ok(())
     }
 }

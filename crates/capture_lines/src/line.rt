@@ -2,7 +2,7 @@
 
 ghost use Rattle.std.specs.Prelude.{◌≡◌, ◌+◌, ◌≤◌, ◌++◌, length};
 ghost use Rattle.arrayvec.specs.ArrayVec.{array_vec_len};
-ghost use Rattle.capture_lines.specs.Lines.{byte_text, digit, finding_line, finding_text, part_text, sender, time_text, wrong};
+ghost use Rattle.capture_lines.specs.Lines.{byte_text, digit, again_line, finding_line, finding_text, part_text, sender, time_text, wrong};
 
 use arrayvec::ArrayVec;
 use hex_text::{append, begun};
@@ -12,7 +12,7 @@ use wire_frames::{Finding, Timed, Whole};
 pub(crate) type LineText = ArrayVec<u8, 128>;
 
 /// The last decimal digit of a number.
-fn digit(number: u64) -> u8
+pub(crate) fn digit(number: u64) -> u8
     ensures { result ≡ digit number }
 {
     b'0' + (number % 10) as u8
@@ -110,5 +110,16 @@ pub(crate) fn finding_line(timed: Timed) -> LineText
     let mut text = time_text(timed.time);
     push_finding(&mut text, timed.finding);
     append(&mut text, b"\n");
+    text
+}
+
+/// The line of a byte that is asked for again at this time.
+pub(crate) fn again_line(time: u64, byte: u8) -> LineText
+    ensures { result.items ≡ again_line time byte }
+{
+    let mut text = time_text(time);
+    append(&mut text, b"asks for ");
+    append(&mut text, &hex_text::byte(byte));
+    append(&mut text, b" again\n");
     text
 }

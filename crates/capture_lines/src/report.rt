@@ -1,23 +1,27 @@
 //! What was said so far.
 
 ghost use Rattle.std.specs.Prelude.{◌≡◌, ◌++◌, IfOk, OnOk};
-ghost use Rattle.capture_lines.specs.Captures.{at_start, both, listed, reported, reported_all};
-ghost use Rattle.capture_lines.specs.Counting.{summary};
+ghost use Rattle.capture_lines.specs.Captures.{again_lines, at_start, both, listed, reported, reported_all};
+ghost use Rattle.capture_lines.specs.Summary.{summary};
 ghost use Rattle.capture_lines.specs.Receiving.{item_line, item_lines};
 
 use crate::counts::Counts;
-use crate::line::{finding_line, time_text};
+use crate::line::{again_line, finding_line, time_text};
 use crate::receiver::Receiver;
+use crate::speech::Speech;
+use crate::summary::push_summary;
+use crate::timing::Timing;
 use pc_tables::{Item, push_item};
 use std::alloc::{AllocError, Global};
 use std::marker::Model;
 use wire_frames::{Said, Timed};
 
-/// What was said so far: the lines, with what the PC keeps and the counts.
+/// What was said so far: the lines, with what the PC keeps, the counts, and what the bytes say.
 #[derive(Drop)]
 pub(crate) struct Report {
     receiver: Receiver,
     counts: Counts,
+    speech: Speech,
     text: Vec<u8>,
 }
 
@@ -26,7 +30,7 @@ impl Model for Report {
 
     ghost Value = { captures.Report };
 
-    ghost view = { λ t. record { receiver = t.receiver; counts = t.counts; text = t.text.items } };
+    ghost view = { λ t. record { receiver = t.receiver; counts = t.counts; speech = t.speech; text = t.text.items } };
 }
 
 /// Appends the line of an item.
@@ -49,6 +53,16 @@ fn push_item_lines(text: &mut Vec<u8>, time: u64, items: &[Item]) -> Result<(), 
     Ok(())
 }
 
+/// Appends the line of a byte that is asked for again, if one is.
+fn push_again(text: &mut Vec<u8>, time: u64, byte: Option<u8>) -> Result<(), AllocError>
+    ensures { OnOk result (text.new.items ≡ text.old.items ++ again_lines time byte) }
+{
+    if let Some(byte) = byte {
+        text.extend_from_slice(&again_line(time, byte))?;
+    }
+    Ok(())
+}
+
 impl Report {
     /// Nothing was said, and the PC is at power-on.
     pub(crate) fn new(alloc: Global) -> Result<Report, AllocError>
@@ -58,6 +72,7 @@ impl Report {
         Ok(Report {
             receiver,
             counts: Counts::new(),
+            speech: Speech::new(),
             text: Vec::new(alloc),
         })
     }
@@ -68,7 +83,10 @@ impl Report {
     {
         self.counts.count(timed.finding);
         let items = self.receiver.hear(timed.finding);
+        let again = self.speech.again(timed.finding);
+        self.speech = self.speech.after(timed.finding);
         self.text.extend_from_slice(&finding_line(timed))?;
+        push_again(&mut self.text, timed.time, again)?;
         push_item_lines(&mut self.text, timed.time, &items)?;
         Ok(())
     }
@@ -83,16 +101,18 @@ impl Report {
         }
     }
 
-    /// All that was said, and the summary.
-    pub(crate) fn finish(self) -> Result<Vec<u8>, AllocError>
-        ensures { IfOk result (λ text. text.items ≡ self.text ++ summary self.counts) }
+    /// All that was said, the times outside their limits, and the summary.
+    pub(crate) fn finish(self, timing: &Timing) -> Result<Vec<u8>, AllocError>
+        ensures { IfOk result (λ text. text.items ≡ self.text ++ timing.now.text ++ summary self.counts timing.now self.speech) }
     {
         let Report {
             counts,
+            speech,
             mut text,
             ..
         } = self;
-        counts.push_summary(&mut text)?;
+        text.extend_from_slice(timing.text())?;
+        push_summary(&mut text, &counts, timing, &speech)?;
         Ok(text)
     }
 

@@ -4,6 +4,7 @@
 #![tactic(auto)]
 
 mod distorting;
+mod speaking;
 
 ghost use Rattle.std.specs.Prelude.{◌<◌, length};
 
@@ -26,7 +27,15 @@ const ENDS_WITHIN: &[u8] =
 
 /// What is said of the byte AA: its line, what INT 09h reads, and the summary.
 const SAID: &[u8] =
-    b"338645.000 keyboard AA\n338645.000 port AA\n339445.000 hold\nright frames: 1\nwrong frames: 0\nbroken off: 0\nnot whole: 0\nedges without a start bit: 0\npulses too short: 0\nholds: 1\nholds with a request: 0\n";
+    b"338645.000 keyboard AA\n338645.000 port AA\n339445.000 hold\nright frames: 1\nwrong frames: 0\nbroken off: 0\nnot whole: 0\nedges without a start bit: 0\npulses too short: 0\nholds: 1\nholds with a request: 0\ntimes outside the limits: 0\nleast clock period: 80.000\nmean clock period: 80.000\ngreatest clock period: 80.000\nbreaks without a code: 0\nbytes asked for three times: 0\n";
+
+/// Two pulses of a frame and a hold, each with a time outside its limits.
+const OUTSIDE: &[u8] =
+    b"$timescale 1 us $end\n$var wire 1 c clock $end\n$var wire 1 d data $end\n$enddefinitions $end\n#0 1c 1d\n#100 0d\n#103 0c\n#155 1c\n#180 0c\n#220 1c\n#5000 0c\n#5057 1c\n";
+
+/// What is said of them.
+const SAID_OUTSIDE: &[u8] =
+    b"103.000 keyboard only 2 of 11 edges\n5000.000 hold and request\n5057.000 host unfinished after 0 of 11 edges\n103.000 clock low for 52.000, not 30 to 50\n103.000 data changed 3.000 before the fall, not 5 or more\n180.000 clock high for 25.000, not 30 to 50\n5000.000 hold of 57.000, not 60 or more\nright frames: 0\nwrong frames: 0\nbroken off: 0\nnot whole: 2\nedges without a start bit: 0\npulses too short: 0\nholds: 0\nholds with a request: 1\ntimes outside the limits: 4\nleast clock period: 77.000\nmean clock period: 77.000\ngreatest clock period: 77.000\nbreaks without a code: 0\nbytes asked for three times: 0\n";
 
 /// What is left of the findings after this one, if it is the first of them; or after none.
 fn without(left: &[Timed], found: Option<Timed>) -> Option<&[Timed]> {
@@ -130,6 +139,14 @@ fn a_capture_is_printed(rt: HostRuntime) -> Result<(), Fail> {
     let captured = capture(rt.alloc(), TEST_PASSED, b"clock", b"data")?;
     assert!(rt; captured.fault.is_none());
     assert!(rt; captured.text.as_slice() == SAID);
+    Ok(())
+}
+
+#[test]
+fn times_outside_the_limits_are_printed(rt: HostRuntime) -> Result<(), Fail> {
+    let captured = capture(rt.alloc(), OUTSIDE, b"clock", b"data")?;
+    assert!(rt; captured.fault.is_none());
+    assert!(rt; captured.text.as_slice() == SAID_OUTSIDE);
     Ok(())
 }
 

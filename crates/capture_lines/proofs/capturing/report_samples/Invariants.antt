@@ -1,5 +1,6 @@
 use Rattle.std.proofs.Common.{◌≡◌, length}
 use Rattle.capture_lines.specs.Captures.{found_by, reported_all}
+use Rattle.capture_lines.specs.Timing.{timed_all}
 use Rattle.wire_frames.specs.Listening.{at_first}
 use Rattle.capture_lines.proofs.capturing.report_samples.Given as goal
 
@@ -7,6 +8,7 @@ use Rattle.capture_lines.proofs.capturing.report_samples.Given as goal
 abbrev pub invariant-samples : goal.invariant-samples
 invariant-samples l = record {
   reported : reported_all (found_by l.listener l.reader.samples) l.report ≡ reported_all (found_by at_first l.fn.reader.samples) l.fn.report;
+  timed : timed_all l.reader.samples l.timing ≡ timed_all l.fn.reader.samples l.fn.timing;
   fault : l.reader.fault ≡ l.fn.reader.fault;
 }
 
