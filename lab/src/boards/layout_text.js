@@ -55,10 +55,10 @@ function linesOf({ name, place, role }) {
   return lines;
 }
 
-/** The layout file. */
+/** The layout file. It has a debounce, since the switches of a board that is built may be used ones. */
 export function layoutText(entries, heading) {
   const format = entries.some(entry => entry.role.isFn) ? 2 : 1;
-  return [`# ${heading.replace(/[^ -~]/gu, '?')}`, `format = ${format}`, ...entries.flatMap(linesOf), ''].join('\n');
+  return [`# ${heading.replace(/[^ -~]/gu, '?')}`, `format = ${format}`, 'debounce = true', ...entries.flatMap(linesOf), ''].join('\n');
 }
 
 /** A line for each key of the board, in the file's order: its name in key files, its place, what the file has, what it sends,
