@@ -9,7 +9,7 @@ const TAP = 60; // ms that a key is held if its release isn't reported
 const FINGER_STAYS = 140, FINGER_MOVES = 8, CLICK_AFTER = 1000; // ms after which a finger holds its key; pixels; ms
 const LEAVE = 500; // ms between the two Escapes that leave the keyboard
 const STICKS = new Set(['lshift', 'rshift', 'ctrl', 'alt']);
-const NOTES = ['Click the keyboard, and type. Your keys go to it while it has the focus. Escape twice, and Tab leaves it.',
+const NOTES = ['Type: what no field takes goes to the keyboard. After a click on it, all keys do. Escape twice, and Tab leaves it.',
   'Tab leaves the keyboard now, Shift and Tab go back. With any other key you go on typing.'];
 const BUILT_IN = 'us84.toml';
 const FEW = 20; // a layout with fewer keys is drawn as its matrix

@@ -9,13 +9,18 @@ const STAMP_ZERO = 4096;
 /** A time of a trace as the log has it. */
 export const stampOf = cycle => cycle - STAMP_ZERO;
 
-// The falls and rises of the clock, with the level of data, and the changes of data.
+// The falls of the clock, and its rises, each with the level of data and the cycles for which the clock was low; and the changes of
+// data. Each fall has its rise, if there is one.
 function changesOf(edges) {
   const falls = [], rises = [], data = [];
   let before = BOTH;
   for (const { cycle, levels } of edges) {
-    if (before & ~levels & CLOCK) falls.push({ cycle, data: levels & DATA ? 1 : 0 });
-    if (~before & levels & CLOCK) rises.push(cycle);
+    if (before & ~levels & CLOCK) falls.push({ cycle, data: levels & DATA ? 1 : 0, low: Infinity });
+    if (~before & levels & CLOCK) {
+      const fall = falls.at(-1);
+      fall.low = cycle - fall.cycle;
+      rises.push({ cycle, data: levels & DATA, low: fall.low });
+    }
     if ((before ^ levels) & DATA) data.push({ cycle, isHigh: (before & CLOCK) !== 0 });
     before = levels;
   }
@@ -27,12 +32,12 @@ const fault = (cycle, rule, expected, got) => ({ cycle, rule, expected: String(e
 const parityOf = byte => 1 ^ byte.reduce((sum, bit) => sum ^ bit, 0);
 
 // One frame, whose falls are given.
-function frameFault(frame, { rises, data }) {
+function frameFault(frame, { data }) {
   for (let n = 1; n < FALLS_OF_A_FRAME; n++) {
     if (!frame[n]) return fault(frame[n - 1].cycle, 'falls of the clock in a frame', FALLS_OF_A_FRAME, n);
     const apart = frame[n].cycle - frame[n - 1].cycle;
     if (apart !== FALLS_APART) return fault(frame[n - 1].cycle, 'cycles from a fall of the clock to the next', FALLS_APART, apart);
-    const low = (rises.find(cycle => cycle > frame[n - 1].cycle) ?? Infinity) - frame[n - 1].cycle;
+    const { low } = frame[n - 1];
     if (low !== LOW) return fault(frame[n - 1].cycle, 'cycles for which the clock is low in a bit', LOW, low);
   }
   const last = frame.at(-1).cycle, bits = frame.map(it => it.data);
@@ -72,9 +77,8 @@ export function heardFault({ edges, bytes }) {
 export function takenFault({ edges }) {
   const { falls, rises } = changesOf(edges);
   for (const rise of rises) {
-    const held = falls.findLast(it => it.cycle < rise), asked = edges.findLast(it => it.cycle <= rise);
-    if (rise - held.cycle < HELD_BY_PC || asked.levels & DATA) continue;
-    const last = falls.filter(it => it.cycle > rise)[FALLS_OF_A_FRAME - 1];
+    if (rise.low < HELD_BY_PC || rise.data) continue;
+    const last = falls.filter(it => it.cycle > rise.cycle)[FALLS_OF_A_FRAME - 1];
     if (last?.data) return fault(last.cycle, 'data for the last clock of the PC\'s byte', 'low', 'high');
   }
   return null;

@@ -12,8 +12,16 @@ const NOTHING = 'nothing more';
 /** What a log or `words` says, without its times. */
 export const itemsIn = (text, isTimed) => text.split('\n').filter(Boolean).map(line => (isTimed ? line.slice(line.indexOf(' ') + 1) : line));
 
+// What the program has said of texts that are the same in each check, such as the model's logs.
+const saidBefore = new Map();
+
+function saidOnce(key, act) {
+  if (!saidBefore.has(key)) saidBefore.set(key, act());
+  return saidBefore.get(key);
+}
+
 /** The items that INT 09h says of these bytes of the keyboard. */
-export const itemsOfBytes = (say, bytes) => (bytes.length ? itemsIn(say(['words', ...bytes], {}).text, false) : []);
+export const itemsOfBytes = (say, bytes) => (bytes.length ? saidOnce(bytes.join(' '), () => itemsIn(say(['words', ...bytes], {}).text, false)) : []);
 
 /** The first line in which two lists differ, or -1. */
 function firstDifference(expected, got) {
@@ -41,7 +49,10 @@ function runOf(say, image, layout, trial) {
 // What the PC must read in a trial: what it lists, what the model of the keyboard says, or what comes of its bytes.
 function expectedOf(say, layout, { items, likeModel, bytes, read = bytes, keys, reads = asTheyAre }) {
   if (items) return items;
-  if (likeModel) return reads(logLinesOf(say(['expect', 'board.toml', 'trial.keys'], { 'board.toml': layout, 'trial.keys': keys }).text), CYCLES_OF_A_TICK);
+  if (likeModel) {
+    const files = { 'board.toml': layout, 'trial.keys': keys };
+    return reads(logLinesOf(saidOnce(JSON.stringify(files), () => say(['expect', 'board.toml', 'trial.keys'], files).text)), CYCLES_OF_A_TICK);
+  }
   return itemsOfBytes(say, read);
 }
 

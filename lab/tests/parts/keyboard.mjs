@@ -132,7 +132,7 @@ export async function leaving(browser) {
     } else await browser.stroke(tab, 10, more);
     assert.equal(await browser.evaluate('document.activeElement.id'), to);
   }
-  await browser.says('board-note', /^Click the keyboard/);
+  await browser.says('board-note', /^Type: what no field takes/);
 }
 
 /** A layout with a second layer: what the keys say, and what they send. */

@@ -5,10 +5,18 @@ import { readFileSync } from 'node:fs';
 import { gunzipSync } from 'node:zlib';
 import { ALWAYS_WRONG, SOLUTIONS } from '../solutions.mjs';
 
+const LONGEST_CHECK = 300_000; // ms, on a busy machine
+
+/** Waits until the check is over, and looks at what it says. */
+async function checkSays(browser, form) {
+  for (const end = Date.now() + LONGEST_CHECK; Date.now() < end && await browser.evaluate('document.getElementById("lesson-result").hasAttribute("aria-busy")');) await browser.wait(50);
+  await browser.says('lesson-result', form);
+}
+
 const checks = async (browser, text, form) => {
   await browser.put('lesson-file', text);
   await browser.click('#lesson-check');
-  await browser.says('lesson-result', form);
+  await checkSays(browser, form);
 };
 
 /** Each lesson's first file fails its check with two hints beside it, and wrong solutions fail it. */
@@ -19,7 +27,7 @@ export async function lessons(browser, shot) {
     await browser.evaluate(`document.querySelectorAll("#lesson-list button")[${number - 1}].click()`);
     const name = await browser.evaluate('lab.lessons.name'), answer = readFileSync(new URL(`../../answers/${name}`, import.meta.url), 'utf8');
     await browser.click('#lesson-check');
-    await browser.says('lesson-result', /^Not yet/);
+    await checkSays(browser, /^Not yet/);
     assert.equal(await browser.evaluate('document.querySelectorAll("#lesson-hints details").length'), 2);
     for (const { edit, says } of SOLUTIONS[number].wrong.filter((it, n, all) => (it.wasAccepted && (number === 1 || it !== ALWAYS_WRONG[0])) || n === all.length - 1)) {
       const text = typeof edit === 'string' ? edit : edit.reduce((now, [from, to]) => now.replace(from, () => to), answer);
@@ -126,7 +134,7 @@ export async function byKeyboard(browser) {
     await browser.wait(100);
     if (await browser.evaluate('document.getElementById("ask").open')) await press(browser, '#ask-yes');
     await press(browser, '#lesson-check');
-    await browser.says('lesson-result', /^Not yet/);
+    await checkSays(browser, /^Not yet/);
     for (const side of ['expected', 'got']) {
       await tabTo(browser, `#lesson-${side}`);
       assert.match(await browser.textOf(`lesson-${side}`), /^> ./m, `lesson ${number}: what was ${side}`);
@@ -135,7 +143,7 @@ export async function byKeyboard(browser) {
     await tabTo(browser, '#lesson-file', true);
     await typeOver(browser, readFileSync(new URL(`../../answers/${await browser.evaluate('lab.lessons.name')}`, import.meta.url), 'utf8'));
     await press(browser, '#lesson-check');
-    await browser.says('lesson-result', /^Done/);
+    await checkSays(browser, /^Done/);
     assert.ok(await browser.evaluate('document.getElementById("lesson-differs").hidden && document.getElementById("lesson-wave").hidden'));
     if (number === LAST_LESSON) break;
     await press(browser, '#lesson-next');

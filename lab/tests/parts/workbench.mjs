@@ -153,6 +153,11 @@ export async function longRuns(browser) {
   await browser.until('!document.getElementById("runs").hidden');
   await browser.click('#stop-run');
   await browser.says('told', /The run was stopped/);
+  // A run that the browser can't finish says so, and the next one is made.
+  await browser.evaluate('globalThis.post = Worker.prototype.postMessage; Worker.prototype.postMessage = function (call) { post.call(this, { ...call, words: null }); }; 0');
+  await run(browser, 'run us84.toml long.keys');
+  await browser.says('told', /^exit 7: the browser could not finish this run: ./);
+  await browser.evaluate('Worker.prototype.postMessage = post; 0');
   await run(browser, 'run us84.toml long.keys');
   await browser.says('told', /^exit 0/);
   await browser.evaluate('lab.workbench.run("run us84.toml long.keys", "expect us84.toml long.keys"); 0');
