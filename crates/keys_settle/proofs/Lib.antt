@@ -2,4 +2,5 @@ mod Rows
 mod OneKey
 mod Placed
 mod Readings
-mod Once
+pub mod Once
+mod Taking

@@ -21,7 +21,7 @@ use Rattle.link_model.proofs.Edges.{AreAt, are_at, same_by_place}
 use Rattle.link_model.proofs.Few.{shown_same}
 use Rattle.link_model.proofs.Seen.{last_change}
 use Rattle.link_model.proofs.Taken.{AreWide, switched_wide, turned_is, turned_shown}
-use Rattle.link_model.specs.Debounce.{Switches, all_open, is_down_at, settles, taken, turned_all}
+use Rattle.link_model.specs.Debounce.{Switches, all_open, is_down_at, settles, switched, taken, turned_all}
 use Rattle.link_model.specs.Expected.{Whole, begins_from, from_meeting, meeting_from, to_look, to_meeting, whole_at, whole_tick}
 use Rattle.link_model.specs.Machine.{LayeredKeyboard, keyboard, met_as}
 use Rattle.link_model.specs.TickEdges.{by_place, change_at, downs_before, downs_in, read_at, shown, shown_at, tick_edges}
@@ -99,6 +99,13 @@ module _ (layout : KeyLayout) (host : List HostEvent) (start rest : ℕ) where
         side = three goes kw kv w.side v.side w.shown v.shown h.keyboard h.side h.lights;
         lights = ap (λ (k : Keyboard). k.lights) h.keyboard;
       }
+
+-- what such keyboards go through is what the one without a debounce does under keys that are clean, each edge a little later
+pub record TypesAs (layout : KeyLayout) (keys : List Edge) (host : List HostEvent) (starts : ℕ → ℕ)
+    (V : ℕ → Whole LayeredKeyboard) : Type 0 where
+  pub seen : List Edge
+  pub later : (place : ℕ) → place < 96 → AreLater (of_place place keys) (of_place place seen)
+  pub like : (n : ℕ) → IsLike (V n) (whole_at (keyboard (undebounced layout)) seen host starts n)
 
 module _ (layout : KeyLayout) (keys contacts : List Edge) (host : List HostEvent) (starts : ℕ → ℕ)
     (on : layout.debounce ≡ true) (cadence : KeepsCadence starts) (sw : AreSwitches keys contacts) where
@@ -188,77 +195,105 @@ module _ (layout : KeyLayout) (keys contacts : List Edge) (host : List HostEvent
   was_is zero p = refl
   was_is (suc n) p = refl
 
+  -- a run of the keyboard whose tick n gets these edges, if they turn what was read last into what the contacts show then
+  module _ (V : ℕ → Whole LayeredKeyboard) (es : ℕ → List (ℕ × Bool))
+      (first : V 0 ≡ whole_at (keyboard layout) contacts host starts 0)
+      (next : (n : ℕ)
+      → V (suc n)
+      ≡ whole_tick (keyboard layout) host (es n) (4096 + starts n) (starts (suc n) - starts n - 609) (V n))
+      (reading : (n p : ℕ) → AreWide (V n).keys.switches
+      → ((q : ℕ) → q < 96 → is_down_at (V n).keys.switches.read q ≡ downs_before starts contacts n q) → p < 96
+      → is_down_at (turned_all (es n) (V n).keys.switches.read) p ≡ d p n) where
+    abbrev switches_at : ℕ → Switches
+    switches_at n = (V n).keys.switches
+
+    -- what was read last, and what has settled
+    record Reads (n : ℕ) (s : Switches) : Type 0 where
+      wide : AreWide s
+      read : (p : ℕ) → p < 96 → is_down_at s.read p ≡ downs_before starts contacts n p
+      agreed : (p : ℕ) → p < 96 → is_down_at s.settled p ≡ settled_at p n
+
+    abbrev next_of : ℕ → ℕ → Bool
+    next_of n p =
+        settles (is_down_at (switches_at n).settled p) (is_down_at (switches_at n).read p)
+        (is_down_at (turned_all (es n) (switches_at n).read) p)
+
+    taken_is : (n : ℕ)
+        → taken layout.debounce (es n) (switches_at n) ≡ shown (is_down_at (switches_at n).settled) (next_of n)
+    taken_is n = ap (λ b. taken b (es n) (switches_at n)) on
+
+    next_is : (n : ℕ) → Reads n (switches_at n) → (p : ℕ) → p < 96 → next_of n p ≡ settled_at p (suc n)
+    next_is n h p l =
+        let s : Switches = switches_at n in
+        let now : Bool = is_down_at (turned_all (es n) s.read) p in
+        ap (λ b. settles b (is_down_at s.read p) now) (h.agreed p l)
+        ∙ ap (λ b. settles (settled_at p n) b now) (h.read p l ∙ was_is n p)
+        ∙ ap (λ b. settles (settled_at p n) (was (r p) (near p) (d p) n) b) (reading n p h.wide h.read l)
+
+    reads_next : (n : ℕ) → Reads n (switches_at n) → Reads (suc n) (switched layout.debounce (es n) (switches_at n))
+    reads_next n h =
+        let s : Switches = switches_at n in
+        record {
+          wide = switched_wide layout.debounce (es n) s h.wide;
+          read = λ p l. reading n p h.wide h.read l;
+          agreed = λ p l.
+              ap (λ v. is_down_at (turned_all v s.settled) p) (taken_is n)
+              ∙ turned_shown s.settled (next_of n) p h.wide.settled l ∙ next_is n h p l;
+        }
+
+    reads : (n : ℕ) → Reads n (switches_at n)
+    reads zero =
+        subst (λ (w : Whole LayeredKeyboard). Reads 0 w.keys.switches) (sym first) (record {
+          wide = record { read = refl; settled = refl };
+          read = λ p l. get_or-replicate 96 p false false l;
+          agreed = λ p l. get_or-replicate 96 p false false l;
+        })
+    reads (suc n) =
+        subst (λ (w : Whole LayeredKeyboard). Reads (suc n) w.keys.switches) (sym (next n)) (reads_next n (reads n))
+
+    change_same : (p : ℕ) (a b c e : Bool) → a ≡ b → c ≡ e → change_at p a c ≡ change_at p b e
+    change_same p a b c e g h = ap (λ v. change_at p v c) g ∙ ap (λ v. change_at p b v) h
+
+    same_edges : (n : ℕ) → taken layout.debounce (es n) (switches_at n) ≡ tick_edges starts seen n
+    same_edges n =
+        let s : Switches = switches_at n in
+        let h = reads n in
+        taken_is n
+        ∙ same_by_place (shown_at (is_down_at s.settled) (next_of n))
+        (shown_at (downs_before starts seen n) (downs_in starts seen n))
+        (λ p l. change_same p (is_down_at s.settled p) (downs_before starts seen n p) (next_of n p) (downs_in starts seen n p)
+        (h.agreed p l ∙ sym (seen_before n p l)) (next_is n h p l ∙ sym (seen_in n p l))) 96 (omega arith)
+        ∙ sym (shown_same starts n (λ m l. cadence m) seen n (omega arith) (λ p l. (facts_of p l).alternate)
+        (λ p l. (facts_of p l).dwell))
+
+    like : (n : ℕ) → IsLike (V n) (whole_at (keyboard (undebounced layout)) seen host starts n)
+    like zero =
+        subst (λ w. IsLike w (whole_at (keyboard (undebounced layout)) seen host starts 0)) (sym first)
+        (record { keyboard = refl; layers = refl; side = refl; lights = refl })
+    like (suc n) =
+        subst (λ w. IsLike w (whole_at (keyboard (undebounced layout)) seen host starts (suc n))) (sym (next n))
+        (next_like layout host (4096 + starts n) (starts (suc n) - starts n - 609) (es n) (tick_edges starts seen n) (V n)
+        (whole_at (keyboard (undebounced layout)) seen host starts n) (same_edges n) (like n))
+
+    pub typed : TypesAs layout keys host starts V
+    typed = record { seen = seen; later = λ p l. (facts_of p l).later; like = like }
+
   abbrev W : ℕ → Whole LayeredKeyboard
   W n = whole_at (keyboard layout) contacts host starts n
 
-  -- what was read last, and what has settled
-  record Reads (n : ℕ) (s : Switches) : Type 0 where
-    wide : AreWide s
-    read : (p : ℕ) → p < 96 → is_down_at s.read p ≡ downs_before starts contacts n p
-    agreed : (p : ℕ) → p < 96 → is_down_at s.settled p ≡ settled_at p n
-
-  abbrev next_of : (n : ℕ) → Switches → ℕ → Bool
-  next_of n s p = settles (is_down_at s.settled p) (is_down_at s.read p)
-      (is_down_at (turned_all (tick_edges starts contacts n) s.read) p)
-
-  taken_is : (n : ℕ) (s : Switches)
-      → taken layout.debounce (tick_edges starts contacts n) s ≡ shown (is_down_at s.settled) (next_of n s)
-  taken_is n s = ap (λ b. taken b (tick_edges starts contacts n) s) on
-
-  read_next : (n : ℕ) (s : Switches) → Reads n s → (p : ℕ) → p < 96
-      → is_down_at (turned_all (tick_edges starts contacts n) s.read) p ≡ d p n
-  read_next n s h p l =
-      turned_is (tick_edges starts contacts n) s.read p h.wide.read l
-      ∙ ap (λ b. last_change (tick_edges starts contacts n) p b) (h.read p l) ∙ readings starts cadence contacts sw.in_order n p l
-
-  next_is : (n : ℕ) (s : Switches) → Reads n s → (p : ℕ) → p < 96 → next_of n s p ≡ settled_at p (suc n)
-  next_is n s h p l =
-      let now : Bool = is_down_at (turned_all (tick_edges starts contacts n) s.read) p in
-      ap (λ b. settles b (is_down_at s.read p) now) (h.agreed p l)
-      ∙ ap (λ b. settles (settled_at p n) b now) (h.read p l ∙ was_is n p)
-      ∙ ap (λ b. settles (settled_at p n) (was (r p) (near p) (d p) n) b) (read_next n s h p l)
-
-  reads : (n : ℕ) → Reads n (W n).keys.switches
-  reads zero = record {
-    wide = record { read = refl; settled = refl };
-    read = λ p l. get_or-replicate 96 p false false l;
-    agreed = λ p l. get_or-replicate 96 p false false l;
-  }
-  reads (suc n) =
-      let s : Switches = (W n).keys.switches in
-      let h = reads n in
-      let es : List (ℕ × Bool) = tick_edges starts contacts n in
-      record {
-        wide = switched_wide layout.debounce es s h.wide;
-        read = λ p l. read_next n s h p l;
-        agreed = λ p l.
-            ap (λ v. is_down_at (turned_all v s.settled) p) (taken_is n s) ∙ turned_shown s.settled (next_of n s) p h.wide.settled l
-            ∙ next_is n s h p l;
-      }
-
-  change_same : (p : ℕ) (a b c e : Bool) → a ≡ b → c ≡ e → change_at p a c ≡ change_at p b e
-  change_same p a b c e g h = ap (λ v. change_at p v c) g ∙ ap (λ v. change_at p b v) h
-
-  same_edges : (n : ℕ) → taken layout.debounce (tick_edges starts contacts n) (W n).keys.switches ≡ tick_edges starts seen n
-  same_edges n =
-      let s : Switches = (W n).keys.switches in
-      let h = reads n in
-      taken_is n s
-      ∙ same_by_place (shown_at (is_down_at s.settled) (next_of n s))
-      (shown_at (downs_before starts seen n) (downs_in starts seen n))
-      (λ p l. change_same p (is_down_at s.settled p) (downs_before starts seen n p) (next_of n s p) (downs_in starts seen n p)
-      (h.agreed p l ∙ sym (seen_before n p l)) (next_is n s h p l ∙ sym (seen_in n p l))) 96 (omega arith)
-      ∙ sym (shown_same starts n (λ m l. cadence m) seen n (omega arith) (λ p l. (facts_of p l).alternate)
-      (λ p l. (facts_of p l).dwell))
-
-  like : (n : ℕ) → IsLike (W n) (whole_at (keyboard (undebounced layout)) seen host starts n)
-  like zero = record { keyboard = refl; layers = refl; side = refl; lights = refl }
-  like (suc n) =
-      next_like layout host (4096 + starts n) (starts (suc n) - starts n - 609) (tick_edges starts contacts n)
-      (tick_edges starts seen n) (W n) (whole_at (keyboard (undebounced layout)) seen host starts n) (same_edges n) (like n)
+  -- the edges of a tick turn what was read last into what the contacts show
+  reading_of : (n p : ℕ) → AreWide (W n).keys.switches
+      → ((q : ℕ) → q < 96 → is_down_at (W n).keys.switches.read q ≡ downs_before starts contacts n q) → p < 96
+      → is_down_at (turned_all (tick_edges starts contacts n) (W n).keys.switches.read) p ≡ d p n
+  reading_of n p wide read l =
+      turned_is (tick_edges starts contacts n) (W n).keys.switches.read p wide.read l
+      ∙ ap (λ b. last_change (tick_edges starts contacts n) p b) (read p l)
+      ∙ readings starts cadence contacts sw.in_order n p l
 
   pub once : TypesOnce layout keys contacts host starts
-  once = record { seen = seen; later = λ p l. (facts_of p l).later; like = like }
+  once =
+      let t = typed W (tick_edges starts contacts) refl (λ n. refl) reading_of in
+      record { seen = t.seen; later = t.later; like = t.like }
 
 pub types_once : SwitchesTypeOnce
 types_once layout keys contacts host starts on cadence sw = once layout keys contacts host starts on cadence sw
