@@ -3,8 +3,8 @@
 ghost use Rattle.std.specs.Prelude.{◌≡◌, false, true};
 ghost use Rattle.wire_frames.specs.Frames.{asked, beginning, bit_of, edges, ended_high, ended_low, heard, heard_bit, heard_clock, heard_hold, heard_level, held, is_begun, is_glitch, is_hold, is_late, lacks_one, of_frame, of_pulse, patience, silent, stays_low, too_few, unfinished, whole, with_bit};
 
-use crate::bits::{is_odd, value};
 use crate::finding::{Finding, Timed, Whole};
+use crate::frame_bits::{is_odd, value};
 use crate::pulse::Pulse;
 use arrayvec::ArrayVec;
 use std::marker::Model;

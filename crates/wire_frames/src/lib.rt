@@ -6,9 +6,9 @@
 //! frame, and goes on with the next one.
 #![tactic(auto)]
 
-mod bits;
 mod ear;
 mod finding;
+mod frame_bits;
 mod listener;
 mod pulse;
 
