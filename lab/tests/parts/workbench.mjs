@@ -191,20 +191,20 @@ async function tenMinutes(browser) {
 
 // A link that the page would refuse isn't made: its files are too long, or too long when they are packed. One of the greatest length is.
 async function longLinks(browser) {
-  const address = await browser.evaluate('location.href');
+  const address = await browser.evaluate('lab.workbench.open("own1.asm"); location.href');
   const offered = async text => {
-    await browser.evaluate(`lab.files['long.text'] = ${text}; lab.workbench.open('long.text')`);
+    await browser.evaluate(`lab.files['long.text'] = ${text}; 0`);
     await browser.put('words', 'type us84.toml long.text');
     await browser.evaluate('document.getElementById("shared").textContent = ""');
     await browser.click('#share');
     await browser.until('document.getElementById("shared").textContent !== ""');
     return browser.textOf('shared');
   };
-  assert.match(await offered('" ".repeat(5 << 20)'), /^No link carries long\.text, us84\.toml: they have 52\d{5} bytes, and a link carries at most 4194304\. Save all/);
+  assert.match(await offered('" ".repeat(5 << 20)'), /^No link carries own1\.asm, us84\.toml, long\.text: they have 52\d{5} bytes, and a link carries at most 4194304\. Save all/);
   assert.match(await offered('Array.from({ length: 30 }, () => crypto.getRandomValues(new Uint8Array(60000)).reduce((text, byte) => text + String.fromCharCode(33 + byte % 90), "")).join("")'), /^No link carries .*: packed they have \d{7,} letters, and a link has at most 1048576/);
   assert.equal(await browser.evaluate('location.href'), address, 'the address stays');
-  assert.match(await offered('" ".repeat((4 << 20) - 10000)'), /now carries long\.text, us84\.toml/);
-  await browser.evaluate('delete lab.files["long.text"]; lab.workbench.open("own1.asm")');
+  assert.match(await offered('" ".repeat((4 << 20) - 10000)'), /now carries own1\.asm, us84\.toml, long\.text/);
+  await browser.evaluate('delete lab.files["long.text"]');
 }
 
 /** A link carries the open file and those that the command names; a broken one is said to be broken. */
