@@ -154,7 +154,7 @@ export async function longRuns(browser) {
   await browser.click('#stop-run');
   await browser.says('told', /The run was stopped/);
   // A run that the browser can't finish says so, and the next one is made.
-  await browser.evaluate('globalThis.post = Worker.prototype.postMessage; Worker.prototype.postMessage = function (call) { post.call(this, { ...call, words: null }); }; 0');
+  await browser.evaluate('globalThis.post = Worker.prototype.postMessage; Worker.prototype.postMessage = function (call) { post.call(this, call.words ? { ...call, words: null } : call); }; 0');
   await run(browser, 'run us84.toml long.keys');
   await browser.says('told', /^exit 7: the browser could not finish this run: ./);
   await browser.evaluate('Worker.prototype.postMessage = post; 0');
