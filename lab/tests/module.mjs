@@ -244,7 +244,7 @@ async function runs() {
   assert.equal(keyboard.next().kind, Item.SENT);
   const item = keyboard.next();
   assert.deepEqual([item.kind, item.value, keyboard.next()], [Item.PORT, 0xAA, null]);
-  assert.ok(keyboard.cycle() - item.cycle < 2, 'it ends in the step in which that is said');
+  assert.ok(keyboard.cycle() - item.cycle <= 2, 'it ends in the step of one or two cycles in which that is said');
   const rise = copy.runTo(Stop.RISE | Stop.ITEM, 400_000);
   assert.deepEqual(rise, { status: Status.DONE, met: Stop.RISE, passed: copy.passed });
   assert.ok(copy.interrupt() && copy.rises() === 1);
