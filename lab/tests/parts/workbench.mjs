@@ -84,6 +84,7 @@ export async function brokenFiles(browser, folder) {
     writeFileSync(join(folder, name), bytes);
     return join(folder, name);
   };
+  await browser.only('workbench');
   await browser.choose('#open-file', [file('latin.asm', Buffer.from([0x3B, 0xE9, 0x0A]))]);
   await browser.says('shared', /latin\.asm: it is no UTF-8 text/);
   await browser.choose('#open-file', [file('long.asm', Buffer.alloc(5 << 20, 0x20))]);
