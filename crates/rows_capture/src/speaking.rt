@@ -48,6 +48,9 @@ const LONE_BREAK: &[Sent] = &[
 const SAID_LONE_BREAK: &[u8] =
     b"times outside the limits: 0\nleast clock period: 80.000\nmean clock period: 80.000\ngreatest clock period: 80.000\nbreaks without a code: 1\nbytes asked for three times: 0\n";
 
+/// No dump of these tests is longer.
+const MOST: usize = 100_000;
+
 /// Appends a time and what changes then.
 fn push_change(text: &mut Vec<u8>, time: u32, change: &[u8]) -> Result<(), AllocError> {
     text.push(b'#')?;
@@ -120,7 +123,7 @@ fn ends_with(text: &[u8], end: &[u8]) -> bool {
 #[test]
 fn three_requests_and_codes_of_set_1_are_said(rt: HostRuntime) -> Result<(), Fail> {
     let dump = dump_of(&rt, THREE_TIMES)?;
-    let captured = capture(rt.alloc(), &dump, b"clock", b"data")?;
+    let captured = capture(rt.alloc(), &dump[..dump.len().min(MOST)], b"clock", b"data")?;
     assert!(rt; captured.fault.is_none());
     assert!(rt; ends_with(&captured.text, SAID_THREE_TIMES));
     Ok(())
@@ -129,7 +132,7 @@ fn three_requests_and_codes_of_set_1_are_said(rt: HostRuntime) -> Result<(), Fai
 #[test]
 fn a_break_without_a_code_is_counted(rt: HostRuntime) -> Result<(), Fail> {
     let dump = dump_of(&rt, LONE_BREAK)?;
-    let captured = capture(rt.alloc(), &dump, b"clock", b"data")?;
+    let captured = capture(rt.alloc(), &dump[..dump.len().min(MOST)], b"clock", b"data")?;
     assert!(rt; captured.fault.is_none());
     assert!(rt; ends_with(&captured.text, SAID_LONE_BREAK));
     Ok(())
