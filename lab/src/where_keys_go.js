@@ -40,8 +40,9 @@ export function watchKeys() {
     line.classList.toggle('elsewhere', !isHere && !isNothing(at));
   };
   setText(byId('keys-go-far'), OUT_OF_SIGHT);
-  new IntersectionObserver(([{ isIntersecting }]) => {
-    isLineSeen = isIntersecting;
+  // Of several changes at once the last counts.
+  new IntersectionObserver(entries => {
+    isLineSeen = entries.at(-1).isIntersecting;
     say();
   }).observe(line);
   document.addEventListener('focusin', say);
