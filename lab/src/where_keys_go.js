@@ -1,5 +1,5 @@
 // Where the keys go that somebody presses: to the drawn keyboard, unless a field or a list has the focus; and it is said, above the
-// keyboard, and in a corner of the window while that line is out of sight.
+// keyboard, and in a corner of the window while that line and the keyboard are out of sight.
 import { byId, setHidden, setText } from './dom.js';
 
 const HERE = 'your keys go to the keyboard below', NOWHERE = 'what you type goes to the keyboard below', OUT_OF_SIGHT = 'Your keys go to the keyboard, which is out of sight.';
@@ -31,20 +31,21 @@ function textFor(element, board) {
     press the button again. */
 export function watchKeys() {
   const board = byId('board'), line = byId('keys-go'), shifts = new Set(), heldApart = new Set();
-  let isLineSeen = true;
+  const inSight = new Set([line]);
   const say = () => {
     const at = document.activeElement, isHere = at === board, text = textFor(at, board);
-    setHidden(byId('keys-go-far'), isLineSeen || !isHere);
+    setHidden(byId('keys-go-far'), inSight.size > 0 || !isHere);
     if (line.textContent === text) return;
     setText(line, text);
     line.classList.toggle('elsewhere', !isHere && !isNothing(at));
   };
   setText(byId('keys-go-far'), OUT_OF_SIGHT);
-  // Of several changes at once the last counts.
-  new IntersectionObserver(entries => {
-    isLineSeen = entries.at(-1).isIntersecting;
+  const watch = new IntersectionObserver(entries => {
+    for (const { target, isIntersecting } of entries) inSight[isIntersecting ? 'add' : 'delete'](target);
     say();
-  }).observe(line);
+  });
+  watch.observe(line);
+  watch.observe(board);
   document.addEventListener('focusin', say);
   document.addEventListener('focusout', () => queueMicrotask(say));
   document.addEventListener('mousedown', event => {
