@@ -113,6 +113,14 @@ async function controls(browser) {
   assert.equal(await presses(browser), typed, 'a field keeps its letters');
 }
 
+// A page that is shown a pane scrolls to it, which takes a moment.
+async function untilAtRest(browser) {
+  for (let was = null, at = await browser.evaluate('scrollY'); was !== at; at = await browser.evaluate('scrollY')) {
+    was = at;
+    await browser.wait(300);
+  }
+}
+
 // If the keyboard has the focus and is out of sight, a corner of the window says so.
 async function farAway(browser) {
   const isSaid = 'document.getElementById("keys-go-far").checkVisibility()';
@@ -120,6 +128,7 @@ async function farAway(browser) {
   await browser.until(`!(${isSaid})`);
   await browser.evaluate('for (const name of ["workbench", "lessons"]) lab.show(name, true); 0');
   await browser.until(`${isSaid} && document.activeElement.id === "board"`);
+  await untilAtRest(browser);
   assert.match(await browser.textOf('keys-go-far'), /go to the keyboard, which is out of sight/);
   await focusOn(browser, 'document.getElementById("lesson-file").focus()');
   await browser.until(`!(${isSaid})`);
