@@ -10,11 +10,11 @@ from dataclasses import dataclass, field
 from functools import cached_property
 from pathlib import Path
 
-from . import asm, cert, hexfile, keys, kinds, layout, script, typed
+from . import asm, cert, hexfile, keys, kinds, layout, script, typed, vcd
 
-KINDS = {"asm": asm, "cert": cert, "hex": hexfile, "keys": keys, "layout": layout, "script": script, "text": typed}
+KINDS = {"asm": asm, "cert": cert, "hex": hexfile, "keys": keys, "layout": layout, "script": script, "text": typed, "vcd": vcd}
 # The most bytes that a file of each kind may have.
-LIMITS = {"hex": 16384, "asm": 262144, "layout": 65536, "keys": 4194304, "script": 65536, "cert": 65536, "text": 10000}
+LIMITS = {"hex": 16384, "asm": 262144, "layout": 65536, "keys": 4194304, "script": 65536, "cert": 65536, "text": 10000, "vcd": 4294967294}
 # The kinds of the files that a command names, in the order of its words.
 FILES = {
     "step": ["hex"],
@@ -29,6 +29,7 @@ FILES = {
     "probe": ["hex", "layout", "keys", "script"],
     "cert": ["hex", "cert"],
     "type": ["layout", "text"],
+    "capture": ["vcd"],
 }
 TABLE = Path(__file__).resolve().parent.parent.parent / "docs/faults.tsv"
 SAID = re.compile(
@@ -106,7 +107,7 @@ def guessed(fault):
 
 
 # Faults that files of other kinds have: those of a line's form. An empty file has no kind.
-STRANGE = {"hex": {1}, "asm": {1, 2, 3}, "layout": {1, 2, 3}, "keys": {1, 2}, "script": {1}, "cert": {1}, "text": {1}}
+STRANGE = {"hex": {1}, "asm": {1, 2, 3}, "layout": {1, 2, 3}, "keys": {1, 2}, "script": {1}, "cert": {1}, "text": {1}, "vcd": {1, 10}}
 
 
 def of_another_kind(fault, named, words):

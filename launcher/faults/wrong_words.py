@@ -16,7 +16,8 @@ FORMS = Path(__file__).resolve().parent.parent / "forms"
 OTHERS = {
     "assemble": "asm", "assembler": "asm", "as": "asm", "disasm": "list", "disassemble": "list", "dump": "list", "listing": "list",
     "build": "compile", "make": "compile", "firmware": "compile", "image": "compile", "simulate": "run", "sim": "run", "emulate": "run",
-    "execute": "run", "exec": "run", "start": "run", "model": "expect", "wave": "trace", "waves": "trace", "vcd": "trace", "wires": "trace",
+    "execute": "run", "exec": "run", "start": "run", "model": "expect", "wave": "trace", "waves": "trace", "vcd": "capture", "wires": "trace",
+    "decode": "capture", "analyse": "capture", "analyze": "capture", "captured": "capture", "listen": "capture", "sniff": "capture",
     "debugger": "debug", "gdb": "debug", "certify": "cert", "check": "cert", "keys": "type", "typing": "type", "bench": "sample",
     "benchmark": "sample", "scan": "words", "feed": "words", "byte": "words", "bytes": "words", "single": "step", "trial": "sample",
 }
@@ -26,15 +27,15 @@ MOST_BYTES = 4096
 OUTPUTS = ("-o", "--output", "--out")
 # A line that would be right may take as many corrections.
 MOST_CORRECTIONS = 4
-FILES = {"IMAGE": "hex", "SOURCE": "asm", "LAYOUT": "layout", "KEYS": "keys", "SCRIPT": "script", "CERT": "cert", "TEXT": "text"}
+FILES = {"IMAGE": "hex", "SOURCE": "asm", "LAYOUT": "layout", "KEYS": "keys", "SCRIPT": "script", "CERT": "cert", "TEXT": "text", "DUMP": "vcd"}
 WHAT = {
     "IMAGE": "a HEX image", "SOURCE": "an assembler source", "LAYOUT": "a layout", "KEYS": "a key file", "SCRIPT": "a script",
-    "CERT": "a certificate", "TEXT": "a text", "COUNT": "a number", "BYTE": "a byte",
+    "CERT": "a certificate", "TEXT": "a text", "DUMP": "a value change dump", "COUNT": "a number", "BYTE": "a byte",
 }
 # A file of the repository for each operand, for what is to be copied.
 SAMPLES = {
     "IMAGE": "examples/us84.hex", "SOURCE": "examples/four_keys.asm", "LAYOUT": "examples/us84.toml", "KEYS": "examples/typing_hi.keys",
-    "SCRIPT": "examples/make_code.script", "CERT": "examples/delay.cert", "TEXT": "examples/hello.text", "COUNT": "25", "BYTE": "1C",
+    "SCRIPT": "examples/make_code.script", "CERT": "examples/delay.cert", "TEXT": "examples/hello.text", "DUMP": "examples/captures/right.vcd", "COUNT": "25", "BYTE": "1C",
 }
 
 

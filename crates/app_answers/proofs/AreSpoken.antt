@@ -10,7 +10,7 @@ use Rattle.key_file.specs.declared.fault.KeyFault.{KeyFault}
 use Rattle.app_words.specs.declared.refusal.Refusal.{Refusal}
 use Rattle.app_words.specs.declared.refusal.Refusal.TheVariants as refusals
 use Rattle.app_answers.specs.declared.spoken.Spoken.{Spoken}
-use Rattle.app_answers.specs.declared.spoken.Spoken.TheVariants.{Text, Said, Stuck}
+use Rattle.app_answers.specs.declared.spoken.Spoken.TheVariants.{Text, Said, Stuck, Captured}
 use Rattle.app_answers.specs.Answers.{answer_of}
 use Rattle.app_answers.specs.FileAnswers.{Answer, keys_refusal}
 use Rattle.app_answers.specs.Leaving.{Left, OfHistory}
@@ -33,6 +33,9 @@ spoken_on P Q on (Ok (Said (Ok done))) x y h = (h.0, h.1, on (Ok h.0) Whole h.1 
 spoken_on P Q on (Ok (Said (Err fault))) x y h = (h.0, h.1, on h.0 (CutOff x y) h.1 h.2, h.3)
 spoken_on P Q on (Ok (Stuck place)) x y h =
     let answer : Answer = Err (refusals.Stuck place) in
+    (h.0, on answer Whole h.0 h.1, λ later broken. on answer (CutOff x later) h.0 (h.2 later broken), h.3)
+spoken_on P Q on (Ok (Captured fault)) x y h =
+    let answer : Answer = Err (refusals.Vcd fault.line fault.number) in
     (h.0, on answer Whole h.0 h.1, λ later broken. on answer (CutOff x later) h.0 (h.2 later broken), h.3)
 
 -- nothing of it is said yet

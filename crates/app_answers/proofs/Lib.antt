@@ -5,3 +5,4 @@ pub mod ShelvesGive
 pub mod FileExits
 pub mod EndStates
 pub mod AreSpoken
+pub mod CapturesAreSaid

@@ -10,4 +10,5 @@ pub mod Leaving
 pub mod Says
 pub mod Spoken
 pub mod Fetching
+pub mod Captures
 pub mod ListingLaw

@@ -7,7 +7,7 @@ use Rattle.io_edge.specs.Said.{IsBrokenOff, IsSaid, Shown}
 use Rattle.app_words.specs.declared.refusal.Refusal.{Refusal}
 use Rattle.app_words.specs.declared.refusal.Refusal.TheVariants as refusals
 use Rattle.app_answers.specs.declared.spoken.Spoken.{Spoken}
-use Rattle.app_answers.specs.declared.spoken.Spoken.TheVariants.{Text, Said, Stuck}
+use Rattle.app_answers.specs.declared.spoken.Spoken.TheVariants.{Text, Said, Stuck, Captured}
 use Rattle.app_words.specs.declared.exit.Exit.{Exit}
 use Rattle.app_words.specs.declared.exit.Exit.TheVariants.{Done, Write}
 use Rattle.app_answers.specs.FileAnswers.{Answer}
@@ -28,15 +28,15 @@ May = Answer → Taking → List ℕ → Type 0
 abbrev pub IsUnsaid : May → Answer → Shown → Shown → Type 0
 IsUnsaid may answer before after = ((taking : Taking) → may answer taking []) × (after ≡ before)
 
--- of a run that is stuck the log was said: the answer may be given if its line is taken, or is broken off
-abbrev pub IsStuckAfter : May → Answer → Shown → Shown → Type 0
-IsStuckAfter may answer before after =
+-- a log was said: the answer may be given if its line is taken, or is broken off
+abbrev pub IsSaidAfter : May → Answer → Shown → Shown → Type 0
+IsSaidAfter may answer before after =
     (log : List ℕ) × may answer Whole log
     × ((later : Shown) → IsBrokenOff after later (text_said answer) → may answer (CutOff before later) log)
     × IsSaid before after log
 
 -- a refusal and a text are still to be said; any other text was said after its log, whole or up to a put that failed;
--- of a run that is stuck the log was said
+-- of a run that is stuck the log was said, and of a capture with a fault what is found before it
 abbrev pub IsSpoken : May → Result Spoken Refusal → Shown → Shown → Type 0
 IsSpoken may (Err refusal) before after = IsUnsaid may (Err refusal) before after
 IsSpoken may (Ok (Text text)) before after = IsUnsaid may (Ok text.items) before after
@@ -45,7 +45,8 @@ IsSpoken may (Ok (Said (Ok done))) before after =
 IsSpoken may (Ok (Said (Err fault))) before after =
     (answer : Answer) × (log : List ℕ) × may answer (CutOff before after) log
     × IsBrokenOff before after (log ++ text_said answer)
-IsSpoken may (Ok (Stuck place)) before after = IsStuckAfter may (Err (refusals.Stuck place)) before after
+IsSpoken may (Ok (Stuck place)) before after = IsSaidAfter may (Err (refusals.Stuck place)) before after
+IsSpoken may (Ok (Captured fault)) before after = IsSaidAfter may (Err (refusals.Vcd fault.line fault.number)) before after
 
 -- a text is printed, and ends the call so; or a put failed
 abbrev pub Prints : List ℕ → Exit → Shown → Shown → Exit → Type 0
@@ -60,3 +61,6 @@ Concludes (Ok (Said (Ok done))) before after exit = (exit ≡ Done) × (after �
 Concludes (Ok (Said (Err fault))) before after exit = (exit ≡ Write) × (after ≡ before)
 Concludes (Ok (Stuck place)) before after exit =
     Prints (line_of (refusals.Stuck place)) (exit_of (refusals.Stuck place)) before after exit
+Concludes (Ok (Captured fault)) before after exit =
+    let refusal : Refusal = refusals.Vcd fault.line fault.number in
+    Prints (line_of refusal) (exit_of refusal) before after exit

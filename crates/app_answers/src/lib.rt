@@ -1,10 +1,11 @@
 //! What a command answers of its files: each file fetched and judged, and what a command that makes no run says of it.
 //!
-//! This layer knows the forms of files, one instruction after another from reset, certificates, plans of a text, and what
-//! INT 09h says of keyboard bytes; and how a text is said, or broken off. It knows no run of the keyboard's board and no
+//! This layer knows the forms of files, one instruction after another from reset, certificates, plans of a text, captures of
+//! the two wires, and what INT 09h says of keyboard bytes; and how a text is said, or broken off. It knows no run of the keyboard's board and no
 //! order of files. Source: our own.
 #![tactic(auto)]
 
+mod capturing;
 mod carrying;
 mod certifying;
 mod end_state;
@@ -16,6 +17,7 @@ mod spelling;
 mod spoken;
 mod stepping;
 
+pub use capturing::say_capture;
 pub use carrying::carry_out;
 pub use certifying::certify;
 pub use end_state::put_end;

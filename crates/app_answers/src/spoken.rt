@@ -6,6 +6,7 @@ ghost use Rattle.app_answers.specs.Spoken.{still_to_say};
 use app_words::Refusal;
 use io_edge::SinkFault;
 use mcs48_core::Stuck;
+use vcd_reader::VcdFault;
 
 /// What a command answers that isn't refused.
 #[derive(Debug, Drop)]
@@ -17,6 +18,8 @@ pub enum Spoken {
     /// A log that was said line by line as it arose, all of it, and the byte without an instruction at which its run got
     /// stuck, of which nothing is said yet.
     Stuck(Stuck),
+    /// What is found in a capture, all of which was said, and the first fault of its dump, of which nothing is said yet.
+    Captured(VcdFault),
 }
 
 /// A text or a refusal, nothing of which is said yet.

@@ -1,7 +1,7 @@
 -- The kinds of files: their limits in bytes, and how refusals name them.
 use Rattle.std.specs.Prelude.{ℕ, List, codes}
 use Rattle.app_words.specs.declared.kind.Kind.{Kind}
-use Rattle.app_words.specs.declared.kind.Kind.TheVariants.{Hex, Asm, Layout, Keys, Cert, Script, Text}
+use Rattle.app_words.specs.declared.kind.Kind.TheVariants.{Hex, Asm, Layout, Keys, Cert, Script, Text, Vcd}
 use Rattle.app_words.specs.declared.words.FileCommand.{FileCommand}
 use Rattle.app_words.specs.declared.words.FileCommand.TheVariants.{Step, Listing, Assemble, Compile}
 
@@ -13,6 +13,7 @@ limit_of Keys = 4194304
 limit_of Cert = 65536
 limit_of Script = 65536
 limit_of Text = 10000
+limit_of Vcd = 4294967294
 
 abbrev pub name_of : Kind → List ℕ
 name_of Hex = codes "hex"
@@ -22,6 +23,7 @@ name_of Keys = codes "keys"
 name_of Cert = codes "cert"
 name_of Script = codes "script"
 name_of Text = codes "text"
+name_of Vcd = codes "vcd"
 
 -- the kind of the file that a command over one file names
 abbrev pub kind_of : FileCommand → Kind

@@ -8,7 +8,7 @@ use Rattle.app_words.specs.declared.kind.Kind.{Kind}
 use Rattle.app_words.specs.declared.kind.Kind.TheVariants as kinds
 use Rattle.app_words.specs.declared.refusal.Refusal.{Refusal}
 use Rattle.app_words.specs.declared.refusal.Refusal.TheVariants.{Words, Read, TooLong, Hex, Asm, Layout, Keys}
-use Rattle.app_words.specs.declared.refusal.Refusal.TheVariants.{Cert, Script, Text, Timing, Stuck, Memory}
+use Rattle.app_words.specs.declared.refusal.Refusal.TheVariants.{Cert, Script, Text, Vcd, Timing, Stuck, Memory}
 
 abbrev pub exit_of : Refusal → Exit
 exit_of Words = exits.Words
@@ -21,6 +21,7 @@ exit_of (Keys line number) = exits.Input
 exit_of (Cert line number) = exits.Input
 exit_of (Script line number) = exits.Input
 exit_of (Text at) = exits.Input
+exit_of (Vcd line number) = exits.Input
 exit_of (Timing line number first second) = exits.Timing
 exit_of (Stuck stuck) = exits.Stuck
 exit_of Memory = exits.Memory
@@ -47,6 +48,7 @@ line_of (Keys line number) = fault_line kinds.Keys (codes " line ") line number
 line_of (Cert line number) = fault_line kinds.Cert (codes " line ") line number
 line_of (Script line number) = fault_line kinds.Script (codes " line ") line number
 line_of (Text at) = fault_line kinds.Text (codes " byte ") at 1
+line_of (Vcd line number) = fault_line kinds.Vcd (codes " line ") line number
 line_of (Timing line number first second) = timing_line line number first second
 line_of (Stuck stuck) =
     codes "stuck: pc " ++ hex_address stuck.pc ++ codes " byte " ++ hex_byte stuck.byte ++ codes "\n"

@@ -12,7 +12,7 @@ use Rattle.app_words.specs.declared.words.BoardCommand.{BoardCommand}
 use Rattle.app_words.specs.declared.words.BoardCommand.TheVariants as board
 use Rattle.app_words.specs.declared.words.BoardRun.{BoardRun}
 use Rattle.app_words.specs.declared.words.Command.{Command}
-use Rattle.app_words.specs.declared.words.Command.TheVariants.{OverFile, OverPair, Debug, Probe, Board, Feed, Sample}
+use Rattle.app_words.specs.declared.words.Command.TheVariants.{OverFile, OverPair, Debug, Probe, Board, Feed, Sample, Capture}
 use Rattle.app_words.specs.declared.words.FileCommand.{FileCommand}
 use Rattle.app_words.specs.declared.words.FileCommand.TheVariants.{Step, Listing, Assemble, Compile}
 use Rattle.app_words.specs.declared.words.PairCommand.{PairCommand}
@@ -149,6 +149,12 @@ sample_of (count ∷ []) =
     (count_of count)
 sample_of words = None
 
+-- `capture` NAME, or `capture` NAME CLOCK DATA
+abbrev pub capture_of : List (List ℕ) → Option Command
+capture_of (name ∷ []) = if is_name name then Some Capture else None
+capture_of (name ∷ clk ∷ dat ∷ []) = if is_name name && is_name clk && is_name dat then Some Capture else None
+capture_of words = None
+
 -- the command of the words, or none
 abbrev pub command_of : List (List ℕ) → Option Command
 command_of [] = None
@@ -166,7 +172,8 @@ command_of (command ∷ words) =
     else (if bytes_eq command (codes "board") then board_of words
     else (if bytes_eq command (codes "probe") then probe_of words
     else (if bytes_eq command (codes "words") then feed_of words
-    else (if bytes_eq command (codes "sample") then sample_of words else None)))))))))))))
+    else (if bytes_eq command (codes "sample") then sample_of words
+    else (if bytes_eq command (codes "capture") then capture_of words else None))))))))))))))
 
 -- the words have an accepted form
 abbrev pub is_form : List (List ℕ) → Bool
@@ -194,6 +201,7 @@ takes_memory_first (Some (OverPair (OverRun (Log ticks steps)))) = true
 takes_memory_first (Some (OverPair (OverRun Trace))) = true
 takes_memory_first (Some (Board wanted)) = true
 takes_memory_first (Some (Sample count)) = true
+takes_memory_first (Some Capture) = true
 takes_memory_first command = false
 
 -- the first file that a command names
@@ -216,6 +224,15 @@ abbrev pub fourth_in : List (List ℕ) → List ℕ
 fourth_in (command ∷ name ∷ second ∷ third ∷ fourth ∷ others) = fourth
 fourth_in words = []
 
+-- the two signals that `capture` reads: the clock, and data
+abbrev pub clock_in : List (List ℕ) → List ℕ
+clock_in (command ∷ name ∷ clk ∷ dat ∷ []) = clk
+clock_in words = codes "clock"
+
+abbrev pub data_in : List (List ℕ) → List ℕ
+data_in (command ∷ name ∷ clk ∷ dat ∷ []) = dat
+data_in words = codes "data"
+
 -- how many files a command names; they are the words after its own
 abbrev pub files_in : Command → ℕ
 files_in (OverFile command) = 1
@@ -225,3 +242,4 @@ files_in (Probe fill) = 4
 files_in (Board wanted) = 3
 files_in (Feed bytes) = 0
 files_in (Sample count) = 0
+files_in Capture = 1

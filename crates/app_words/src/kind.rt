@@ -12,6 +12,7 @@ pub enum Kind {
     Cert,
     Script,
     Text,
+    Vcd,
 }
 
 impl Kind {
@@ -27,6 +28,7 @@ impl Kind {
             Kind::Layout | Kind::Cert | Kind::Script => 65_536,
             Kind::Keys => 4_194_304,
             Kind::Text => 10_000,
+            Kind::Vcd => 4_294_967_294,
         }
     }
 
@@ -42,6 +44,7 @@ impl Kind {
             Kind::Cert => "cert",
             Kind::Script => "script",
             Kind::Text => "text",
+            Kind::Vcd => "vcd",
         }
     }
 }

@@ -21,5 +21,6 @@ pub use kind::Kind;
 pub use refusal::{Line, Refusal};
 pub use strokes::Strokes;
 pub use words::{
-    BoardCommand, BoardRun, Command, FileCommand, PairCommand, RunCommand, form, read_command,
+    BoardCommand, BoardRun, Command, FileCommand, PairCommand, RunCommand, clock_in, data_in, form,
+    read_command,
 };

@@ -52,6 +52,11 @@ pub enum Refusal {
     Text {
         at: u32,
     },
+    /// The line of the value change dump, counted from 1, and its fault.
+    Vcd {
+        line: u32,
+        number: u8,
+    },
     /// The line of the key file, counted from 1, its fault, which is one of time, and two stamps, in cycles.
     Timing {
         line: u32,
@@ -143,7 +148,8 @@ impl Refusal {
             | Refusal::Keys { .. }
             | Refusal::Cert { .. }
             | Refusal::Script { .. }
-            | Refusal::Text { .. } => Exit::Input,
+            | Refusal::Text { .. }
+            | Refusal::Vcd { .. } => Exit::Input,
             Refusal::Timing { .. } => Exit::Timing,
             Refusal::Stuck(_) => Exit::Stuck,
             Refusal::Memory => Exit::Memory,
@@ -170,6 +176,7 @@ impl Refusal {
             Refusal::Cert { line, number } => fault_line(Kind::Cert, " line ", *line, *number),
             Refusal::Script { line, number } => fault_line(Kind::Script, " line ", *line, *number),
             Refusal::Text { at } => fault_line(Kind::Text, " byte ", *at, 1),
+            Refusal::Vcd { line, number } => fault_line(Kind::Vcd, " line ", *line, *number),
             Refusal::Timing {
                 line,
                 number,

@@ -4,7 +4,7 @@ ghost use Rattle.std.specs.Prelude.{◌≡◌, ◌<◌, ◌≤◌, length, map, 
 ghost use Rattle.std.specs.Char.{is_ascii_digit};
 ghost use Rattle.std.specs.List.{list_all};
 ghost use Rattle.app_words.specs.Words.{is_name, is_short_number, count_of, step_of, named_of, pair_of, debug_of, probe_of};
-ghost use Rattle.app_words.specs.Words.{run_of, board_of, feed_of, sample_of, command_of, files_in, is_form};
+ghost use Rattle.app_words.specs.Words.{run_of, board_of, feed_of, sample_of, capture_of, clock_in, command_of, data_in, files_in, is_form};
 
 use crate::bytes::KeyboardBytes;
 use crate::kind::Kind;
@@ -84,6 +84,9 @@ pub enum Command {
     Feed(KeyboardBytes),
     /// `sample` COUNT
     Sample(Strokes),
+    /// `capture` NAME, or `capture` NAME CLOCK DATA: a value change dump, and the names of its two signals, which `clock_in`
+    /// and `data_in` read. The file's name is the word after the command.
+    Capture,
 }
 
 impl FileCommand {
@@ -251,6 +254,38 @@ fn read_sample(words: &[String]) -> Option<Command>
     }
 }
 
+/// `capture` NAME, or `capture` NAME CLOCK DATA
+fn read_capture(words: &[String]) -> Option<Command>
+    ensures command { result ≡ capture_of (map string_bytes words.now) }
+    ensures named { IfSome result (λ command. files_in command ≤ length words.now) }
+{
+    match words {
+        [name] if is_name(name) => Some(Command::Capture),
+        [name, clk, dat] if is_name(name) && is_name(clk) && is_name(dat) => Some(Command::Capture),
+        _ => None,
+    }
+}
+
+/// The name of the clock's signal, of the words of `capture`: CLOCK, or `clock` if they don't say it.
+pub fn clock_in(words: &[String]) -> &str
+    ensures name { result.now ≡ clock_in (map string_bytes words.now) }
+{
+    match words {
+        [_, _, clk, _] => clk.as_str(),
+        _ => "clock",
+    }
+}
+
+/// The name of the data wire's signal, of the words of `capture`: DATA, or `data` if they don't say it.
+pub fn data_in(words: &[String]) -> &str
+    ensures name { result.now ≡ data_in (map string_bytes words.now) }
+{
+    match words {
+        [_, _, _, dat] => dat.as_str(),
+        _ => "data",
+    }
+}
+
 /// The command of the words, or none if the words are outside the accepted forms.
 pub fn read_command(words: &[String]) -> Option<Command>
     ensures command { result ≡ command_of (map string_bytes words.now) }
@@ -272,6 +307,7 @@ pub fn read_command(words: &[String]) -> Option<Command>
         "probe" => read_probe(words),
         "words" => read_feed(words),
         "sample" => read_sample(words),
+        "capture" => read_capture(words),
         _ => None,
     }
 }

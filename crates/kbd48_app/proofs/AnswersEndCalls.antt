@@ -7,18 +7,17 @@ use Rattle.io_edge.proofs.Pieces.{AreLines, said_then_broken, said_then_said}
 use Rattle.io_edge.specs.Faults.{Rose}
 use Rattle.io_edge.specs.Said.{IsBrokenOff, IsSaid, Shown}
 use Rattle.io_edge.specs.Shelf.{Shelved}
-use Rattle.mcs48_core.specs.declared.stepping.Stuck.{Stuck as Place}
 use Rattle.app_words.specs.declared.exit.Exit.{Exit}
 use Rattle.app_words.specs.declared.exit.Exit.TheVariants as exits
 use Rattle.app_words.specs.declared.refusal.Refusal.{Refusal}
 use Rattle.app_words.specs.declared.refusal.Refusal.TheVariants as refusals
 use Rattle.app_answers.specs.declared.spoken.Spoken.{Spoken}
-use Rattle.app_answers.specs.declared.spoken.Spoken.TheVariants.{Text, Said, Stuck}
+use Rattle.app_answers.specs.declared.spoken.Spoken.TheVariants.{Text, Said, Stuck, Captured}
 use Rattle.kbd48_app.specs.Answers.{MayAnswer}
 use Rattle.app_answers.specs.FileAnswers.{Answer}
-use Rattle.app_words.specs.Refusals.{line_of}
+use Rattle.app_words.specs.Refusals.{exit_of, line_of}
 use Rattle.app_answers.specs.Says.{Says, exit_said, text_said}
-use Rattle.app_answers.specs.Spoken.{Concludes, IsSpoken, IsStuckAfter, May, Prints}
+use Rattle.app_answers.specs.Spoken.{Concludes, IsSaidAfter, IsSpoken, May, Prints}
 use Rattle.app_answers.specs.Taking.{Taking, Whole, CutOff, taking_of}
 use Rattle.kbd48_app.proofs.LogsAreLines.{lines_before}
 use Rattle.kbd48_app.proofs.PlansEnd.{Ending}
@@ -57,23 +56,26 @@ cut_off : (may : May) (answer : Answer) (log : List ℕ) (x z : Shown) (exit : E
     → may answer (CutOff x z) log → may answer (taking_of exit x z) log
 cut_off may answer log x z exit is h = subst (λ (t : Taking). may answer t log) (sym (ap (λ e. taking_of e x z) is)) h
 
--- of a run that is stuck its line is said now
-stuck_concluded : (may : May) → AreLinesBefore may → (place : Place) (x y z : Shown) (exit : Exit)
-    → IsStuckAfter may (Err (refusals.Stuck place)) x y
-    → Prints (line_of (refusals.Stuck place)) exits.Stuck y z exit → Ended may x z exit
-stuck_concluded may lines place x y z exit h (inl same) =
-    let stuck : Answer = Err (refusals.Stuck place) in (
+-- no refusal's exit is that of a sink that failed
+whole_taken : (refusal : Refusal) (x z : Shown) → taking_of (exit_of refusal) x z ≡ Whole
+whole_taken refusal x z = grind arith
+
+-- of a refusal after a log its line is said now
+line_concluded : (may : May) → AreLinesBefore may → (refusal : Refusal) (x y z : Shown) (exit : Exit)
+    → IsSaidAfter may (Err refusal) x y → Prints (line_of refusal) (exit_of refusal) y z exit → Ended may x z exit
+line_concluded may lines refusal x y z exit h (inl same) =
+    let answer : Answer = Err refusal in (
       h.0,
-      stuck,
-      taken_all may stuck h.0 x z exit exits.Stuck refl same.0 h.1,
-      inl (same.0, said_then_said x y z h.0 (text_said stuck) (lines stuck Whole h.0 h.1) h.3 same.1),
+      answer,
+      taken_all may answer h.0 x z exit (exit_of refusal) (whole_taken refusal x z) same.0 h.1,
+      inl (same.0, said_then_said x y z h.0 (text_said answer) (lines answer Whole h.0 h.1) h.3 same.1),
     )
-stuck_concluded may lines place x y z exit h (inr part) =
-    let stuck : Answer = Err (refusals.Stuck place) in (
+line_concluded may lines refusal x y z exit h (inr part) =
+    let answer : Answer = Err refusal in (
       h.0,
-      stuck,
-      cut_off may stuck h.0 x z exit part.0 (h.2 z part.1),
-      inr (part.0, said_then_broken x y z h.0 (text_said stuck) (lines stuck Whole h.0 h.1) h.3 part.1),
+      answer,
+      cut_off may answer h.0 x z exit part.0 (h.2 z part.1),
+      inr (part.0, said_then_broken x y z h.0 (text_said answer) (lines answer Whole h.0 h.1) h.3 part.1),
     )
 
 -- what was said before, and what is said now
@@ -109,7 +111,9 @@ concluded may lines (Ok (Said (Err fault))) x y z exit h k = (
   cut_off may h.0 h.1 x z exit k.0 (subst (λ (v : Shown). may h.0 (CutOff x v) h.1) (sym k.1) h.2),
   inr (k.0, subst (λ (v : Shown). IsBrokenOff x v (h.1 ++ text_said h.0)) (sym k.1) h.3),
 )
-concluded may lines (Ok (Stuck place)) x y z exit h k = stuck_concluded may lines place x y z exit h k
+concluded may lines (Ok (Stuck place)) x y z exit h k = line_concluded may lines (refusals.Stuck place) x y z exit h k
+concluded may lines (Ok (Captured fault)) x y z exit h k =
+    line_concluded may lines (refusals.Vcd fault.line fault.number) x y z exit h k
 
 -- the same of words
 abbrev pub MaySo : List (List ℕ) → Option Shelved → Option Shelved → List Watch → List Watch → May

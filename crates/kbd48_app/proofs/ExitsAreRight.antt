@@ -12,7 +12,7 @@ use Rattle.app_words.specs.Kinds.{limit_of}
 use Rattle.kbd48_app.specs.Answers.{OnFetched}
 use Rattle.kbd48_app.specs.Causes.{Fault, InHex, InAsm, InLayout, InCert, InKeys, InScript, InText, BoardStops, HasFault, IsFault, IsStuck, StepStops, exit_at}
 use Rattle.kbd48_app.specs.Plans.{Plan, Fetches}
-use Rattle.kbd48_app.specs.Reached.{IsTooLong, IsUnserved, Reads, on_fetched}
+use Rattle.kbd48_app.specs.Reached.{HasDumpFault, IsTooLong, IsUnserved, Reads, on_fetched}
 use Rattle.kbd48_app.proofs.ExitAndCause.{IsCaused, lacks}
 use Rattle.kbd48_app.proofs.PlansEnd.{leads}
 
@@ -33,7 +33,7 @@ abbrev pub Stops : Option Command → Reading → Type 0
 Stops command read = StepStops command read ⊎ BoardStops command read
 
 -- where more is read there are no fewer faults
-fault_on : (n : ℕ) (read more : Reading) → ((kind : Kind) (file : List ℕ) → read kind file → more kind file)
+pub fault_on : (n : ℕ) (read more : Reading) → ((kind : Kind) (file : List ℕ) → read kind file → more kind file)
     → (fault : Fault) → IsFault n fault read → IsFault n fault more
 fault_on n read more on (InHex fault) h = (h.0, on kinds.Hex h.0 h.1, h.2)
 fault_on n read more on (InAsm fault) h = (h.0, on kinds.Asm h.0 h.1, h.2)
@@ -44,7 +44,7 @@ fault_on n read more on (InScript fault) h = (h.0, on kinds.Script h.0 h.1, h.2)
 fault_on n read more on (InText fault) h = (h.0, on kinds.Layout h.0 h.1, h.2, h.3, h.4, on kinds.Text h.4 h.5, h.6)
 
 -- nor fewer runs that stop
-stop_on : (command : Option Command) (read more : Reading) → ((kind : Kind) (file : List ℕ) → read kind file → more kind file)
+pub stop_on : (command : Option Command) (read more : Reading) → ((kind : Kind) (file : List ℕ) → read kind file → more kind file)
     → Stops command read → Stops command more
 stop_on command read more on (inl h) = inl (h.0, h.1, h.2, on kinds.Hex h.2 h.3, h.4, h.5, h.6, h.7)
 stop_on command read more on (inr h) =
@@ -64,29 +64,31 @@ module _ (n : ℕ) (command : Option Command) (plan : Plan) (shelf : Shelved) wh
   Read kind file = Reads kind file plan shelf
 
   -- all that is reached is one of these files, or is reached by the rest of the plan, of which this is known
-  abbrev pub IsReachedBy : Files → Reading → (Kind → Type 0) → Type 0 → Type 0
-  IsReachedBy files rest long fails =
+  abbrev pub IsReachedBy : Files → Reading → (Kind → Type 0) → Type 0 → Type 0 → Type 0
+  IsReachedBy files rest long fails dump =
       ((kind : Kind) (file : List ℕ) → Read kind file → In files kind file ⊎ rest kind file)
       × ((kind : Kind) (file : List ℕ) → In files kind file ⊎ rest kind file → Read kind file)
       × ((kind : Kind) → long kind → IsTooLong kind plan shelf) × (fails → IsUnserved plan shelf)
+      × (dump → HasDumpFault plan shelf)
 
   abbrev pub IsReached : Files → Plan → Shelved → Type 0
   IsReached files rest after =
       IsReachedBy files (λ kind file. Reads kind file rest after) (λ kind. IsTooLong kind rest after) (IsUnserved rest after)
+      (HasDumpFault rest after)
 
   pub start : IsReached [] plan shelf
-  start = ((λ kind file h. inr h), (λ kind file h. elim h [ inl none ↦ absurd none | inr read ↦ read ]), (λ kind h. h), (λ h. h))
+  start = ((λ kind file h. inr h), (λ kind file h. elim h [ inl none ↦ absurd none | inr read ↦ read ]), (λ kind h. h), (λ h. h), (λ h. h))
 
   fault_caused : (fault : Fault) → HasFault n fault plan shelf → IsCaused n command plan shelf (exit_at fault)
-  fault_caused (InHex fault) h = inr (InHex fault, refl, h)
-  fault_caused (InAsm fault) h = inr (InAsm fault, refl, h)
-  fault_caused (InLayout fault) h = inr (InLayout fault, refl, h)
-  fault_caused (InCert fault) h = inr (InCert fault, refl, h)
-  fault_caused (InKeys (faults.Input line number)) h = inr (InKeys (faults.Input line number), refl, h)
+  fault_caused (InHex fault) h = inr (inl (InHex fault, refl, h))
+  fault_caused (InAsm fault) h = inr (inl (InAsm fault, refl, h))
+  fault_caused (InLayout fault) h = inr (inl (InLayout fault, refl, h))
+  fault_caused (InCert fault) h = inr (inl (InCert fault, refl, h))
+  fault_caused (InKeys (faults.Input line number)) h = inr (inl (InKeys (faults.Input line number), refl, h))
   fault_caused (InKeys (faults.Timing line number first second)) h = ((line, number), (first, second), h)
   fault_caused (InKeys faults.Memory) h = lacks plan shelf kinds.Keys h.4 h.5
-  fault_caused (InScript fault) h = inr (InScript fault, refl, h)
-  fault_caused (InText fault) h = inr (InText fault, refl, h)
+  fault_caused (InScript fault) h = inr (inl (InScript fault, refl, h))
+  fault_caused (InText fault) h = inr (inl (InText fault, refl, h))
 
   -- the cause of an exit is among files: nothing is in the way, or there is a fault, or a run stops
   abbrev pub Cause : Files → Exit → Type 0
@@ -95,7 +97,7 @@ module _ (n : ℕ) (command : Option Command) (plan : Plan) (shelf : Shelved) wh
       ⊎ ((exit ≡ exits.Stuck) × Stops command (In files))
 
   -- a plan that reads nothing more
-  pub ends_right : (files : Files) (exit : Exit) → IsReachedBy files (λ kind file. ⊥) (λ kind. ⊥) ⊥ → Cause files exit
+  pub ends_right : (files : Files) (exit : Exit) → IsReachedBy files (λ kind file. ⊥) (λ kind. ⊥) ⊥ ⊥ → Cause files exit
       → ((fault : Fault) → IsFault n fault (In files) → exit ≡ exit_at fault) → (Stops command (In files) → exit ≡ exits.Stuck)
       → IsRight exit
   ends_right files exit at cause faulty stops =
@@ -136,6 +138,7 @@ module _ (n : ℕ) (command : Option Command) (plan : Plan) (shelf : Shelved) wh
         → IsReachedBy files (λ read file. OnFetched ⊥ ⊥ (λ bytes. ((kind ≡ read) × (bytes ≡ file)) ⊎ Reads read file (next bytes) after) outcome)
         (λ long. OnFetched ⊥ (kind ≡ long) (λ bytes. IsTooLong long (next bytes) after) outcome)
         (OnFetched (Unit {0}) ⊥ (λ bytes. IsUnserved (next bytes) after) outcome)
+        (OnFetched ⊥ ⊥ (λ bytes. HasDumpFault (next bytes) after) outcome)
         → IsRight (on_fetched exits.Read exits.Input (λ bytes. leads n (next bytes) after) outcome)
     fetch_right Fails at = unfound_right exits.Read (at.3 tt) at.0
     fetch_right Long at = unfound_right exits.Input (inl (kind, at.2 kind refl)) at.0
@@ -150,6 +153,7 @@ module _ (n : ℕ) (command : Option Command) (plan : Plan) (shelf : Shelved) wh
       ])),
       at.2,
       at.3,
+      at.4,
     )
 
   pub fetched_right : (kind : Kind) (name : List ℕ) (next : List ℕ → Plan) (files : Files) (before : Shelved) → IsClean files

@@ -10,8 +10,8 @@ use Rattle.app_words.specs.declared.kind.Kind.{Kind}
 use Rattle.app_words.specs.Words.{command_of}
 use Rattle.kbd48_app.specs.Causes.{Fault, HasFault, IsStuck, MayExit, exit_at}
 use Rattle.kbd48_app.specs.Plans.{plan}
-use Rattle.kbd48_app.specs.Reached.{IsTooLong, IsUnserved, may_lack}
-use Rattle.kbd48_app.proofs.CausesHaveExits.{too_long, unserved}
+use Rattle.kbd48_app.specs.Reached.{HasDumpFault, IsTooLong, IsUnserved, may_lack}
+use Rattle.kbd48_app.proofs.CausesHaveExits.{dump_faulty, too_long, unserved}
 use Rattle.kbd48_app.proofs.ExitAndCause.{IsCaused}
 use Rattle.kbd48_app.proofs.PlansAreRight.{right}
 use Rattle.kbd48_app.proofs.PlansEnd.{Ending, IsExit, exits_so, leads}
@@ -42,6 +42,9 @@ module _ (words : List (List ℕ)) (n : ℕ) (exit : Exit) (shelf : Shelved) (h 
 
   pub too_long_caused : (kind : Kind) → IsTooLong kind (plan words) shelf → MayExit exits.Input exit
   too_long_caused kind reached = caused exits.Input (too_long n kind (plan words) shelf reached)
+
+  pub dump_caused : HasDumpFault (plan words) shelf → MayExit exits.Input exit
+  dump_caused reached = caused exits.Input (dump_faulty n (plan words) shelf reached)
 
   pub fault_caused : (fault : Fault) → HasFault n fault (plan words) shelf → MayExit (exit_at fault) exit
   fault_caused fault has = caused (exit_at fault) ((right n (command_of words) words shelf).1 fault has)

@@ -11,7 +11,7 @@ use Rattle.app_words.specs.declared.exit.Exit.{Exit}
 use Rattle.app_words.specs.declared.exit.Exit.TheVariants as exits
 use Rattle.app_words.specs.declared.refusal.Refusal.TheVariants.{Words}
 use Rattle.app_words.specs.declared.words.Command.{Command}
-use Rattle.app_words.specs.declared.words.Command.TheVariants.{OverFile, OverPair, Debug, Probe, Board, Feed, Sample}
+use Rattle.app_words.specs.declared.words.Command.TheVariants.{OverFile, OverPair, Debug, Probe, Board, Feed, Sample, Capture}
 use Rattle.app_words.specs.declared.words.PairCommand.TheVariants.{Certify, OverRun, Spell}
 use Rattle.app_words.specs.declared.words.FileCommand.{FileCommand}
 use Rattle.std.specs.Option.{option_map}
@@ -24,16 +24,18 @@ use Rattle.app_answers.specs.FileAnswers.{Answer, file_said}
 use Rattle.kbd48_app.specs.Plans.{Plan, Gives, Runs, Boards, Fetches, cert_next}
 use Rattle.kbd48_app.specs.Plans.{plan_of, debug_next, probe_next, text_next}
 use Rattle.app_answers.specs.Says.{exit_said}
-use Rattle.app_words.specs.Words.{command_of, fourth_in, name_in, second_in, third_in}
+use Rattle.app_words.specs.Words.{clock_in, command_of, data_in, fourth_in, name_in, second_in, third_in}
 use Rattle.kbd48_app.proofs.CertExits.{cert_exits}
 use Rattle.app_answers.proofs.FileExits.{Exits, file_exits}
-use Rattle.kbd48_app.proofs.PlansEnd.{Ending, IsCut, board_exit, exit_by, fetch_ends, leads, leaf_ends}
+use Rattle.kbd48_app.proofs.PlansEnd.{Ending, IsCut, board_exit, capture_exit, exit_by, fetch_ends, leads, leaf_ends}
 use Rattle.kbd48_app.proofs.PlansTogether.{histories, images, layouts, programs}
 use Rattle.app_words.specs.declared.refusal.Refusal.{Refusal}
 use Rattle.app_words.specs.Refusals.{exit_of}
 use Rattle.app_words.specs.declared.kind.Kind.TheVariants as kinds
 use Rattle.app_boards.specs.BoardTexts.{board_story}
 use Rattle.board_run.proofs.EndOf.{end_of}
+use Rattle.vcd_reader.specs.Reads.{reads_of}
+use Rattle.vcd_reader.specs.declared.fault.VcdFault.{VcdFault}
 use Rattle.typed_log.specs.Typing.{first_without}
 
 never_file : (command : FileCommand) (bytes : List ℕ) (said : Answer) → Exits command bytes said → exit_said said ≡ exits.Words → ⊥
@@ -49,6 +51,9 @@ never_by first is = grind arith
 
 never_board : (end : Option End) → board_exit end ≡ exits.Words → ⊥
 never_board end is = grind arith
+
+never_captured : (first : Option VcdFault) → capture_exit first ≡ exits.Words → ⊥
+never_captured first is = grind arith
 
 never_cut : (kind : Kind) (answer : Answer) → IsCut kind answer → exit_said answer ≡ exits.Words → ⊥
 never_cut kind answer cut is = grind arith
@@ -104,6 +109,7 @@ never_command Debug words =
 never_command (Probe fill) words =
     programs Together goes_on refused (probe_next fill (fourth_in words)) (probe_next fill (fourth_in words))
     (λ image history script n. never_by (script_fault n script)) (name_in words) (second_in words) (third_in words)
+never_command Capture words = λ bytes n. never_captured (reads_of (clock_in words) (data_in words) bytes).fault
 
 only_none : (command : Option Command) (words : List (List ℕ)) (shelf after : Option Shelved) (answer : Answer) (probes : List Watch)
     (left : Left) → MayEndAs command words shelf answer after probes left → exit_said answer ≡ exits.Words → command ≡ None

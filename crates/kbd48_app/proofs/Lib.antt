@@ -21,3 +21,4 @@ pub mod AnswersAreSpoken
 pub mod LogsAreLines
 pub mod BoardsAreSaid
 pub mod BoardSaysRun
+pub mod CapturesAreSaid

@@ -14,11 +14,16 @@ use Rattle.layout_reader.specs.Layouts.{KeyLayout}
 use Rattle.app_words.specs.declared.exit.Exit.{Exit}
 use Rattle.app_words.specs.declared.exit.Exit.TheVariants as exits
 use Rattle.app_words.specs.declared.kind.Kind.{Kind}
+use Rattle.app_words.specs.declared.kind.Kind.TheVariants.{Vcd}
+use Rattle.capture_lines.specs.Captures.{capture_text}
+use Rattle.vcd_reader.specs.Reads.{reads_of}
+use Rattle.vcd_reader.specs.declared.fault.VcdFault.{VcdFault}
+use Rattle.app_answers.specs.Captures.{IsCaptured}
 use Rattle.app_words.specs.declared.refusal.Refusal.TheVariants.{Memory}
 use Rattle.app_words.specs.declared.words.BoardCommand.{BoardCommand}
 use Rattle.app_words.specs.declared.words.BoardRun.{BoardRun}
 use Rattle.app_words.specs.declared.words.Command.{Command}
-use Rattle.app_words.specs.declared.words.Command.TheVariants.{OverPair, Board, Sample}
+use Rattle.app_words.specs.declared.words.Command.TheVariants.{OverPair, Board, Sample, Capture}
 use Rattle.app_words.specs.declared.words.PairCommand.TheVariants.{OverRun}
 use Rattle.app_words.specs.declared.words.RunCommand.{RunCommand}
 use Rattle.app_words.specs.declared.words.RunCommand.TheVariants.{Log, Expect, Trace}
@@ -26,11 +31,11 @@ use Rattle.kbd48_app.specs.Answers.{MayEnd}
 use Rattle.app_answers.specs.Leaving.{Left}
 use Rattle.app_boards.specs.BoardTexts.{board_said}
 use Rattle.app_answers.specs.FileAnswers.{Answer}
-use Rattle.kbd48_app.specs.Plans.{Plan, Boards, Fetches, Gives, Runs, Samples, plan_of}
+use Rattle.kbd48_app.specs.Plans.{Plan, Boards, Captures, Fetches, Gives, Runs, Samples, plan_of}
 use Rattle.app_runs.specs.RunTexts.{AreLeftWithoutMemory}
 use Rattle.app_words.specs.Refusals.{line_of}
 use Rattle.app_answers.specs.Says.{text_said}
-use Rattle.app_words.specs.Words.{command_of, name_in, second_in, takes_memory_first, third_in}
+use Rattle.app_words.specs.Words.{clock_in, command_of, data_in, name_in, second_in, takes_memory_first, third_in}
 use Rattle.kbd48_app.proofs.AnswersEndCalls.{memory_said}
 use Rattle.kbd48_app.proofs.OneText.{no_refusal}
 use Rattle.kbd48_app.proofs.PlansEnd.{Ending, as_plan, fetch_ends}
@@ -85,6 +90,19 @@ board_keeps : (wanted : BoardRun) (image : List ℕ) (history : KeyHistory) → 
 board_keeps wanted image history shelf answer after probes left h is =
     elim h.0 [ inl memory ↦ (memory.2, memory.1) | inr reported ↦ absurd (not_memory wanted.prints_what reported.0 reported.0.end (sym reported.3 ∙ is)) ]
 
+-- what is found in a dump
+found_not_memory : (first : Option VcdFault) (text : List ℕ) (answer : Answer) (log : List ℕ) → IsCaptured first text answer log
+    → answer ≡ Err Memory → ⊥
+found_not_memory None text answer log h is = no_refusal text Memory (sym h.0 ∙ is)
+found_not_memory (Some fault) text answer log h is = let e = sym h.0 ∙ is in cc
+
+capture_keeps : (clk dat dump : List ℕ) → KeepsFirst (Captures clk dat dump)
+capture_keeps clk dat dump shelf answer after probes left h is =
+    elim h.0 [
+      | inl memory ↦ (h.2, memory.1)
+      | inr found ↦ absurd (found_not_memory (reads_of clk dat dump).fault (capture_text clk dat dump) answer left.log found is)
+    ]
+
 keeps_as : (command : Option Command) (words : List (List ℕ)) → takes_memory_first command ≡ true → KeepsFirst (plan_of command words)
 keeps_as (Some (Sample count)) words first = sample_keeps count
 keeps_as (Some (OverPair (OverRun command))) words first =
@@ -93,6 +111,8 @@ keeps_as (Some (OverPair (OverRun command))) words first =
 keeps_as (Some (Board wanted)) words first =
     programs (λ p q. KeepsFirst p) (λ kind name next other. fetch_keeps kind name next) (λ refusal other. refused_keeps refusal)
     (Boards wanted) (Boards wanted) (board_keeps wanted) (name_in words) (second_in words) (third_in words)
+keeps_as (Some Capture) words first =
+    fetch_keeps Vcd (name_in words) (Captures (clock_in words) (data_in words)) (capture_keeps (clock_in words) (data_in words))
 keeps_as command words first = absurd cc
 
 pub lacks_first : (words : List (List ℕ)) (shelf after : Option Shelved) (probes left : List Watch) (x z : Shown) (exit : Exit)

@@ -18,18 +18,20 @@ use Rattle.layout_reader.specs.Documents.{layout_of_document}
 use Rattle.layout_reader.specs.Faults.{Refusal as LayoutRefusal}
 use Rattle.layout_reader.specs.Layouts.{KeyLayout}
 use Rattle.typed_log.specs.Typing.{first_without}
+use Rattle.vcd_reader.specs.Reads.{reads_of}
+use Rattle.vcd_reader.specs.declared.fault.VcdFault.{VcdFault}
 use Rattle.app_words.specs.declared.exit.Exit.TheVariants as exits
 use Rattle.app_words.specs.declared.kind.Kind.TheVariants as kinds
 use Rattle.app_words.specs.declared.words.BoardRun.{BoardRun}
 use Rattle.app_words.specs.declared.words.Command.{Command}
-use Rattle.app_words.specs.declared.words.Command.TheVariants.{OverFile, OverPair, Debug, Probe, Board, Feed, Sample}
+use Rattle.app_words.specs.declared.words.Command.TheVariants.{OverFile, OverPair, Debug, Probe, Board, Feed, Sample, Capture}
 use Rattle.app_words.specs.declared.words.FileCommand.{FileCommand}
 use Rattle.app_words.specs.declared.words.FileCommand.TheVariants.{Step}
 use Rattle.app_words.specs.declared.words.PairCommand.TheVariants.{Certify, Spell, OverRun}
 use Rattle.app_words.specs.declared.words.RunCommand.{RunCommand}
 use Rattle.app_words.specs.Kinds.{kind_of}
 use Rattle.app_words.specs.Refusals.{exit_of}
-use Rattle.app_words.specs.Words.{fourth_in, name_in, second_in, third_in}
+use Rattle.app_words.specs.Words.{clock_in, data_in, fourth_in, name_in, second_in, third_in}
 use Rattle.app_answers.specs.CertTexts.{cert_said}
 use Rattle.app_answers.specs.FileAnswers.{file_said, keys_refusal}
 use Rattle.app_answers.specs.Says.{exit_said}
@@ -37,12 +39,15 @@ use Rattle.app_answers.proofs.FileExits.{asm_answered, file_exits, hex_answered,
 use Rattle.app_boards.specs.BoardTexts.{board_story}
 use Rattle.app_boards.specs.Debugging.{script_fault}
 use Rattle.kbd48_app.specs.Causes.{Fault, InHex, InAsm, InLayout, InCert, InKeys, InScript, InText, BoardStops, IsFault, exit_at}
-use Rattle.kbd48_app.specs.Plans.{Plan, Boards, Certifies, Debugs, Fetches, Gives, Runs, Samples, Spells, cert_next, debug_next, debug_plan}
+use Rattle.kbd48_app.specs.Plans.{Plan, Boards, Captures, Certifies, Debugs, Fetches, Gives, Runs, Samples, Spells, capture_plan, cert_next, debug_next, debug_plan}
 use Rattle.kbd48_app.specs.Plans.{history_plan, keys_next, pair_plan, probe_plan}
 use Rattle.kbd48_app.specs.Plans.{plan_of, probe_next, program_next, program_plan, script_next, text_next, with_history, with_image, with_layout}
+use Rattle.app_words.specs.declared.kind.Kind.{Kind}
+use Rattle.kbd48_app.specs.Reached.{Reads}
 use Rattle.kbd48_app.proofs.CertExits.{cert_exits}
-use Rattle.kbd48_app.proofs.ExitsAreRight.{Cause, Files, In, IsReached, IsReachedBy, IsRight, Reading, Stops, ends_right, fetched_right, start}
-use Rattle.kbd48_app.proofs.PlansEnd.{board_exit, exit_by, leads}
+use Rattle.kbd48_app.proofs.ExitAndCause.{IsCaused}
+use Rattle.kbd48_app.proofs.ExitsAreRight.{Cause, Files, In, IsReached, IsReachedBy, IsRight, Reading, Stops, ends_right, fault_on, fetched_right, start, stop_on}
+use Rattle.kbd48_app.proofs.PlansEnd.{board_exit, capture_exit, exit_by, leads}
 
 -- nothing was read, or an image without a fault
 abbrev IsOlder : Files → Type 0
@@ -209,7 +214,7 @@ module _ (n : ℕ) (command : Option Command) (plan : Plan) (shelf : Shelved) (n
   by_first : (files : Files) (first : Option (ℕ × ℕ)) (fault : ℕ × ℕ → Fault) (after : Shelved) (rest : Plan)
       → ((place : ℕ × ℕ) → first ≡ Some place → IsFault n (fault place) (In files) × (exit_at (fault place) ≡ exits.Input))
       → ((other : Fault) → IsFault n other (In files) → exit_by first ≡ exit_at other)
-      → IsReachedBy n command plan shelf files (λ kind file. ⊥) (λ kind. ⊥) ⊥ → IsRight n command plan shelf (exit_by first)
+      → IsReachedBy n command plan shelf files (λ kind file. ⊥) (λ kind. ⊥) ⊥ ⊥ → IsRight n command plan shelf (exit_by first)
   by_first files None fault after rest is alone at =
       ends_right n command plan shelf files exits.Done at (inl refl) alone (λ h. absurd (never files h))
   by_first files (Some place) fault after rest is alone at =
@@ -366,7 +371,7 @@ none_stops : (command : Option Command) → Stops command (In []) → ⊥
 none_stops command h = grind arith
 
 done_right : (n : ℕ) (command : Option Command) (plan : Plan) (shelf : Shelved)
-    → IsReachedBy n command plan shelf [] (λ kind file. ⊥) (λ kind. ⊥) ⊥ → IsRight n command plan shelf exits.Done
+    → IsReachedBy n command plan shelf [] (λ kind file. ⊥) (λ kind. ⊥) ⊥ ⊥ → IsRight n command plan shelf exits.Done
 done_right n command plan shelf at =
     ends_right n command plan shelf [] exits.Done at (inl refl) (λ fault h. absurd (none_faulty n fault h))
     (λ h. absurd (none_stops command h))
@@ -378,6 +383,28 @@ never : (command : Command) → ((count : ℕ) → Some command ≡ Some (OverFi
     → ((wanted : BoardRun) → Some command ≡ Some (Board wanted) → ⊥) → IsNever command
 never command step board files (inl h) = step h.0 h.1
 never command step board files (inr h) = board h.0 h.1
+
+-- `capture`: a dump alone is read, which has none of the other files' faults
+dump_clean : (n : ℕ) (dump : List ℕ) (fault : Fault) → IsFault n fault (In ((kinds.Vcd, dump) ∷ [])) → ⊥
+dump_clean n dump fault h = grind arith
+
+module _ (n : ℕ) (plan : Plan) (shelf : Shelved) (clk dat dump : List ℕ) where
+  dump_judged : (after : Shelved) (first : Option VcdFault) → (reads_of clk dat dump).fault ≡ first
+      → IsReached n (Some Capture) plan shelf ((kinds.Vcd, dump) ∷ []) (Captures clk dat dump) after
+      → IsCaused n (Some Capture) plan shelf (capture_exit first)
+  dump_judged after None is at = tt
+  dump_judged after (Some fault) is at = inr (inr (at.4 (fault, is)))
+
+  dump_right : (after : Shelved) → IsReached n (Some Capture) plan shelf ((kinds.Vcd, dump) ∷ []) (Captures clk dat dump) after
+      → IsRight n (Some Capture) plan shelf (capture_exit (reads_of clk dat dump).fault)
+  dump_right after at =
+      let all : (kind : Kind) (file : List ℕ) → Reads kind file plan shelf → In ((kinds.Vcd, dump) ∷ []) kind file =
+      λ kind file h. elim (at.0 kind file h) [ inl old ↦ old | inr none ↦ absurd none ] in (
+        dump_judged after (reads_of clk dat dump).fault refl at,
+        (λ fault h. absurd (dump_clean n dump fault (fault_on n (λ kind file. Reads kind file plan shelf) (In ((kinds.Vcd, dump) ∷ [])) all fault h))),
+        (λ h. absurd (never Capture (λ count e. cc) (λ wanted e. cc) ((kinds.Vcd, dump) ∷ [])
+            (stop_on (Some Capture) (λ kind file. Reads kind file plan shelf) (In ((kinds.Vcd, dump) ∷ [])) all h))),
+      )
 
 -- the plan of each command
 pub right : (n : ℕ) (command : Option Command) (words : List (List ℕ)) (shelf : Shelved)
@@ -418,3 +445,8 @@ right n (Some (Probe fill)) words shelf =
     let plan = plan_of (Some (Probe fill)) words in
     probe_right n (Some (Probe fill)) plan shelf (never (Probe fill) (λ count e. cc) (λ wanted e. cc)) fill
     (name_in words) (second_in words) (third_in words) (fourth_in words) shelf (start n (Some (Probe fill)) plan shelf)
+right n (Some Capture) words shelf =
+    let plan = plan_of (Some Capture) words in
+    fetched_right n (Some Capture) plan shelf kinds.Vcd (name_in words) (Captures (clock_in words) (data_in words)) [] shelf
+    (none_faulty n, none_stops (Some Capture)) (λ dump. dump_right n plan shelf (clock_in words) (data_in words) dump (after_fetch shelf))
+    (start n (Some Capture) plan shelf)

@@ -10,6 +10,9 @@ use Rattle.board_probes.specs.Probes.{Watch}
 use Rattle.debugger.specs.Sessions.{Debuggee}
 use Rattle.io_edge.specs.Said.{Shown}
 use Rattle.layout_reader.specs.Layouts.{KeyLayout}
+use Rattle.capture_lines.specs.Captures.{capture_text}
+use Rattle.vcd_reader.specs.Reads.{reads_of}
+use Rattle.vcd_reader.specs.declared.fault.VcdFault.{VcdFault}
 use Rattle.typed_log.specs.Typing.{first_without}
 use Rattle.io_edge.specs.Shelf.{Shelved, Fetched, Fails, Long, Found, after_fetch, fetched}
 use Rattle.app_words.specs.declared.exit.Exit.{Exit}
@@ -23,11 +26,12 @@ use Rattle.app_answers.specs.Answers.{MayAnswerOf, MayAnswerText}
 use Rattle.app_boards.specs.SessionAnswers.{MayAnswerSession}
 use Rattle.app_answers.specs.Leaving.{Left}
 use Rattle.app_boards.specs.BoardTexts.{board_said, board_story}
+use Rattle.app_answers.specs.Captures.{IsCaptured}
 use Rattle.app_answers.specs.CertTexts.{cert_said}
 use Rattle.app_boards.specs.Debugging.{script_fault}
 use Rattle.app_words.specs.Kinds.{limit_of}
 use Rattle.app_answers.specs.FileAnswers.{Answer}
-use Rattle.kbd48_app.specs.Plans.{Plan, Gives, Certifies, Runs, Boards, Samples, Debugs, Fetches, plan, plan_of, Spells}
+use Rattle.kbd48_app.specs.Plans.{Plan, Gives, Certifies, Runs, Boards, Samples, Debugs, Captures, Fetches, plan, plan_of, Spells}
 use Rattle.kbd48_app.specs.Reached.{on_fetched, may_lack}
 use Rattle.app_answers.specs.Says.{Says, exit_said}
 use Rattle.app_answers.specs.Taking.{taking_of}
@@ -44,6 +48,16 @@ board_exit (Some Over) = exits.Done
 board_exit (Some (Stuck place)) = exits.Stuck
 board_exit None = exits.Done
 
+-- the exit of a capture, by its dump's first fault
+abbrev pub capture_exit : Option VcdFault → Exit
+capture_exit None = exits.Done
+capture_exit (Some fault) = exits.Input
+
+capture_led : (first : Option VcdFault) (text : List ℕ) (answer : Answer) (log : List ℕ)
+    → IsCaptured first text answer log → exit_said answer ≡ capture_exit first
+capture_led None text answer log h = ap exit_said h.0
+capture_led (Some fault) text answer log h = ap exit_said h.0
+
 board_led : (wanted : BoardCommand) (run : Outcome) (end : End) → exit_said (board_said wanted run end) ≡ board_exit (Some end)
 board_led wanted run Over = refl
 board_led wanted run (Stuck place) = refl
@@ -57,6 +71,7 @@ leads n (Runs command layout history) shelf = exits.Done
 leads n (Boards wanted image history) shelf = board_exit (end_of (board_story wanted image history))
 leads n (Samples count) shelf = exits.Done
 leads n (Debugs s script) shelf = exit_by (script_fault n script)
+leads n (Captures clk dat dump) shelf = capture_exit (reads_of clk dat dump).fault
 leads n (Fetches kind name next) shelf =
     on_fetched exits.Read exits.Input (λ bytes. leads n (next bytes) (after_fetch shelf)) (fetched shelf name (limit_of kind))
 
@@ -144,6 +159,11 @@ leaf_ends (Samples count) some shelf answer after probes left leaf h =
     elim h.0 [ inl memory ↦ inr (memory.0, refl) | inr said ↦ inl (ap exit_said said.3) ]
 leaf_ends (Debugs s script) some shelf answer after probes left leaf h =
     session_led (script_fault (length probes) script) s script answer probes left h.0
+leaf_ends (Captures clk dat dump) some shelf answer after probes left leaf h =
+    elim h.0 [
+      | inl memory ↦ inr (memory.0, refl)
+      | inr found ↦ inl (capture_led (reads_of clk dat dump).fault (capture_text clk dat dump) answer left.log found)
+    ]
 
 pub ends_so : (p : Plan) (shelf : Shelved) (answer : Answer) (after : Option Shelved) (probes : List Watch) (left : Left)
     → MayEnd p (Some shelf) answer after probes left → IsLed (leads (length probes) p shelf) (may_lack p shelf) answer

@@ -24,14 +24,14 @@ use Rattle.app_answers.specs.Leaving.{Left}
 use Rattle.kbd48_app.specs.Causes.{IsStuck}
 use Rattle.kbd48_app.specs.Complete.{IsFaultless, IsLeft, IsNoFault, IsServed}
 use Rattle.app_answers.specs.FileAnswers.{Answer}
-use Rattle.kbd48_app.specs.Plans.{Plan, Gives, Certifies, Spells, Runs, Boards, Samples, Debugs, Fetches, plan_of}
+use Rattle.kbd48_app.specs.Plans.{Plan, Gives, Certifies, Spells, Runs, Boards, Samples, Debugs, Captures, Fetches, plan_of}
 use Rattle.kbd48_app.specs.Reached.{on_fetched}
 use Rattle.app_answers.specs.Says.{Says, exit_said, text_said}
 use Rattle.app_words.specs.Words.{command_of}
 use Rattle.kbd48_app.proofs.ExitAndCause.{IsCaused}
 use Rattle.kbd48_app.proofs.CertExits.{right_exit}
 use Rattle.kbd48_app.proofs.AnswersEndCalls.{never_write, wrote}
-use Rattle.kbd48_app.proofs.PlansEnd.{Ending, as_plan, board_exit, ends_so, exit_by, leads}
+use Rattle.kbd48_app.proofs.PlansEnd.{Ending, as_plan, board_exit, capture_exit, ends_so, exit_by, leads}
 use Rattle.kbd48_app.proofs.PlansAreRight.{right}
 
 -- where nothing is in its way a plan leads to its end, or to a byte without an instruction
@@ -55,6 +55,7 @@ served_past n (Runs command layout history) shelf h = inl refl
 served_past n (Boards wanted image history) shelf h = board_past (end_of (board_story wanted image history))
 served_past n (Samples count) shelf h = inl refl
 served_past n (Debugs s script) shelf h = inl (ap exit_by h)
+served_past n (Captures clk dat dump) shelf h = inl (ap capture_exit h)
 
 -- the end and want of memory are always left
 done_left : (command : Option Command) → IsLeft command exits.Done

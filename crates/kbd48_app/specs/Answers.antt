@@ -9,9 +9,10 @@ use Rattle.app_words.specs.declared.refusal.Refusal.TheVariants.{Words, Read, To
 use Rattle.app_words.specs.declared.words.Command.{Command}
 use Rattle.app_words.specs.Kinds.{limit_of}
 use Rattle.app_answers.specs.FileAnswers.{Answer}
-use Rattle.kbd48_app.specs.Plans.{Plan, plan_of, Gives, Certifies, Spells, Runs, Boards, Samples, Debugs, Fetches}
+use Rattle.kbd48_app.specs.Plans.{Plan, plan_of, Gives, Certifies, Spells, Runs, Boards, Samples, Debugs, Captures, Fetches}
 use Rattle.app_words.specs.Words.{command_of}
 use Rattle.app_answers.specs.Answers.{MayAnswerCert, MayAnswerOf, MayAnswerText}
+use Rattle.app_answers.specs.Captures.{MayAnswerCapture}
 use Rattle.app_answers.specs.Fetching.{MayFetch}
 use Rattle.app_answers.specs.Leaving.{Left}
 use Rattle.app_boards.specs.BoardAnswers.{MayAnswerBoard}
@@ -45,6 +46,8 @@ MayEnd (Samples count) shelf answer after probes left =
     MayAnswerSample count answer probes left.probes × (after ≡ shelf) × (left.log ≡ [])
 MayEnd (Debugs s script) shelf answer after probes left =
     MayAnswerDebug s script answer probes left × (after ≡ shelf) × (left.log ≡ [])
+MayEnd (Captures clk dat dump) shelf answer after probes left =
+    MayAnswerCapture clk dat dump answer left.log × (after ≡ shelf) × (left.probes ≡ probes)
 MayEnd (Fetches kind name next) shelf answer after probes left =
     let on = option_map after_fetch shelf in
     (outcome : Fetched) × MayFetch shelf name (limit_of kind) outcome

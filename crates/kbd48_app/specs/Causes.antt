@@ -32,10 +32,10 @@ use Rattle.app_boards.specs.Debugging.{script_fault}
 use Rattle.app_answers.specs.FileAnswers.{keys_refusal}
 use Rattle.app_words.specs.Refusals.{exit_of}
 use Rattle.kbd48_app.specs.Plans.{Plan}
-use Rattle.kbd48_app.specs.Reached.{IsTooLong, Reads}
+use Rattle.kbd48_app.specs.Reached.{HasDumpFault, IsTooLong, Reads}
 use Rattle.app_answers.specs.Stepping.{Stopped, after_steps}
 
--- a first fault, by the kind of its file
+-- a first fault, by the kind of its file; that of a dump is `HasDumpFault`
 pub data Fault : Type 0 where
   InHex : HexFault → Fault
   InAsm : ℕ × ℕ → Fault
@@ -82,6 +82,7 @@ abbrev pub HasFileFault : ℕ → Plan → Shelved → Type 0
 HasFileFault probes plan shelf =
     ((kind : Kind) × IsTooLong kind plan shelf)
     ⊎ ((fault : Fault) × (exit_at fault ≡ exits.Input) × HasFault probes fault plan shelf)
+    ⊎ HasDumpFault plan shelf
 
 -- one of the COUNT steps of `step`, over the image of the HEX file, meets a byte without an instruction
 abbrev pub StepStops : Option Command → (Kind → List ℕ → Type 0) → Type 0

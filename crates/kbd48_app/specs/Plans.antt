@@ -17,19 +17,20 @@ use Rattle.app_words.specs.declared.kind.Kind.TheVariants as kinds
 use Rattle.app_words.specs.declared.refusal.Refusal.TheVariants.{Words, Hex, Layout}
 use Rattle.app_words.specs.declared.words.BoardRun.{BoardRun}
 use Rattle.app_words.specs.declared.words.Command.{Command}
-use Rattle.app_words.specs.declared.words.Command.TheVariants.{OverFile, OverPair, Debug, Probe, Board, Feed, Sample}
+use Rattle.app_words.specs.declared.words.Command.TheVariants.{OverFile, OverPair, Debug, Probe, Board, Feed, Sample, Capture}
 use Rattle.app_words.specs.declared.words.PairCommand.{PairCommand}
 use Rattle.app_words.specs.declared.words.PairCommand.TheVariants.{Certify, Spell, OverRun}
 use Rattle.app_words.specs.declared.words.RunCommand.{RunCommand}
 use Rattle.app_words.specs.Kinds.{kind_of}
 use Rattle.app_answers.specs.Feeding.{fed_text}
-use Rattle.app_words.specs.Words.{command_of, name_in, second_in, third_in, fourth_in}
+use Rattle.app_words.specs.Words.{clock_in, command_of, data_in, name_in, second_in, third_in, fourth_in}
 use Rattle.app_answers.specs.FileAnswers.{Answer, file_said, keys_refusal}
 
 -- a plan says something, or what is found of a certificate for an image, or with which keys of a layout a text is
 -- typed, or what a command says of the run of a layout under a history, or what is wanted of the run of an image on the
 -- board under a history, or what is counted in the run of so many strokes, or what a script says in a session over the
--- run of what is debugged, or it fetches the file of this kind and name, and goes on with the file's bytes
+-- run of what is debugged, or what is found in a dump with these names of the clock and of the data wire, or it fetches
+-- the file of this kind and name, and goes on with the file's bytes
 pub data Plan : Type 0 where
   Gives : Answer → Plan
   Certifies : List ℕ → List ℕ → Plan
@@ -38,6 +39,7 @@ pub data Plan : Type 0 where
   Boards : BoardRun → List ℕ → KeyHistory → Plan
   Samples : ℕ → Plan
   Debugs : Debuggee → List ℕ → Plan
+  Captures : List ℕ → List ℕ → List ℕ → Plan
   Fetches : Kind → List ℕ → (List ℕ → Plan) → Plan
 
 -- what is fetched for the image of a HEX file, or the file's first fault
@@ -99,6 +101,10 @@ probe_next fill name image history = script_next name (with_fill fill (of_progra
 abbrev pub probe_plan : ℕ → List ℕ → List ℕ → List ℕ → List ℕ → Plan
 probe_plan fill first second third fourth = program_plan (probe_next fill fourth) first second third
 
+-- `capture`: a dump, with the names of its clock and of its data wire
+abbrev pub capture_plan : List ℕ → List ℕ → List ℕ → Plan
+capture_plan clk dat name = Fetches kinds.Vcd name (Captures clk dat)
+
 -- a command over two files, by their names
 abbrev pub pair_plan : PairCommand → List ℕ → List ℕ → Plan
 pair_plan Certify first second = Fetches kinds.Hex first (λ bytes. with_image (cert_next second) (hex_of bytes))
@@ -118,6 +124,7 @@ plan_of (Some (Board wanted)) words = program_plan (Boards wanted) (name_in word
 plan_of (Some Debug) words = debug_plan (name_in words) (second_in words) (third_in words)
 plan_of (Some (Probe fill)) words =
     probe_plan fill (name_in words) (second_in words) (third_in words) (fourth_in words)
+plan_of (Some Capture) words = capture_plan (clock_in words) (data_in words) (name_in words)
 
 abbrev pub plan : List (List ℕ) → Plan
 plan words = plan_of (command_of words) words

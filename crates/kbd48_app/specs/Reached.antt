@@ -5,9 +5,11 @@ use Rattle.io_edge.specs.Shelf.{Shelved, Fetched, Fails, Long, Found, after_fetc
 use Rattle.app_words.specs.declared.exit.Exit.{Exit}
 use Rattle.app_words.specs.declared.exit.Exit.TheVariants.{Memory, Write}
 use Rattle.app_words.specs.declared.kind.Kind.{Kind}
+use Rattle.vcd_reader.specs.Reads.{reads_of}
+use Rattle.vcd_reader.specs.declared.fault.VcdFault.{VcdFault}
 use Rattle.kbd48_app.specs.Answers.{OnFetched}
 use Rattle.app_words.specs.Kinds.{limit_of}
-use Rattle.kbd48_app.specs.Plans.{Plan, Fetches}
+use Rattle.kbd48_app.specs.Plans.{Plan, Captures, Fetches}
 
 -- a value for each thing that a fetch may come to
 abbrev pub on_fetched : {A : Type 0} → A → A → (List ℕ → A) → Fetched → A
@@ -28,6 +30,13 @@ IsTooLong long (Fetches kind name next) shelf =
     (λ bytes. IsTooLong long (next bytes) (after_fetch shelf))
     (fetched shelf name (limit_of kind))
 IsTooLong long leaf shelf = ⊥
+
+-- a dump is reached that has a first fault, by the names that the words give to its clock and to its data wire
+abbrev pub HasDumpFault : Plan → Shelved → Type 0
+HasDumpFault (Fetches kind name next) shelf =
+    OnFetched ⊥ ⊥ (λ bytes. HasDumpFault (next bytes) (after_fetch shelf)) (fetched shelf name (limit_of kind))
+HasDumpFault (Captures clk dat dump) shelf = (fault : VcdFault) × ((reads_of clk dat dump).fault ≡ Some fault)
+HasDumpFault leaf shelf = ⊥
 
 -- a file of this kind is reached, and has these bytes
 abbrev pub Reads : Kind → List ℕ → Plan → Shelved → Type 0

@@ -14,12 +14,15 @@ ghost use Rattle.kbd48_app.specs.Answers.{MayAnswer, MayEnd};
 ghost use Rattle.kbd48_app.specs.Plans.{Gives, Fetches, pair_plan};
 
 use crate::boarding::over_board;
+use crate::capturing::over_capture;
 use crate::debugging::{over_debug, over_probe};
 use app_answers::{
     Spoken, carry_out, certify, feed, fetch_file, image_in, layout_in, spell, to_say,
 };
 use app_runs::{sample, say_run};
-use app_words::{Command, FileCommand, Kind, PairCommand, Refusal, RunCommand, read_command};
+use app_words::{
+    Command, FileCommand, Kind, PairCommand, Refusal, RunCommand, clock_in, data_in, read_command,
+};
 use board_probes::Probe;
 use io_edge::{Shelf, Sink};
 use layout_reader::Layout;
@@ -169,5 +172,13 @@ pub fn answer<F: Shelf, K: Sink>(
             alloc, wanted, &words[1], &words[2], &words[3], shelf, out, probes,
         ),
         Some(Command::Sample(strokes)) => sample(alloc, strokes.count(), out, probes),
+        Some(Command::Capture) => over_capture(
+            alloc,
+            &words[1],
+            clock_in(words),
+            data_in(words),
+            shelf,
+            out,
+        ),
     }
 }

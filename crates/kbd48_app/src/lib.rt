@@ -8,6 +8,7 @@
 
 mod answering;
 mod boarding;
+mod capturing;
 mod debugging;
 mod law;
 mod top;

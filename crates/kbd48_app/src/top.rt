@@ -9,7 +9,7 @@ ghost use Rattle.kbd48_app.specs.Asked.{asked, planned, texts};
 ghost use Rattle.kbd48_app.specs.Causes.{Fault, HasFault, HasFileFault, IsStuck, IsUntimely, MayExit, exit_at};
 ghost use Rattle.kbd48_app.specs.Complete.{IsFaultless, IsLeft};
 ghost use Rattle.app_answers.specs.FileAnswers.{Answer};
-ghost use Rattle.kbd48_app.specs.Reached.{IsTooLong, IsUnserved, fetches_of, Makes, may_lack};
+ghost use Rattle.kbd48_app.specs.Reached.{HasDumpFault, IsTooLong, IsUnserved, fetches_of, Makes, may_lack};
 ghost use Rattle.app_words.specs.Refusals.{exit_of, line_of};
 ghost use Rattle.app_answers.specs.Says.{Says};
 ghost use Rattle.app_answers.specs.Spoken.{Concludes, Prints};
@@ -51,6 +51,13 @@ fn conclude<K: Sink>(out: &mut K, answer: &Result<Spoken, Refusal>) -> Exit
         Ok(Spoken::Said(Ok(()))) => Exit::Done,
         Ok(Spoken::Said(Err(_))) => Exit::Write,
         Ok(Spoken::Stuck(stuck)) => print_refusal(out, &Refusal::Stuck(*stuck)),
+        Ok(Spoken::Captured(fault)) => print_refusal(
+            out,
+            &Refusal::Vcd {
+                line: fault.line,
+                number: fault.number,
+            },
+        ),
         Err(refusal) => print_refusal(out, refusal),
     }
 }
@@ -86,8 +93,8 @@ fn answer_and_print<F: Shelf, K: Sink>(
 /// the order of the words, each before the next is fetched; the first refusal ends the call. All that is said goes to
 /// the sink line by line: each line is offered whole in one `put`, and what that didn't take of it again. `run`, `trace`
 /// and `board` put each line as it arises. A sink that fails ends the call with `Write`; want of memory with `Memory`,
-/// which never comes for words outside the forms, and in `run`, `trace`, `board` and `sample` only before anything is
-/// put and before a probe has looked.
+/// which never comes for words outside the forms, and in `run`, `trace`, `board`, `sample` and `capture` only before
+/// anything is put and before a probe has looked.
 ///
 /// `run`, `expect`, `board` and `sample` leave each probe as one look at each state of their run does. If a put of a line
 /// that a step said failed, and the sink shows what it took, `run` and `board` leave it as one at each state up to that
@@ -100,8 +107,8 @@ pub fn kbd48<F: Shelf, K: Sink>(
     probes: &mut Vec<Box<dyn Probe>>,
 ) -> Exit
     // What is printed, and how the probes are left: the text of an answer that the words, the shelf and the probes may
-    // give, put line by line, after a log in `board` alone; if all of it is taken, a run's probes are as after a
-    // look at each of its states; if a put of a line of `run` or `board` failed, of a sink that shows what it took, as
+    // give, put line by line, after a log in `board` and `capture` alone; if all of it is taken, a run's probes are as
+    // after a look at each of its states; if a put of a line of `run` or `board` failed, of a sink that shows what it took, as
     // after a look at the states up to the one that the step which said this line led to.
     ensures says { let before = map (λ b. watch b) probes.old.items in
         let after = map (λ b. watch b) probes.new.items in
@@ -131,6 +138,8 @@ pub fn kbd48<F: Shelf, K: Sink>(
         IsTooLong kind (planned words.now) shelved → MayExit Exit.Input result) }
     ensures fault { IfSome (F.in_memory shelf.old) (λ shelved. (fault : Fault) →
         HasFault (length probes.old.items) fault (planned words.now) shelved → MayExit (exit_at fault) result) }
+    ensures dump_fault { IfSome (F.in_memory shelf.old) (λ shelved.
+        HasDumpFault (planned words.now) shelved → MayExit Exit.Input result) }
     ensures input_only { IfSome (F.in_memory shelf.old) (λ shelved.
         result ≡ Exit.Input → HasFileFault (length probes.old.items) (planned words.now) shelved) }
     // Timing, of a shelf whose files are known: only if a key file that is reached has a fault of time first.
@@ -145,7 +154,7 @@ pub fn kbd48<F: Shelf, K: Sink>(
     // Memory: never if the first fetch fails, or finds a file that is too long.
     ensures memory { IfSome (F.in_memory shelf.old) (λ shelved.
         result ≡ Exit.Memory → may_lack (planned words.now) shelved ≡ true) }
-    // Memory, in `run`, `trace`, `board` and `sample`: only before anything is put. No probe has looked, and one line is
+    // Memory, in `run`, `trace`, `board`, `sample` and `capture`: only before anything is put. No probe has looked, and one line is
     // all that is said.
     ensures memory_first { takes_memory_first (asked words.now) ≡ true → result ≡ Exit.Memory
         → (map (λ b. watch b) probes.new.items ≡ map (λ b. watch b) probes.old.items)

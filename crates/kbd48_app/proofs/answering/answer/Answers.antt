@@ -1,8 +1,9 @@
-use Rattle.std.proofs.Common.{sym, ◌∙◌, ap, Some}
+use Rattle.std.proofs.Common.{sym, ◌∙◌, ap, map, string_bytes, Some}
 use Rattle.app_answers.specs.FileAnswers.{file_said}
 use Rattle.app_words.specs.Kinds.{kind_of}
-use Rattle.app_words.specs.declared.words.Command.TheVariants.{OverFile, OverPair, Debug, Probe, Board}
-use Rattle.kbd48_app.specs.Plans.{Boards, Fetches, Gives, debug_plan, pair_plan, probe_plan, program_plan}
+use Rattle.app_words.specs.declared.words.Command.TheVariants.{OverFile, OverPair, Debug, Probe, Board, Capture}
+use Rattle.kbd48_app.specs.Plans.{Boards, Fetches, Gives, capture_plan, debug_plan, pair_plan, probe_plan, program_plan}
+use Rattle.app_words.specs.Words.{clock_in, data_in, name_in}
 use Rattle.kbd48_app.proofs.AnswersAreSpoken.{sample_spoken, spoken_as, unsaid_as}
 use Rattle.kbd48_app.proofs.WordsAreNames.{named_1, named_2, named_3, named_4}
 use Rattle.kbd48_app.proofs.answering.answer.Goals as goal
@@ -74,3 +75,17 @@ returns-in-Some-Board-clause-ends g c =
     c.over_board.result
     (g.K.Sink.shown c.args.out.now)
     (g.K.Sink.shown c.over_board.new.out) c.over_board.ensures.ends
+
+pub returns-in-Some-Capture-clause-ends : goal.returns-in-Some-Capture-clause-ends
+returns-in-Some-Capture-clause-ends g c =
+    spoken_as c.args.words.now (g.F.Shelf.in_memory c.args.shelf.now) _ Capture
+    (capture_plan c.clock_in.result.now c.data_in.result.now c.deref-in-Some-Capture.result.now) _ _
+    (sym c.read_command.ensures.command ∙ (c.in-Some-Capture.is ∙ ap (λ f. Some f) c.in-Some-Capture.field-0-is))
+    (named_1 c.args.words.now (capture_plan c.clock_in.result.now c.data_in.result.now) c.index-words-1-in-Some-Capture.result _
+    (rw c.in-Some-Capture.field-0-is at c.in-Some-Capture.ensures.named) c.index-words-1-in-Some-Capture.is c.deref-in-Some-Capture.ensures
+    ∙ (ap (λ name. capture_plan name c.data_in.result.now (name_in (map string_bytes c.args.words.now))) c.clock_in.ensures.name
+    ∙ ap (λ name. capture_plan (clock_in (map string_bytes c.args.words.now)) name (name_in (map string_bytes c.args.words.now)))
+    c.data_in.ensures.name))
+    c.over_capture.result
+    (g.K.Sink.shown c.args.out.now)
+    (g.K.Sink.shown c.over_capture.new.out) (c.over_capture.ensures.ends _)

@@ -2,7 +2,7 @@ use Rattle.std.proofs.Common.{length, map, string_bytes}
 use Rattle.std.proofs.lemmas.List.{length-map}
 use Rattle.app_words.specs.declared.exit.Exit.TheVariants as exits
 use Rattle.kbd48_app.proofs.AnswersEndCalls.{put_failed, wrote}
-use Rattle.kbd48_app.proofs.ExitsHaveCauses.{cause, fault_caused, lacked, over, stuck_caused, too_long_caused, unserved_caused}
+use Rattle.kbd48_app.proofs.ExitsHaveCauses.{cause, dump_caused, fault_caused, lacked, over, stuck_caused, too_long_caused, unserved_caused}
 use Rattle.kbd48_app.proofs.FetchesAreMade.{made_over}
 use Rattle.kbd48_app.proofs.FormlessWordsAreRefused.{words_only, words_refused}
 use Rattle.kbd48_app.proofs.MemoryComesFirst.{lacks_first}
@@ -53,6 +53,13 @@ returns-clause-fault g c =
     over _ (map string_bytes c.args.words.now) (g.F.Shelf.in_memory c.args.shelf.now) _ _ _ _ _ _
     (length-map c.args.probes.now.items _) c.answer_and_print.ensures.says _
     (λ shelf h. fault_caused (map string_bytes c.args.words.now) (length c.args.probes.now.items)
+    c.answer_and_print.result shelf h)
+
+pub returns-clause-dump_fault : goal.returns-clause-dump_fault
+returns-clause-dump_fault g c =
+    over _ (map string_bytes c.args.words.now) (g.F.Shelf.in_memory c.args.shelf.now) _ _ _ _ _ _
+    (length-map c.args.probes.now.items _) c.answer_and_print.ensures.says _
+    (λ shelf h. dump_caused (map string_bytes c.args.words.now) (length c.args.probes.now.items)
     c.answer_and_print.result shelf h)
 
 pub returns-clause-input_only : goal.returns-clause-input_only
