@@ -7,12 +7,25 @@ import re
 SIGNAL = re.compile(rb"\$var\s+\S+\s+(\d+)\s+(\S+)\s+(\S+)[^$]*\$end")
 NO_CLOCK, NO_DATA, UNIT, BACK, UNKNOWN = 6, 7, 2, 8, 9
 MOST_NAMES = 8
+# The names that need not be said: of the clock's signal, and of the data wire's.
+USUAL = "clock", "data"
+# So many bytes of a file are read for its header.
+MOST_HEADER = 65536
 
 
 def signals(data):
     """The names of the signals of one bit, in their order."""
     header = data[: data.find(b"$enddefinitions") + 1]
     return [name.decode(errors="replace") for width, _, name in SIGNAL.findall(header) if width == b"1"]
+
+
+def signals_of(name):
+    """Those of a file; none if it can't be read."""
+    try:
+        with open(name, "rb") as file:
+            return signals(file.read(MOST_HEADER))
+    except OSError:
+        return []
 
 
 def hints(fault):

@@ -8,7 +8,7 @@ import subprocess
 from dataclasses import dataclass
 from pathlib import Path
 
-from . import kinds
+from . import kinds, vcd
 from .near import nearest
 
 FORMS = Path(__file__).resolve().parent.parent / "forms"
@@ -31,6 +31,7 @@ FILES = {"IMAGE": "hex", "SOURCE": "asm", "LAYOUT": "layout", "KEYS": "keys", "S
 WHAT = {
     "IMAGE": "a HEX image", "SOURCE": "an assembler source", "LAYOUT": "a layout", "KEYS": "a key file", "SCRIPT": "a script",
     "CERT": "a certificate", "TEXT": "a text", "DUMP": "a value change dump", "COUNT": "a number", "BYTE": "a byte",
+    "CLOCK": "the clock's signal", "DATA": "the data wire's signal",
 }
 # A file of the repository for each operand, for what is to be copied.
 SAMPLES = {
@@ -41,11 +42,13 @@ SAMPLES = {
 
 @dataclass(frozen=True)
 class Form:
-    """A command's form: its line, its operands, and its options; each option with whether a BYTE follows it."""
+    """A command's form: its line, its operands, the names of signals that may follow them, both or none, and its options; each
+    option with whether a BYTE follows it."""
 
     line: str
     command: str
     operands: list[str]
+    signals: list[str]
     options: dict[str, bool]
 
 
@@ -66,7 +69,8 @@ def forms():
     for line in map(str.strip, printed.splitlines()):
         words = re.sub(r"\[[^]]*\]", "", line).split()[1:]
         options = {it: value for it, value in ((it[0], bool(it[1])) for it in re.findall(r"(--\w+)( BYTE)?", line))}
-        found[words[0]] = Form(line, words[0], [it for it in words[1:] if it != "..."], options)
+        signals = " ".join(re.findall(r"\[([A-Z ]+)\]", line)).split()
+        found[words[0]] = Form(line, words[0], [it for it in words[1:] if it != "..."], signals, options)
     return found
 
 
@@ -102,9 +106,19 @@ def corrected(form, right, every):
     for _ in range(MOST_CORRECTIONS):
         wrong = right and first_wrong(form, right, every)
         if not wrong:
-            return right
+            return right and with_signals(form, right)
         right = wrong.right
     return None
+
+
+def with_signals(form, words):
+    """The words with the names of the dump's two signals, if they must be said; None if it isn't known which they are."""
+    if not form.signals or len(words) != 1 + len(form.operands) or not os.path.isfile(words[-1]):
+        return words
+    signals = vcd.signals_of(words[-1])
+    if {*vcd.USUAL} <= {*signals}:
+        return words
+    return [*words, *signals] if len(signals) == 2 else None
 
 
 def of_no_command(words, every):
@@ -132,7 +146,8 @@ def first_wrong(form, words, every):
         wrong = wrong_operand(form, words, at, operand, every)
         if wrong:
             return wrong
-    return wrong_rest(form, words, len(names) + 1, every)
+    at = len(names) + 1
+    return wrong_signals(form, words, at, every) or wrong_rest(form, words, at + len(words[at : at + len(form.signals)]), every)
 
 
 def wrong_operand(form, words, at, operand, every):
@@ -236,6 +251,24 @@ def bytes_in(word):
     return found
 
 
+def wrong_signals(form, words, at, every):
+    """What is wrong with the names of signals, which are there both or not at all."""
+    given = words[at : at + len(form.signals)]
+    for place, (word, signal) in enumerate(zip(given, form.signals), at):
+        if word == "":
+            return Wrong(place, f"the name of {WHAT[signal]} is empty: a variable of the shell may have no value")
+        wrong = wrong_option(form, words, place, every)
+        if wrong:
+            return wrong
+    if len(given) != 1:
+        return None
+    signals = vcd.signals_of(words[at - 1])
+    if given[0] not in signals and (re.search(r"\.\w+$", given[0]) or os.path.isfile(given[0])):
+        return extra(form, words, at)
+    right = [*words, *(it for it in signals if it != given[0])] if given[0] in signals and len(signals) == 2 else words[:at]
+    return Wrong(at + 1, f"{form.signals[1]} is missing: the name of {WHAT[form.signals[1]]}", right)
+
+
 def wrong_rest(form, words, at, every):
     """What is wrong with the words after the operands: options, or nothing."""
     seen = []
@@ -304,7 +337,8 @@ def extra(form, words, at):
     if word.isidentifier() and f"--{word}" in form.options:
         return Wrong(at, f"{word} is an option, which begins with --", [*right, f"--{word}", *words[at + 1 :]])
     if at == len(words) - 1 and re.search(r"\.\w+$", word) and not os.path.exists(word):
-        return Wrong(at, f"{form.command} names no file for its text, which goes to the standard output: kbd48 {shown(right)} > {shlex.quote(word)}")
+        said = shown(["kbd48", *(with_signals(form, right) or right)])
+        return Wrong(at, f"{form.command} names no file for its text, which goes to the standard output: {said} > {shlex.quote(word)}")
     if os.path.isfile(word) and len(form.operands) == 1 and form.operands[0] in FILES:
         return Wrong(at, f"{form.command} takes one file at a time", right)
     return Wrong(at, f"{shown([word])} is a word too many", right)
