@@ -4,12 +4,12 @@ use Rattle.std.specs.declared.option.Option.{Option}
 use Rattle.capture_lines.proofs.Ends.{text_ends}
 use Rattle.capture_lines.specs.Captures.{capture_text}
 use Rattle.io_edge.proofs.Pieces.{broken_before}
-use Rattle.io_edge.specs.Said.{IsBrokenOff, IsSaid, Shown}
+use Rattle.io_edge.specs.Said.{IsBrokenOff, Shown}
 use Rattle.io_edge.specs.declared.sink.SinkFault.{SinkFault}
 use Rattle.vcd_reader.specs.Reads.{reads_of}
 use Rattle.vcd_reader.specs.declared.fault.VcdFault.{VcdFault}
 use Rattle.app_words.specs.declared.refusal.Refusal.TheVariants.{Vcd}
-use Rattle.app_answers.specs.declared.spoken.Spoken.TheVariants.{Said, Captured}
+use Rattle.app_answers.specs.declared.spoken.Spoken.TheVariants.{Said}
 use Rattle.app_answers.specs.Captures.{IsCaptured, MayAnswerCapture}
 use Rattle.app_answers.specs.FileAnswers.{Answer}
 use Rattle.app_answers.specs.Says.{text_said}
@@ -29,21 +29,10 @@ module _ (clk dat dump : List ℕ) (x y : Shown) where
       → MayAnswerCapture clk dat dump answer log
   captured first answer log is h = inr (subst (λ (f : Option VcdFault). IsCaptured f Text answer log) (sym is) h)
 
-  -- all of it was taken, and the dump has no fault
-  pub faultless : First ≡ None → IsSaid x y Text → IsSpoken MayCapture (Ok (Said (Ok tt))) x y
-  faultless is said = (Text, [], captured None (Ok Text) [] is (refl, refl), said)
-
-  -- or its fault is still to be said
-  pub faulty : (fault : VcdFault) → First ≡ Some fault → IsSaid x y Text → IsSpoken MayCapture (Ok (Captured fault)) x y
-  faulty fault is said =
-      let answer : Answer = Err (Vcd fault.line fault.number) in
-      let may = captured (Some fault) answer Text is (refl, refl) in
-      (Text, may, (λ later broken. may), said)
-
-  broken_by : (first : Option VcdFault) (failed : SinkFault) → First ≡ first → IsBrokenOff x y Text
-      → IsSpoken MayCapture (Ok (Said (Err failed))) x y
-  broken_by None failed is broken = (Ok Text, [], captured None (Ok Text) [] is (refl, refl), broken)
-  broken_by (Some fault) failed is broken =
+  broken_by : (first : Option VcdFault) (failure : SinkFault) → First ≡ first → IsBrokenOff x y Text
+      → IsSpoken MayCapture (Ok (Said (Err failure))) x y
+  broken_by None failure is broken = (Ok Text, [], captured None (Ok Text) [] is (refl, refl), broken)
+  broken_by (Some fault) failure is broken =
       let answer : Answer = Err (Vcd fault.line fault.number) in (
         answer,
         Text,
@@ -51,6 +40,6 @@ module _ (clk dat dump : List ℕ) (x y : Shown) where
         broken_before x y Text (text_said answer) (inr (text_ends clk dat dump)) broken,
       )
 
-  -- a put failed
-  pub broken_off : (failed : SinkFault) → IsBrokenOff x y Text → IsSpoken MayCapture (Ok (Said (Err failed))) x y
-  broken_off failed broken = broken_by First failed refl broken
+  -- a put failed, of a dump with a fault or without one
+  pub broken_off : (failure : SinkFault) → IsBrokenOff x y Text → IsSpoken MayCapture (Ok (Said (Err failure))) x y
+  broken_off failure broken = broken_by First failure refl broken

@@ -29,8 +29,11 @@ pub fn say_capture<K: Sink>(
     let Ok(captured) = capture(alloc, dump, clk.as_bytes(), dat.as_bytes()) else {
         return Err(Refusal::Memory);
     };
-    match (say(out, &captured.text), captured.fault) {
-        (Ok(()), Some(fault)) => Ok(Spoken::Captured(fault)),
-        (said, _) => Ok(Spoken::Said(said)),
+    match say(out, &captured.text) {
+        Err(failed) => Ok(Spoken::Said(Err(failed))),
+        Ok(()) => match captured.fault {
+            Some(fault) => Ok(Spoken::Captured(fault)),
+            None => Ok(Spoken::Said(Ok(()))),
+        },
     }
 }
