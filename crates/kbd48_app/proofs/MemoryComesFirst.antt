@@ -1,6 +1,6 @@
 -- Commands that take all their memory before the first step: where it is lacking, no probe has looked, and nothing was
 -- said.
-use Rattle.std.proofs.Common.{◌≡◌, ℕ, true, List, [], ◌++◌, Some, Err, inl, inr, sym, subst, ◌∙◌}
+use Rattle.std.proofs.Common.{◌≡◌, ℕ, true, List, [], ◌++◌, None, Some, Err, inl, inr, sym, subst, ◌∙◌}
 use Rattle.std.specs.Option.{option_map}
 use Rattle.std.specs.declared.option.Option.{Option}
 use Rattle.board_run.specs.BoardOutcomes.{Outcome}
