@@ -5,7 +5,7 @@ import re
 
 # A signal of the header: its width, its code and its name.
 SIGNAL = re.compile(rb"\$var\s+\S+\s+(\d+)\s+(\S+)\s+(\S+)[^$]*\$end")
-NO_CLOCK, NO_DATA, UNIT, BACK, UNKNOWN = 6, 7, 2, 8, 9
+FORM, NO_CLOCK, NO_DATA, UNIT, BACK, UNKNOWN = 1, 6, 7, 2, 8, 9
 MOST_NAMES = 8
 # The names that need not be said: of the clock's signal, and of the data wire's.
 USUAL = "clock", "data"
@@ -36,6 +36,8 @@ def hints(fault):
             return ["the dump has fewer than two signals of one bit: record both wires"]
         listed = ", ".join(names[:MOST_NAMES]) + (" .." if len(names) > MOST_NAMES else "")
         return [f"its signals are {listed}: name the clock and the data wire after the file, as in capture FILE {names[0]} {names[1]}"]
+    if fault.number == FORM and b"$enddefinitions" not in fault.data:
+        return ["what an analyser saves as .csv or .sr is no dump: examples/captured FILE -o DUMP makes one of it"]
     if fault.number == UNIT:
         return ["export the capture with a unit from 1 ns to 10 us"]
     if fault.number == UNKNOWN:

@@ -1,7 +1,7 @@
 -- What is said of a capture.
 use Rattle.std.proofs.Common.{◌≡◌, ℕ, List, [], None, Some, Ok, Err, inl, inr, refl, subst, sym}
 use Rattle.std.specs.declared.option.Option.{Option}
-use Rattle.capture_lines.proofs.Ends.{text_ends}
+use Rattle.capture_lines.proofs.Ends.{text_lines}
 use Rattle.capture_lines.specs.Captures.{capture_text}
 use Rattle.io_edge.proofs.Pieces.{broken_before}
 use Rattle.io_edge.specs.Said.{IsBrokenOff, Shown}
@@ -37,7 +37,7 @@ module _ (clk dat dump : List ℕ) (x y : Shown) where
         answer,
         Text,
         captured (Some fault) answer Text is (refl, refl),
-        broken_before x y Text (text_said answer) (inr (text_ends clk dat dump)) broken,
+        broken_before x y Text (text_said answer) (text_lines clk dat dump) broken,
       )
 
   -- a put failed, of a dump with a fault or without one

@@ -1,10 +1,13 @@
--- What is said of a capture ends with LF.
-use Rattle.std.proofs.Common.{◌≡◌, ℕ, List, [], ◌∷◌, ◌++◌, ap, refl, sym, ◌∙◌, append_assoc}
+-- What is said of a capture is of whole lines.
+use Rattle.std.proofs.Common.{◌≡◌, ℕ, List, [], ◌∷◌, ◌++◌, Some, None, ◌⊎◌, inl, inr, ap, refl, sym, ◌∙◌, append_assoc}
 use Rattle.std.specs.Fmt.{decimal}
 use Rattle.std.specs.Prelude.{codes}
+use Rattle.std.specs.declared.option.Option.{Option}
+use Rattle.vcd_reader.specs.declared.fault.VcdFault.{VcdFault}
+use Rattle.vcd_reader.specs.Reads.{reads_of}
 use Rattle.capture_lines.specs.declared.counts.Counts.{Counts}
 use Rattle.capture_lines.specs.declared.speech.Speech.{Speech}
-use Rattle.capture_lines.specs.Captures.{capture_text, report_of, timing_of}
+use Rattle.capture_lines.specs.Captures.{capture_text, report_of, summed_up, timing_of}
 use Rattle.capture_lines.specs.Counting.{count_line}
 use Rattle.capture_lines.specs.Summary.{codes_summary, summary}
 use Rattle.capture_lines.specs.Timing.{Timing}
@@ -26,8 +29,18 @@ summary_ends : (c : Counts) (t : Timing) (s : Speech) → Ends (summary c t s)
 unfolding summary
 summary_ends c t s = after _ _ (codes_end s)
 
-pub text_ends : (clk dat dump : List ℕ) → Ends (capture_text clk dat dump)
-text_ends clk dat dump =
+-- it is empty, or ends so
+abbrev pub AreLines : List ℕ → Type 0
+AreLines text = (text ≡ []) ⊎ Ends text
+
+summed_lines : (fault : Option VcdFault) (lines end : List ℕ) → Ends end → AreLines (summed_up fault lines end)
+summed_lines (Some fault) [] end h = inl refl
+summed_lines (Some fault) (byte ∷ lines) end h = inr (after (byte ∷ lines) end h)
+summed_lines None lines end h = inr (after lines end h)
+
+pub text_lines : (clk dat dump : List ℕ) → AreLines (capture_text clk dat dump)
+text_lines clk dat dump =
     let report = report_of clk dat dump in
     let timing = timing_of clk dat dump in
-    after (report.text ++ timing.text) _ (summary_ends report.counts timing report.speech)
+    summed_lines (reads_of clk dat dump).fault (report.text ++ timing.text) (summary report.counts timing report.speech)
+    (summary_ends report.counts timing report.speech)

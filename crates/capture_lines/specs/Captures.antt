@@ -1,5 +1,6 @@
 -- What is said of a capture.
-use Rattle.std.specs.Prelude.{ℕ, List, [], ◌∷◌, ◌++◌, Option, Some, None}
+use Rattle.std.specs.Prelude.{ℕ, Bool, true, false, List, [], ◌∷◌, ◌++◌, Option, Some, None, if◌then◌else◌}
+use Rattle.vcd_reader.specs.declared.fault.VcdFault.{VcdFault}
 use Rattle.vcd_reader.specs.declared.state.Sample.{Sample}
 use Rattle.vcd_reader.specs.Reads.{reads_of}
 use Rattle.wire_frames.specs.declared.finding.Timed.{Timed}
@@ -66,8 +67,17 @@ report_of clk dat dump = reported_all (found_by at_first (reads_of clk dat dump)
 abbrev pub timing_of : List ℕ → List ℕ → List ℕ → Timing
 timing_of clk dat dump = timed_all (reads_of clk dat dump).samples untimed
 
+-- a dump has a fault, and there is no line before it
+abbrev pub is_fault_alone : Option VcdFault → List ℕ → Bool
+is_fault_alone (Some fault) [] = true
+is_fault_alone fault lines = false
+
+-- lines, and then the summary; nothing if there is a fault alone
+abbrev pub summed_up : Option VcdFault → List ℕ → List ℕ → List ℕ
+summed_up fault lines end = if is_fault_alone fault lines then [] else lines ++ end
+
 -- the lines of both, and then the summary
 abbrev pub capture_text : List ℕ → List ℕ → List ℕ → List ℕ
 capture_text clk dat dump =
-    (report_of clk dat dump).text ++ (timing_of clk dat dump).text
-    ++ summary (report_of clk dat dump).counts (timing_of clk dat dump) (report_of clk dat dump).speech
+    summed_up (reads_of clk dat dump).fault ((report_of clk dat dump).text ++ (timing_of clk dat dump).text)
+    (summary (report_of clk dat dump).counts (timing_of clk dat dump) (report_of clk dat dump).speech)

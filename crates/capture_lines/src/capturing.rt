@@ -56,7 +56,7 @@ fn report_samples(
 /// A line has a time in microseconds with three decimals, and then a finding, or what the PC makes of it: `port` with the
 /// byte that INT 09h reads, and what INT 09h does. The time is that at which the finding begins; lines come in the order
 /// in which findings end. After them come the times outside the manual's limits, each with its limits in microseconds, and
-/// the summary.
+/// the summary. If no line is before the dump's fault, the text is empty.
 pub fn capture(alloc: Global, dump: &[u8], clk: &[u8], dat: &[u8]) -> Result<Captured, AllocError>
     requires size { length dump.now < 4294967295 }
     ensures text { IfOk result (λ captured. captured.text.items ≡ capture_text clk.now dat.now dump.now) }
@@ -66,6 +66,6 @@ pub fn capture(alloc: Global, dump: &[u8], clk: &[u8], dat: &[u8]) -> Result<Cap
     let mut report = Report::new(alloc)?;
     let mut timing = Timing::new(alloc);
     let fault = report_samples(&mut report, &mut timing, &mut reader)?;
-    let text = report.finish(&timing)?;
+    let text = report.finish(&timing, fault)?;
     Ok(Captured { text, fault })
 }

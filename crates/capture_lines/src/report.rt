@@ -1,7 +1,7 @@
 //! What was said so far.
 
 ghost use Rattle.std.specs.Prelude.{◌≡◌, ◌++◌, IfOk, OnOk};
-ghost use Rattle.capture_lines.specs.Captures.{again_lines, at_start, both, listed, reported, reported_all};
+ghost use Rattle.capture_lines.specs.Captures.{again_lines, at_start, both, is_fault_alone, listed, reported, reported_all, summed_up};
 ghost use Rattle.capture_lines.specs.Summary.{summary};
 ghost use Rattle.capture_lines.specs.Receiving.{item_line, item_lines};
 
@@ -14,6 +14,7 @@ use crate::timing::Timing;
 use pc_tables::{Item, push_item};
 use std::alloc::{AllocError, Global};
 use std::marker::Model;
+use vcd_reader::VcdFault;
 use wire_frames::{Said, Timed};
 
 /// What was said so far: the lines, with what the PC keeps, the counts, and what the bytes say.
@@ -63,6 +64,16 @@ fn push_again(text: &mut Vec<u8>, time: u64, byte: Option<u8>) -> Result<(), All
     Ok(())
 }
 
+/// Whether a dump has a fault, and there is no line before it.
+fn is_fault_alone(fault: Option<VcdFault>, lines: &[u8]) -> bool
+    ensures { result ≡ is_fault_alone fault lines.now }
+{
+    match (fault, lines) {
+        (Some(_), []) => true,
+        _ => false,
+    }
+}
+
 impl Report {
     /// Nothing was said, and the PC is at power-on.
     pub(crate) fn new(alloc: Global) -> Result<Report, AllocError>
@@ -101,9 +112,16 @@ impl Report {
         }
     }
 
-    /// All that was said, the times outside their limits, and the summary.
-    pub(crate) fn finish(self, timing: &Timing) -> Result<Vec<u8>, AllocError>
-        ensures { IfOk result (λ text. text.items ≡ self.text ++ timing.now.text ++ summary self.counts timing.now self.speech) }
+    /// All that was said, the times outside their limits, and the summary; nothing if the dump has this fault, and no line
+    /// is before it.
+    #[tactic(auto, using(crate::proofs::Parts::alone_is_empty))]
+    pub(crate) fn finish(
+        self,
+        timing: &Timing,
+        fault: Option<VcdFault>,
+    ) -> Result<Vec<u8>, AllocError>
+        ensures { IfOk result (λ text. text.items
+            ≡ summed_up fault (self.text ++ timing.now.text) (summary self.counts timing.now self.speech)) }
     {
         let Report {
             counts,
@@ -112,6 +130,9 @@ impl Report {
             ..
         } = self;
         text.extend_from_slice(timing.text())?;
+        if is_fault_alone(fault, &text) {
+            return Ok(text);
+        }
         push_summary(&mut text, &counts, timing, &speech)?;
         Ok(text)
     }

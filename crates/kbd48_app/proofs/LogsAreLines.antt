@@ -3,7 +3,7 @@ use Rattle.std.proofs.Common.{◌≡◌, ℕ, List, None, Some, inl, inr, sym, s
 use Rattle.std.specs.Option.{option_map}
 use Rattle.std.specs.declared.option.Option.{Option}
 use Rattle.board_probes.specs.Probes.{Watch}
-use Rattle.capture_lines.proofs.Ends.{text_ends}
+use Rattle.capture_lines.proofs.Ends.{text_lines}
 use Rattle.capture_lines.specs.Captures.{capture_text}
 use Rattle.io_edge.proofs.Pieces.{AreLines}
 use Rattle.io_edge.specs.Shelf.{Shelved, after_fetch}
@@ -41,7 +41,7 @@ lines_by (Captures clk dat dump) shelf answer after probes left h =
     elim h.0 [
       | inl memory ↦ inl memory.1
       | inr found ↦
-          captured_lines (reads_of clk dat dump).fault (capture_text clk dat dump) answer left.log (inr (text_ends clk dat dump)) found
+          captured_lines (reads_of clk dat dump).fault (capture_text clk dat dump) answer left.log (text_lines clk dat dump) found
     ]
 lines_by (Fetches kind name next) shelf answer after probes left h =
     elim (fetch_ends kind name next shelf answer after probes left h) [
