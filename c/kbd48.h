@@ -129,6 +129,7 @@ int32_t kbd48_open_hex(const uint8_t *text, size_t length, kbd48 *handle, kbd48_
    power-on finds such a keyboard. kbd48_next hands out what was said on the way. */
 int32_t kbd48_open_ready_layout(const uint8_t *text, size_t length, kbd48 *handle, kbd48_fault *fault);
 int32_t kbd48_open_ready_hex(const uint8_t *text, size_t length, kbd48 *handle, kbd48_fault *fault);
+int32_t kbd48_open_ready_sample(kbd48 *handle);
 
 /* Switches the keyboard off and on again. It keeps its program, and is as kbd48_open_hex opens it: at stamp 0, with all
    keys up and with INT 09h masked. Its count of cycles begins anew, and is 4,098 for a layout. What was said before is

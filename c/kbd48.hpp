@@ -26,11 +26,8 @@ public:
     static Kbd48 of_hex(const std::string &text) { return opened(kbd48_open_hex, text); }
     static Kbd48 ready_of_layout(const std::string &text) { return opened(kbd48_open_ready_layout, text); }
     static Kbd48 ready_of_hex(const std::string &text) { return opened(kbd48_open_ready_hex, text); }
-    static Kbd48 of_sample() {
-        Kbd48 keyboard;
-        need(kbd48_open_sample(&keyboard.handle));
-        return keyboard;
-    }
+    static Kbd48 of_sample() { return opened(kbd48_open_sample); }
+    static Kbd48 ready_of_sample() { return opened(kbd48_open_ready_sample); }
 
     // The state as bytes, and a keyboard in that state. Its queue of edges is not among them: `queue` has that.
     std::vector<uint8_t> save() const {
@@ -197,6 +194,12 @@ private:
         T value;
         need(call(&handle, &value));
         return value;
+    }
+
+    static Kbd48 opened(int32_t (*open)(kbd48 *)) {
+        Kbd48 keyboard;
+        need(open(&keyboard.handle));
+        return keyboard;
     }
 
     static Kbd48 opened(int32_t (*open)(const uint8_t *, size_t, kbd48 *, kbd48_fault *), const std::string &text) {

@@ -159,6 +159,7 @@ unsafe extern "C" {
     fn kbd48_open_ready_layout(text: *const u8, length: usize, handle: *mut Handle, fault: *mut Fault) -> i32;
     fn kbd48_open_ready_hex(text: *const u8, length: usize, handle: *mut Handle, fault: *mut Fault) -> i32;
     fn kbd48_open_sample(handle: *mut Handle) -> i32;
+    fn kbd48_open_ready_sample(handle: *mut Handle) -> i32;
     fn kbd48_layout_key(text: *const u8, length: usize, name: *const u8, name_length: usize, place: *mut u8) -> i32;
     fn kbd48_sample_key(name: *const u8, length: usize, place: *mut u8) -> i32;
     fn kbd48_queue_key(queue: *mut Keys, cycle: u64, place: u8, down: bool) -> i32;
@@ -264,8 +265,12 @@ impl Keyboard {
 
     /// A keyboard of the sample layout.
     pub fn of_sample() -> Result<Keyboard, Error> {
-        let keyboard = Keyboard::none();
-        done(unsafe { kbd48_open_sample(keyboard.handle.get()) }).map(|()| keyboard)
+        Keyboard::opened_sample(kbd48_open_sample)
+    }
+
+    /// The same, with the power-on test over.
+    pub fn ready_of_sample() -> Result<Keyboard, Error> {
+        Keyboard::opened_sample(kbd48_open_ready_sample)
     }
 
     /// The place of a key by its name, in a layout's text.
@@ -479,6 +484,11 @@ impl Keyboard {
 
     fn none() -> Keyboard {
         Keyboard { handle: UnsafeCell::new(Handle { at: ptr::null_mut() }), keys: UnsafeCell::new(NO_KEYS) }
+    }
+
+    fn opened_sample(open: unsafe extern "C" fn(*mut Handle) -> i32) -> Result<Keyboard, Error> {
+        let keyboard = Keyboard::none();
+        done(unsafe { open(keyboard.handle.get()) }).map(|()| keyboard)
     }
 
     fn opened(open: Open, text: &[u8]) -> Result<Keyboard, Error> {

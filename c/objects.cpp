@@ -64,6 +64,7 @@ int main() {
     CHECK(ready.run_to(KBD48_STOP_COUNTER, 4096, UINT64_MAX, KBD48_TICK) == KBD48_STOP_COUNTER);
     CHECK(ready.processor().counter == KBD48_TICK);
     CHECK(ready.queue_key(h, true) && ready.queued() == 1);
+    CHECK(Kbd48::ready_of_sample().interrupt());
     ready.power_on(0xff);
     CHECK(ready.queued() == 0 && ready.cycle() < 4099 && ready.run(400000, true) && ready.read60() == 0xaa);
     try {

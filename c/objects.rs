@@ -47,6 +47,7 @@ fn main() -> Result<(), Box<dyn std::error::Error>> {
     assert_eq!(ready.run_to(8, 7, 4096, u64::MAX)?.1, 8);
     assert_eq!((first.wires(), first.waiting(), first.column(0), first.status()?), ((false, true), (0, 0), Ok(0xff), 0x14));
     assert_eq!((first.column(12), kbd48::version()), (Err(Error::NoSuchPlace), 10000));
+    assert!(Keyboard::ready_of_sample()?.interrupt());
     ready.queue_key(h, true)?;
     ready.power_on(0xff)?;
     assert!(ready.queued() == 0 && ready.cycle() < 4099 && ready.run(400_000, true)?.rose && ready.read60()? == 0xaa);

@@ -180,6 +180,8 @@ static void a_ready_keyboard_has_its_answer_waiting(void) {
     CHECK(kbd48_open_ready_layout(one_key, sizeof one_key - 1, &k, &fault) == KBD48_DONE);
     CHECK(kbd48_read60(&k, &byte) == KBD48_DONE && byte == 0xaa);
     CHECK(kbd48_open_ready_layout((const uint8_t *)"x", 1, &k, &fault) == KBD48_BAD_TEXT);
+    CHECK(kbd48_open_ready_sample(&k) == KBD48_DONE && kbd48_interrupt(&k, &up) == KBD48_DONE && up);
+    CHECK(kbd48_read60(&k, &byte) == KBD48_DONE && byte == 0xaa);
     CHECK(kbd48_close(&k) == KBD48_DONE);
 }
 

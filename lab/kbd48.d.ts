@@ -96,6 +96,7 @@ export declare class Keyboard {
   openSample(): void;
   openReadyLayout(text: Uint8Array): void;
   openReadyHex(text: Uint8Array): void;
+  openReadySample(): void;
   powerOn(fill?: number): void;
   layoutKey(text: Uint8Array, name: string): number;
   sampleKey(name: string): number;

@@ -180,6 +180,9 @@ export class Keyboard {
   /** The same with a program as Intel HEX. */
   openReadyHex(text) { this.#open('kbd48_open_ready_hex', text); }
 
+  /** The same with the sample layout, us84. */
+  openReadySample() { this.#opened(this.machine.call('kbd48_open_ready_sample', this.to.handle)); }
+
   /** Switches the keyboard off and on again, with the program that it has: it is at stamp 0, with an empty queue. At power-on
       data memory, A and T hold this byte. */
   powerOn(fill = 0) { this.#opened(this.machine.call('kbd48_power_on', this.to.handle, fill)); }

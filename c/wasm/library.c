@@ -180,9 +180,17 @@ static u32 open_sample(machine *m, u64 text, u64 length, u64 handle, u64 fault) 
     (void)text, (void)length, (void)fault;
     return wasm_kbd48_open_sample(m, handle);
 }
+static u32 open_ready_sample(machine *m, u64 text, u64 length, u64 handle, u64 fault) {
+    (void)text, (void)length, (void)fault;
+    return wasm_kbd48_open_ready_sample(m, handle);
+}
 int32_t kbd48_open_sample(kbd48 *handle) {
     kbd48_fault fault = {0, 0};
     return opened(open_sample, (const uint8_t *)"", 0, handle, &fault);
+}
+int32_t kbd48_open_ready_sample(kbd48 *handle) {
+    kbd48_fault fault = {0, 0};
+    return opened(open_ready_sample, (const uint8_t *)"", 0, handle, &fault);
 }
 
 static int32_t layout_key_in(machine *m, u64 text, u64 length, u64 name, u64 name_length) {

@@ -41,6 +41,18 @@ fn put_place(found: Option<Place>, place: &mut u8) -> i32
     }
 }
 
+/// Opens a keyboard of the sample layout, us84, at the handle, and closes the one that was there: at stamp 0, or ready.
+fn open_sample(alloc: Global, ready: bool, handle: &mut Handle) -> i32
+    ensures opened { result ≡ done → HasOpened ready (image_of us84) handle.new.keyboard }
+    ensures refused { (result ≡ done → ⊥) → handle.new.keyboard ≡ handle.old.keyboard }
+    ensures status { (result ≡ done) ⊎ (result ≡ no_memory) }
+{
+    match us84_layout(alloc) {
+        Ok(layout) => open(alloc, &compile(&layout), ready, handle),
+        Err(_) => NO_MEMORY,
+    }
+}
+
 /// Opens a keyboard of the sample layout, us84, at the handle, and closes the one that was there.
 #[unsafe(no_mangle)]
 pub extern "C" fn kbd48_open_sample(alloc: Global, handle: &mut Handle) -> i32
@@ -48,10 +60,18 @@ pub extern "C" fn kbd48_open_sample(alloc: Global, handle: &mut Handle) -> i32
     ensures refused { (result ≡ done → ⊥) → handle.new.keyboard ≡ handle.old.keyboard }
     ensures status { (result ≡ done) ⊎ (result ≡ no_memory) }
 {
-    match us84_layout(alloc) {
-        Ok(layout) => open(alloc, &compile(&layout), false, handle),
-        Err(_) => NO_MEMORY,
-    }
+    open_sample(alloc, false, handle)
+}
+
+/// Opens a keyboard of the sample layout, as `kbd48_open_sample` does, and runs it on until the interrupt line rises, or for
+/// a second.
+#[unsafe(no_mangle)]
+pub extern "C" fn kbd48_open_ready_sample(alloc: Global, handle: &mut Handle) -> i32
+    ensures opened { result ≡ done → HasOpened true (image_of us84) handle.new.keyboard }
+    ensures refused { (result ≡ done → ⊥) → handle.new.keyboard ≡ handle.old.keyboard }
+    ensures status { (result ≡ done) ⊎ (result ≡ no_memory) }
+{
+    open_sample(alloc, true, handle)
 }
 
 /// The number of the key with this name, which is its place in the sample layout.

@@ -241,10 +241,10 @@ class Keyboard:
         return cls._of(LIBRARY.kbd48_open_ready_hex if ready else LIBRARY.kbd48_open_hex, text)
 
     @classmethod
-    def of_sample(cls) -> Keyboard:
-        """A keyboard of the sample layout, us84, at stamp 0."""
+    def of_sample(cls, ready: bool = False) -> Keyboard:
+        """A keyboard of the sample layout, us84, at stamp 0; `ready` is as for a layout."""
         keyboard = cls()
-        keyboard._done("open_sample")
+        keyboard._done("open_ready_sample" if ready else "open_sample")
         return keyboard
 
     @classmethod

@@ -53,6 +53,7 @@ def _to(kind):
 PARAMETERS = {
     "close": [],
     "open_sample": [],
+    "open_ready_sample": [],
     "copy": [_to(Handle)],
     "save": [c.c_char_p, c.c_size_t],
     "load": [c.c_char_p, c.c_size_t],
