@@ -1,6 +1,6 @@
 //! Keys by their names, and the sample layout.
 
-ghost use Rattle.std.specs.Prelude.{◌≡◌, ◌<◌, ◌⊎◌, false, length};
+ghost use Rattle.std.specs.Prelude.{◌≡◌, ◌<◌, ◌⊎◌, true, false, length};
 ghost use Rattle.fw_compile.specs.Image.{image_of};
 ghost use Rattle.layout_reader.specs.Layouts.{us84};
 ghost use Rattle.pc_tables.specs.Keys.{key_with_name};
