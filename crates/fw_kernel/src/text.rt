@@ -57,8 +57,8 @@ LIGHTS   EQU 4DH
 FN       EQU 4EH
 BACK     EQU 0BBH           ; where `blank` is in page 2
 
-; -- power-on, and the way back of a processor whose counter was upset: through the free places, which are NOP, it comes
-; to 000 in any state. Interrupts and the timer are switched off; the lower half and bank 0 are selected.
+; -- power-on, and the way back of a processor whose counter was upset: the free places after the last block are NOP, so
+; from there it comes to 000 in any state. Interrupts and the timer are switched off; the lower half and bank 0 are selected.
 ; needs: nothing. leaves: no interrupt but one that is in service; bank 0; the timer stands still.
 ; cycles: 7.
         ORG 0
