@@ -29,6 +29,7 @@ cell-get f from (suc n) ring zero l = let e : from ≡ from + 0 = omega arith in
 cell-get f from (suc n) ring (suc i) l = let e : from + 1 + i ≡ from + suc i = omega arith in
     cell-get f (from + 1) n ring i (omega (arith, l)) ∙ ap f e
 
+-- the i-th byte of the ring is i places after the cells before it
 pub ring-get : (f : ℕ → ℕ) (from n : ℕ) (ring : List ℕ) (i : ℕ) → get_or (before f from n ring) (n + i) 0
     ≡ get_or ring i 0
 ring-get f from zero ring i = let e : 0 + i ≡ i = omega arith in rw e refl
@@ -39,6 +40,7 @@ long-before f from zero ring = let e : 0 + length ring ≡ length ring = omega a
 long-before f from (suc n) ring = let e : suc (n + length ring) ≡ suc n + length ring = omega arith in
     ap suc (long-before f (from + 1) n ring) ∙ e
 
+-- at the start of a block each cell and each byte of the ring is a byte, and the ring has its length
 pub bytes_of : (m : Cpu) (pc : ℕ) (f : ℕ → ℕ) (ring : List ℕ) → Safe m pc f ring → Bytes f ring
 bytes_of m pc f ring safe =
     let long : length (before f 0 112 ring) ≡ 128 = safe.1.long in

@@ -35,6 +35,7 @@ abbrev pub low_ticks : List TickEdge → Type 0
 low_ticks [] = Unit {0}
 low_ticks (e ∷ es) = (e.place < 96) × low_ticks es
 
+-- edges at places of the matrix are still at such places once each has its layer
 pub low_layered : (is_fn : ℕ → Bool) (es : List (ℕ × Bool)) (t : Layers) → low_edges es → low_ticks (layered is_fn es t)
 low_layered is_fn [] t l = tt
 low_layered is_fn (x ∷ xs) t l = (l.0, low_layered is_fn xs (layers_after is_fn x t) l.1)
@@ -195,5 +196,6 @@ columns_low c (suc n) ch dn sum =
     more_low (row_edges (8 * c) 0 8 (ch c) (dn c)) (column_edges (suc c) n ch dn)
     (rows_low (8 * c) 0 8 (ch c) (dn c) (omega (arith, sum))) (columns_low (suc c) n ch dn (omega (arith, sum)))
 
+-- the edges of a tick are at places of the matrix
 pub edges_low : (ch dn : ℕ → ℕ) → low_edges (tick_edges ch dn)
 edges_low ch dn = columns_low 0 12 ch dn refl

@@ -29,6 +29,7 @@ pub record Sound (keys : Keys) (l : Layers) (k : Keyboard) : Type 0 where
 abbrev pub NoPrefix : Keys → Type 0
 NoPrefix keys = (on_fn : Bool) (p : ℕ) → p < 96 → (keys.code on_fn p == 240) ≡ false
 
+-- what repeats is at a place of the matrix
 pub pressed_low : (keys : Keys) (l : Layers) (r : Option Repeat) → IsPressed keys l r → low_repeat r
 pressed_low keys l None is = tt
 pressed_low keys l (Some r) is = is.0

@@ -43,6 +43,7 @@ was_same bytes g f e = by (slice_index bytes fn_place_at) (nat_lt (slice_index b
         rw (is, a, b) refl
     by p false is = rw is refl
 
+-- two memories with the same cells have the same cells after the healing
 pub lifted_same : (bytes : List ℕ) (g f : ℕ → ℕ) → ((i : ℕ) → 32 ≤ i → i < 60 → g i ≡ f i) → g 64 ≡ f 64
     → (i : ℕ) → g i ≡ f i → g 78 ≡ f 78 → lifted bytes g i ≡ lifted bytes f i
 lifted_same bytes g f e due i is fn =

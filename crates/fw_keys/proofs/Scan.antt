@@ -47,9 +47,11 @@ over_layers f p i l u = grind (arith, nat_tests, l, u)
 pub changes_same : (b : Bool) (p q x y : ℕ) → p ≡ q → x ≡ y → changes_by b p x ≡ changes_by b q y
 changes_same b p q x y e f = ap (λ v. changes_by b v x) e ∙ ap (λ v. changes_by b q v) f
 
+-- the same readings leave the same keys pending
 pub pends_same : (b : Bool) (p q x y : ℕ) → p ≡ q → x ≡ y → pends_by b p x ≡ pends_by b q y
 pends_same b p q x y e f = ap (λ v. pends_by b v x) e ∙ ap (λ v. pends_by b q v) f
 
+-- the same readings leave the same keys held
 pub holds_same : (b : Bool) (p q x y r t : ℕ) → p ≡ q → x ≡ y → r ≡ t → holds_by b p x r ≡ holds_by b q y t
 holds_same b p q x y r t e f g =
     ap (λ v. holds_by b v x r) e ∙ ap (λ v. holds_by b q v r) f ∙ ap (λ v. holds_by b q y v) g

@@ -65,6 +65,7 @@ period_in = by_byte (λ b. byte_in (978 + b % 32)) period refl
 no_table : (b : ℕ) → b < 256 → is_table (978 + b % 32) ≡ false
 no_table = tests_by 256 (λ b. is_table (978 + b % 32)) (λ b. false) refl
 
+-- a read from the kernel's table of periods gives the model's period
 pub period_read : (bytes : List ℕ) → HasKernel bytes → (b : ℕ) → b < 256 → slice_index bytes (768 + (210 + b % 32))
     ≡ period b
 period_read bytes hk b l = let e : 768 + (210 + b % 32) ≡ 978 + b % 32 = omega arith in
