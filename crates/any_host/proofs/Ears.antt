@@ -17,10 +17,12 @@ pub record Kept (n : ℕ) (first e : Ear) : Type 0 where
   pub taken : e.taken ≡ first.taken
   pub given : e.given ≡ first.given
 
+-- at most so many falls are at most more
 pub more : (m : Mode) (a b : ℕ) → a ≤ b → AtMost a m → AtMost b m
 more (Takes bits) a b l h = omega (arith, l, h)
 more (Gives byte falls) a b l h = omega (arith, l, h)
 
+-- true isn't false, so anything follows if it is
 pub never : {A : Type 0} → true ≡ false → A
 never e = absurd cc
 

@@ -12,6 +12,7 @@ use Rattle.fw_link.specs.Latch.{frame_cycles, frame_latch, received_cell, sent_c
 use Rattle.joint_run.specs.Joint.{latch_of}
 use Rattle.any_host.specs.Ticks.{frame_lines}
 
+-- a latch of FF (hexadecimal) pulls neither wire
 pub let_go : IsReleased 255
 let_go = record { byte = omega arith; clock = refl; data_wire = refl }
 
@@ -30,11 +31,13 @@ early frame o l = by (nat_lt o 232) refl
 pub inside : (frame : Frame) (i : ℕ) → i < frame_cycles frame → frame_lines frame (260 + i) ≡ latch_of (frame_latch frame 255 i)
 inside frame i l = ap latch_of (within 255 255 frame i l)
 
+-- after its frame the keyboard drives neither wire
 pub late : (frame : Frame) (o : ℕ) → 260 + frame_cycles frame ≤ o → frame_lines frame o ≡ latch_of 255
 late frame o l =
     let p : o ≡ 260 + frame_cycles frame + (o - (260 + frame_cycles frame)) = omega (arith, l) in
     ap (λ i. frame_lines frame i) p ∙ ap latch_of (afterwards 255 255 frame (o - (260 + frame_cycles frame)))
 
+-- in a tick without a frame the keyboard never pulls the clock
 pub none : (o : ℕ) → (frame_lines NoFrame o).clk ≡ true
 none o = by (nat_lt o 260) refl
   where
@@ -154,6 +157,7 @@ module _ (byte : ℕ) where
 abbrev pub got : Frame
 got = ReceivedFrame
 
+-- before the first fall of a received frame the keyboard drives neither wire
 pub got_up : (o : ℕ) → o < 288 → frame_lines got o ≡ latch_of 255
 got_up o l = by (nat_lt o 260) refl
   where
@@ -173,6 +177,7 @@ got_in k i l few =
     ap (λ o. frame_lines got o) p ∙ inside got (28 + 32 * k + i) (omega (arith, few))
     ∙ ap latch_of (got_cell 255 k i l)
 
+-- in each cell of a received frame the keyboard holds the clock low for 16 cycles and then lets it go for 16
 pub got_clock : (k i : ℕ) → i < 32 → 32 * k + i < 338 → (frame_lines got (288 + 32 * k + i)).clk ≡ nat_le 16 i
 got_clock k i l few =
     ap (λ l. l.clk) (got_in k i l few)
@@ -187,5 +192,6 @@ got_data k i few l =
     ∙ data_of_latch (nat_le 16 i) (if nat_lt k 10 then nat_lt i 20 || nat_lt k 9 else nat_le 16 i) 255 let_go
     ∙ ap (λ c. if c then nat_lt i 20 || nat_lt k 9 else nat_le 16 i) a ∙ ap (λ c. c || nat_lt k 9) b
 
+-- after a received frame the keyboard doesn't pull the clock
 pub got_late : (o : ℕ) → 626 ≤ o → (frame_lines got o).clk ≡ true
 got_late o l = ap (λ l. l.clk) (late got o l)

@@ -269,6 +269,7 @@ module _ (layout : KeyLayout) (d : Board) (from : World d.State) (a : WorksAlone
       right = hears.right;
     }
 
+-- at any host that keeps the rules the run is the model's, and host and keyboard hear each byte of each other
 pub any_host : AnyHostLaw
 any_host layout fine pins tick low m small board few w of_run wires rules counts ends =
     works_at layout (numbered pins tick) (power_on (numbered pins tick) m board)

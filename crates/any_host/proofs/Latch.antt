@@ -130,6 +130,7 @@ module _ (layout : KeyLayout) (d : Board) (from : World d.State) (a : WorksAlone
           let least : c ≤ a.starts c = count c in
           absurd (omega (arith, before, cycle, least, low))
 
+-- each run has a latch of port 2 in each cycle, and so its wires, whatever the host is
 pub wirings : LatchLaw
 wirings layout fine pins tick low m small board few host seen reads wants =
     let d : Board = numbered pins tick in

@@ -257,6 +257,7 @@ module _ (layout : KeyLayout) (fine : IsKeyLayout layout) (d : Board)
           (meetings n) (at n).finds));
     }
 
+-- the run of a layout's image is the model's, whatever the pins show, if the columns show keys of the layout alone
 pub any_pins : AnyPinsLaw
 any_pins layout fine pins tick low m small board few =
     works_alone layout fine (numbered pins tick) low m small board few

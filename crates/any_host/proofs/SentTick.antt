@@ -21,6 +21,7 @@ abbrev pub bits_to : (ℕ → Bool) → ℕ → List Bool
 bits_to bits zero = []
 bits_to bits (suc k) = bits_to bits k ++ bits k ∷ []
 
+-- the first k bits of a frame are k bits
 pub length_bits : (bits : ℕ → Bool) (k : ℕ) → length (bits_to bits k) ≡ k
 length_bits bits zero = refl
 length_bits bits (suc k) =

@@ -31,6 +31,7 @@ in_quarters b = bit_xor (rotated (rotated (in_halves b))) (in_halves b)
 abbrev pub in_eighths : ℕ → ℕ
 in_eighths b = bit_xor (rotated (in_quarters b)) (in_quarters b)
 
+-- a byte folded upon itself three times gives its odd parity
 pub parity_is : (b : ℕ) → b < 256 → 255 - in_eighths b ≡ 255 * digit (parity_of b)
 parity_is = by_byte (λ b. 255 - in_eighths b) (λ b. 255 * digit (parity_of b)) refl
 

@@ -36,6 +36,7 @@ start_put v byte i l =
 abbrev first : ℕ → ℕ → ℕ → (ℕ → ℕ) → ℕ → ℕ
 first r2 r6 b f = put (put (put (put (put f 26 r2) 30 r6) 24 (in_quarters b)) 25 r2) 27 10
 
+-- at its first cell a sent frame has the byte, the latch and the ten cells that are left in its registers
 pub first_cells : (f : ℕ → ℕ) (ring : List ℕ) (v byte : ℕ) → f 26 ≡ bit_and v 253 → f 30 ≡ byte → f 28 ≡ byte
     → memory (first (f 26) (f 30) (f 28) f) ring ≡ memory (sending f v byte 0 10 (in_quarters byte)) ring
 first_cells f ring v byte low whole is =

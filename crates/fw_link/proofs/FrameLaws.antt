@@ -235,6 +235,7 @@ module _ (edges : List Edge) (events : List HostEvent) (w : World Beside) (latch
       ))
       come
 
+-- while the controller leaves the clock alone, the kernel sends the byte that is offered as a whole frame
 pub sent_law : SentLaw
 sent_law bytes has edges events start byte w h lines drives high =
     let latch : ℕ → ℕ = sent_latch w.cpu.p2 byte in
@@ -242,6 +243,7 @@ sent_law bytes has edges events start byte w h lines drives high =
     (sent_over bytes has edges events (watch edges events w latch) (beneath edges events w latch)
     (watch_over edges events w latch) start byte (watched w) lines h drives high)
 
+-- at the first look that finds the clock low, the kernel lets both wires go, and the frame is cut
 pub cut_law : CutLaw
 cut_law bytes has edges events start byte look w h is lines drives high low =
     let latch : ℕ → ℕ = cut_latch w.cpu.p2 byte look in
@@ -249,6 +251,7 @@ cut_law bytes has edges events start byte look w h is lines drives high low =
     (cut_over bytes has edges events (watch edges events w latch) (beneath edges events w latch)
     (watch_over edges events w latch) start byte (watched w) lines h look is drives high low)
 
+-- the kernel reads the byte that the controller sends, with its parity
 pub got_law : GotLaw
 got_law bytes has edges events start byte w h small lines drives asks link clock =
     let latch : ℕ → ℕ = received_latch w.cpu.p2 in
@@ -264,6 +267,7 @@ look_from_edge events lines start w at =
     ∙ from_edge events lines start w.board.pc 0
     ∙ ap (λ c. lets_from events lines start (board_cycles events lines 28 c w.board.pc) 0) (sym at)
 
+-- a pull that begins after the look at the clock is found at the latest by the look in the first cell
 pub pulled_law : PulledLaw
 pulled_law events start w at lines since from pulls =
     look_from_edge events lines start w at ∙ pulled_lets events lines start (at_edge events lines w) since from pulls

@@ -82,9 +82,11 @@ in_cell v k i l =
     let r : (28 + 32 * k + i - 28) % 32 ≡ i = omega (arith, l) in
     rw (b, q, r) refl
 
+-- before its first cell a received frame pulls neither wire
 pub before_cells : (v i : ℕ) → i < 28 → received_latch v (0 + i) ≡ v
 before_cells v i l = let a : nat_lt (0 + i) 28 ≡ true = grind (arith, nat_tests, l) in rw a refl
 
+-- in the first 16 cycles of each of its ten cells a received frame pulls the clock alone
 pub cell_low : (v k i : ℕ) → k < 10 → i < 16 → received_latch v (28 + 32 * k + i) ≡ wired v false true
 cell_low v k i few l =
     let m : i < 32 = omega (arith, l) in
@@ -98,6 +100,7 @@ also : (a b : Bool) → b ≡ true → (a || b) ≡ true
 also true b e = refl
 also false b e = e
 
+-- in the last 16 cycles of each of its first nine cells a received frame pulls neither wire
 pub cell_high : (v k i : ℕ) → k < 9 → i < 16 → received_latch v (28 + 32 * k + 16 + i) ≡ wired v true true
 cell_high v k i few l =
     let m : 16 + i < 32 = omega (arith, l) in

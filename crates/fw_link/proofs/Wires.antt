@@ -19,12 +19,14 @@ clock_of_latch true false v h = tests_by 256 (λ v. bit 0 (bit_and v 253)) (λ v
 clock_of_latch false true v h = tests_by 256 (λ v. bit 0 (bit_and v 254)) (λ v. false) refl v h.byte
 clock_of_latch false false v h = tests_by 256 (λ v. bit 0 (bit_and v 252)) (λ v. false) refl v h.byte
 
+-- the latch with a bit on data drives data to that bit
 pub data_of_latch : (c b : Bool) (v : ℕ) → IsReleased v → (latch_of (wired v c b)).dat ≡ b
 data_of_latch true true v h = tests_by 256 (λ v. bit 1 (bit_and v 255)) (λ v. bit 1 v) refl v h.byte ∙ h.data_wire
 data_of_latch false true v h = tests_by 256 (λ v. bit 1 (bit_and v 254)) (λ v. bit 1 v) refl v h.byte ∙ h.data_wire
 data_of_latch true false v h = tests_by 256 (λ v. bit 1 (bit_and v 253)) (λ v. false) refl v h.byte
 data_of_latch false false v h = tests_by 256 (λ v. bit 1 (bit_and v 252)) (λ v. false) refl v h.byte
 
+-- what is put on the wires leaves the lights
 pub lights_of_latch : (c b : Bool) (v : ℕ) → v < 256 → lights_of (wired v c b) ≡ lights_of v
 lights_of_latch true true v l = by_byte (λ v. lights_of (bit_and v 255)) lights_of refl v l
 lights_of_latch true false v l = by_byte (λ v. lights_of (bit_and v 253)) lights_of refl v l

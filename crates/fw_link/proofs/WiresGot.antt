@@ -21,6 +21,7 @@ received_lights v o l =
     by_case true a b = refl
     by_case false a b = lights_of_latch a b v l
 
+-- a sent frame leaves the lights
 pub sent_lights : (v byte o : ℕ) → v < 256 → lights_of (sent_latch v byte o) ≡ lights_of v
 sent_lights v byte o l =
     by_case (nat_lt o 10) (nat_lt o 28) (nat_le 16 ((o - 28) % 32))
@@ -32,6 +33,7 @@ sent_lights v byte o l =
     by_case false true a b = lights_of_latch true false v l
     by_case false false a b = lights_of_latch a b v l
 
+-- a frame that is cut leaves the lights
 pub cut_lights : (v byte look o : ℕ) → v < 256 → lights_of (cut_latch v byte look o) ≡ lights_of v
 cut_lights v byte look o l = by_case (nat_lt o (look + 2))
   where

@@ -20,12 +20,14 @@ use Rattle.fw_logic.proofs.Leads.{Leads, LetsNone, HasRows}
 use Rattle.fw_logic.proofs.Groups.{effect_timer, effect_free, plain_closed}
 use Rattle.fw_logic.proofs.Timing.{step_later, later_then, step_asks, asking_then}
 
+-- while no interrupt can come, no step takes the external one, whatever the pins show
 pub not_external : (pins : Pins) (m : Cpu) → IsFree m → takes_external pins m ≡ false
 not_external pins m (inl h) = rw h refl
 not_external pins m (inr h) =
     let e = h.0 in rw e (elim (not m.svc) as (λ b. (b && false && not pins.int_pin)
     ≡ false) [ true ↦ refl | false ↦ refl ])
 
+-- nor does one take the timer's
 pub not_timer : (m : Cpu) → IsFree m → takes_timer m ≡ false
 not_timer m (inl h) = rw h refl
 not_timer m (inr h) =

@@ -218,8 +218,10 @@ module _ (d : Board) (bytes : List ℕ) (has : HasKernel bytes) (w : World d.Sta
         (comes_as d TICK bytes (Next d x timer 2040 Kept) (IsNext d w e) (world_at x end) next_so
         (ends d bytes has x timer 2040 Kept end over timed))
 
+-- from each tick start the columns are read at their offsets, in every image that has the kernel
 pub reading_law : ReadingLaw
 reading_law bytes has pins tick w s = reads (numbered pins tick) bytes has w s
 
+-- if the work of a tick ends in time, the next tick start comes
 pub next_law : NextLaw
 next_law bytes has pins tick w e s done = next (numbered pins tick) bytes has w s e done

@@ -261,5 +261,6 @@ module _ (starts : ℕ → ℕ) (last : ℕ) (cadence : KeepsCadenceTo starts la
             (shown_rises (downs_before starts edges n) (downs_in starts edges n) 96).0;
       }
 
+-- the columns of each tick show the tick's edges: at most four, of different places
 pub edges_are_shown : EdgesShown
 edges_are_shown starts history n ok cadence = shows starts n cadence history n (omega arith) ok

@@ -33,6 +33,7 @@ tail_order : (e : Edge) (es : List Edge) → AreInOrder (e ∷ es) → AreInOrde
 tail_order e [] h = tt
 tail_order e (f ∷ fs) h = h.1
 
+-- of edges in order a later one has no earlier stamp
 pub in_order : (es : List Edge) → AreInOrder es → (i j : ℕ) (d : Edge) → i ≤ j → j < length es
     → (get_or es i d).stamp ≤ (get_or es j d).stamp
 in_order [] h i j d l m = absurd (omega (arith, m))
@@ -133,6 +134,7 @@ pub sees_so : (starts : ℕ → ℕ) (n : ℕ) → KeepsCadenceTo starts n → (
 sees_so starts zero cadence e = seen_so starts 0 cadence 0 (omega arith) e
 sees_so starts (suc n) cadence e = seen_so starts (suc n) cadence (suc n) (omega arith) e
 
+-- some of the edges give a tick's edges, if they have all those that the tick sees
 pub tick_edges_so : (starts : ℕ → ℕ) (n : ℕ) (edges some : List Edge) → KeepsCadenceTo starts n
     → HasSeen (start_before starts n) (starts n) some edges
     → map change_of (by_place (λ p. filter (sees (start_before starts n) (starts n)) (of_place p some)) 96) ≡ tick_edges starts edges n

@@ -56,6 +56,7 @@ module _ (n before : ℕ) (edge : Edge) (at : edge.stamp ≡ 2048 * n + 17 + 16 
       let s : late last last ≡ 2048 * last + 5 = itself last in
       record { starts = late last; cadence = late_near last; seen = seen; read = omega (arith, at, s) }
 
+-- no smaller bound would do: an edge just after its column's read waits that long, if its tick starts late
 pub latency_is_met : (n before : ℕ) (edge : Edge) → edge.stamp ≡ 2048 * n + 17 + 16 * (edge.place / 8)
     → IsMet n before edge
 latency_is_met n before edge at = met n before edge at

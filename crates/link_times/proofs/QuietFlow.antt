@@ -110,6 +110,7 @@ module _ (layout : KeyLayout) (history : KeyHistory) (starts : ℕ → ℕ) (las
       (inr (ap (λ v. is_reset_due v) (no_reply n f (omega (arith, l)))))
       e
 
+-- with a quiet host each byte that is offered after the self-test is sent in its tick
 pub quiet_sends : (layout : KeyLayout) (history : KeyHistory) (starts : ℕ → ℕ) (last n : ℕ) → IsHostQuiet history
     → KeepsCadenceTo starts last → n < last → (keyboard_at layout history starts n).test ≡ 0
     → (byte : ℕ) → offer (keyboard_at layout history starts n) ≡ Some byte
@@ -118,6 +119,7 @@ quiet_sends layout history starts last n quiet cadence l t byte o =
     sends_in layout history starts last 0 (quiet_from_start layout history starts quiet) cadence n byte (omega arith)
     (omega (arith, l)) t o
 
+-- so it is from the tick on from which the host is quiet
 pub quiet_sends_from : (layout : KeyLayout) (history : KeyHistory) (starts : ℕ → ℕ) (first last n : ℕ)
     → IsQuietFrom layout history starts first → KeepsCadenceTo starts last → first ≤ n → n < last
     → (keyboard_at layout history starts n).test ≡ 0
@@ -126,6 +128,7 @@ pub quiet_sends_from : (layout : KeyLayout) (history : KeyHistory) (starts : ℕ
 quiet_sends_from layout history starts first last n quiet cadence f l t byte o =
     sends_in layout history starts last first quiet cadence n byte f (omega (arith, l)) t o
 
+-- with a quiet host the byte that waits as number i is sent i ticks later
 pub quiet_byte_a_tick : (layout : KeyLayout) (history : KeyHistory) (starts : ℕ → ℕ) (last n i byte : ℕ)
     → IsHostQuiet history → KeepsCadenceTo starts last → i + n < last
     → (keyboard_at layout history starts n).test ≡ 0

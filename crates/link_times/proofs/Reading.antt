@@ -52,6 +52,7 @@ contains_at f (y ∷ ys) x (suc k) l e =
     let b : r.0 < length (map f ys) = r.1 in
     (suc r.0, omega (arith, b), r.2)
 
+-- what a list has, the list of its images has the image of
 pub contains_map : {X Y : Type 0} (f : X → Y) (xs : List X) (x : X) → Contains xs x → Contains (map f xs) (f x)
 contains_map f xs x c = contains_at f xs x c.0 c.1 c.2
 
@@ -300,6 +301,7 @@ read_from layout history starts first last n byte quiet cadence f l m =
     read_in layout history d (quiet_on history.host d quiet.acts) starts last first cadence
     (rests_in layout history starts last first quiet cadence) n byte f l m
 
+-- with a quiet host INT 09h reads what is put out for a byte in the tick in which it arrives
 pub reads_what_arrives : (layout : KeyLayout) (history : KeyHistory) (starts : ℕ → ℕ) (last n byte : ℕ)
     → IsHostQuiet history → KeepsCadenceTo starts last → n < last → meeting_at layout history starts n ≡ Sent byte
     → IsReadIn layout history starts last n byte

@@ -84,6 +84,7 @@ module _ (p : Past) (a b : Keyboard) (s : HasPast p a) (t : HasPast p b) where
       let e : None ≡ Some has_past.world = sym none ∙ same ∙ some in
       absurd cc
 
+-- a call of the host is done at both of two keyboards in one past, or refused at both for one cause
 pub calls_alike : CallsAreAlike
 calls_alike act p a b c d (Ok x) (Ok y) s t h g = refl
 calls_alike act p a b c d (Ok x) (Err y) s t h g =
@@ -101,6 +102,7 @@ earlier p k (suc m) w h =
     let u = before (story_of p) (m + k) w (ap (state_at (story_of p)) (sym one) ∙ h) in
     earlier p k m u.0 u.1
 
+-- a run that reaches a later state isn't stuck at an earlier one
 pub no_state : (p : Past) (k n : ℕ) (w : World Beside) → state_at (story_of p) n ≡ Some w → k ≤ n
     → state_at (story_of p) k ≡ None → ⊥
 no_state p k n w at l none =
@@ -240,6 +242,7 @@ same_reason p a b c d cycles watched s t near far e f same (Stuck q) Over h g =
 same_reason p a b c d cycles watched s t near far e f same (Stuck q) (Stuck r) h g =
     ap (λ (v : Place). Stuck v) (h.1 ∙ same_place (gone_on p c.joint.steps) c d e f ∙ sym g.1)
 
+-- runs of two keyboards in one past end for one reason and after as many steps
 pub runs_end_alike : RunsEndAlike
 runs_end_alike p a b c d cycles watched x y s t h g near far =
     let same = same_steps p a b c d cycles watched x y s t h g near far in

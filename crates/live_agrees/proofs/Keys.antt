@@ -53,6 +53,7 @@ module _ (p : Past) (a b : Keyboard) (s : HasPast p a) (t : HasPast p b) where
   pub same_wait : a.due.edges.items ≡ b.due.edges.items
   same_wait = s.edges_wait ∙ ap (λ n. drop n p.edges) same_made ∙ sym t.edges_wait
 
+-- a key is let in at both of two keyboards in one past, or refused at both for one cause
 pub keys_alike : KeysAreAlike
 keys_alike place down p a b c d (Ok x) (Ok y) s t h g = refl
 keys_alike place down p a b c d (Ok x) (Err R.Early) s t h g =

@@ -37,6 +37,7 @@ pub record IsPlain (code scan w : ℕ) : Type 0 where
 abbrev pub waiting : ℕ → ℕ → Option Repeat
 waiting place count = Some (record { place = place; count = count; on_fn = false })
 
+-- the release of the key that repeats ends its repeat
 pub ended_self : (place count : ℕ) → ended_at place (waiting place count) ≡ None
 ended_self place count = ap (λ b. if b then None else waiting place count) (same_place place)
 

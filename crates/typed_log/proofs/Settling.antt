@@ -116,6 +116,7 @@ takes_none debounce seen held on =
       switches = ap (λ es. record { read = turned_all seen held; settled = turned_all es held }) (none_taken seen held);
     })
 
+-- with a debounce a tick takes the edge that the tick before saw, if the key stays as it was seen
 pub takes_one : (debounce : Bool) (q : ℕ) (d : Bool) (seen : List (ℕ × Bool)) (held held' : List Bool) → debounce ≡ true
     → length held ≡ 96 → q < 96 → is_down_at held q ≡ not d → turned q d held ≡ held'
     → is_down_at (turned_all seen held') q ≡ d → Takes debounce ((q, d) ∷ []) seen ((q, d) ∷ []) seen held held'

@@ -109,6 +109,7 @@ take_at k (suc i) (s ∷ ss) l =
     let z : i + suc k ≡ suc i + k = omega arith in
     take_at (suc k) i ss (omega (arith, l)) ∙ ap (λ n. Some (take_of (stroke_start n))) z
 
+-- each take of a text's strokes comes 14,336 cycles after the start of its stroke
 pub take_only : (k i : ℕ) (ss : List Stroke) (e : HostEvent) → slice_get (takes_from k ss) i ≡ Some e
     → e.stamp ≡ stroke_start (i + k) + 14336
 take_only k i [] e h = absurd cc

@@ -223,6 +223,7 @@ module _ (layout : KeyLayout) (ok : IsKeyLayout layout) (h : KeyHistory) (ss : L
       subst (λ v. Says text v) e (record
       { nothing_lost = t.rest.is.kept; taken = ap (λ v. map (option_map low_byte) v) t.rest.is.taken_so_far ∙ t.low })
 
+-- the log of the strokes of a text says the text
 pub strokes_say_text : StrokesSayText
 unfolding planned
 strokes_say_text layout text ss is l h =

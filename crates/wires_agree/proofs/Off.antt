@@ -191,6 +191,7 @@ module _ (events : List HostEvent) (latch line : ℕ → Lines) (start j n : ℕ
       by (inr (there, inl late)) = inl late
       by (inr (there, inr pulls)) = at_start j refl pulls
 
+-- a tick whose frame the controller breaks off at a look is in byte time one whose byte is cut
 pub all_broken : BrokenTick
 all_broken events latch line start rest byte j n k bits b up earlier later frame below afterwards short same leaves low high e =
     let c : Pc = at_meeting events latch start b in
