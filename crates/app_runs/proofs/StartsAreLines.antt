@@ -12,6 +12,7 @@ use Rattle.subsystem.specs.Texts.{log_text}
 use Rattle.subsystem.proofs.Lines.{are_lines}
 use Rattle.app_runs.specs.RunTexts.{text_after_log, run_text, start_line, start_lines}
 
+-- the line of a tick start ends with a line's end
 pub ends : (number stamp : ℕ) → EndsLine (start_line number stamp)
 ends number stamp = ends_afterwards (codes "start " ++ decimal number ++ codes " " ++ decimal stamp) (codes "\n") ([], refl)
 

@@ -167,6 +167,7 @@ made_some s left k new before after made m steps of a some count at is looks hit
           seen (a.led some w there)));
     }
 
+-- steps made in a session are made in the same session by another name
 pub made_of : (s t : Debuggee) (left : ℕ) (d : Debug) (made : Made) (e : Debug) → s ≡ t → IsMade s left d made e → IsMade t left d made e
 made_of s t left d made e same h = subst (λ (v : Debuggee). IsMade v left d made e) same h
 

@@ -156,6 +156,7 @@ pub said_by : {X : Type 0} (items : X → List ℕ) (result : Result X LineFault
 said_by items result sitting s script probes left is h =
     subst (λ (x : Sitting). MatchResult result (λ y. IsObeyed x.debuggee script probes (items y) left) (λ e. e ≡ Memory)) is h
 
+-- lines obeyed in a sitting at its first state are obeyed in its session
 pub part_by : (sitting : Sitting) (s : Debuggee) (script : List ℕ) (probes left : List Watch) → sitting ≡ record { debuggee = s; steps = 0 }
     → IsObeyedInPart sitting.debuggee script probes left → IsObeyedInPart s script probes left
 part_by sitting s script probes left is h = subst (λ (x : Sitting). IsObeyedInPart x.debuggee script probes left) is h

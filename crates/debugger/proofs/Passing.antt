@@ -34,6 +34,7 @@ not_met : (w : Watch) (number : ℕ) (v : Sight) (b : Bool) (o : Option ℕ) →
 not_met w number v true o h = absurd (cc h)
 not_met w number v false o h = refl
 
+-- probes that rest meet nothing
 pub none_met : (clk : Bool) (number : ℕ) (v : Sight) (ws : List Watch) → all_rest clk ws ≡ true → first_met number v ws ≡ None
 none_met clk number v [] h = refl
 none_met clk number v (w ∷ ws) h =

@@ -83,6 +83,7 @@ before_end s w h =
     let off = or_not _ (nat_le (s.story.stop + s.latest) w.cycle) h in
     grind (arith, nat_tests, off)
 
+-- if a session isn't over, its cycle is before the latest
 pub room_there : (t : Sitting) (s : Debuggee) (c : Course) → IsOnCourse s.story c → sitting s c.joint.steps ≡ t
     → (past : Bool) → DecidesSessionOver t past → past ≡ false → c.joint.cycle < s.story.stop + s.latest
 room_there t s c h view past decides off =

@@ -36,6 +36,7 @@ pub record HasCome (layout : KeyLayout) (text : List ℕ) (number : ℕ) (rest :
   pub number_in_range : number + length rest ≤ 1 + length text
   pub sound : IsSound layout before
 
+-- before the first line nothing is read, and the whole text is left
 pub come-first : (layout : KeyLayout) (text : List ℕ) (brief : Kept) → IsBriefOf at_first brief → HasCome layout text 1 text brief
 unfolding history_of
 come-first layout text brief kept = record {

@@ -107,6 +107,7 @@ pins_are : (edges : List Edge) (p1 p2 cycle : ℕ) (s : Beside) → joint_pins e
 unfolding joint_pins
 pins_are edges p1 p2 cycle s = refl
 
+-- edges that aren't due yet change no level at the pins
 pub pins_alike : (es more : List Edge) (last p1 p2 cycle : ℕ) (s : Beside) → cycle < last → All (λ e. last ≤ e.stamp + 4096) more
     → joint_pins (es ++ more) p1 p2 cycle s ≡ joint_pins es p1 p2 cycle s
 pins_alike es more last p1 p2 cycle s l h =

@@ -46,11 +46,13 @@ quiet_after due tick (suc n) old new h =
 same_number : (n : ℕ) → (n == n) ≡ true
 same_number n = grind (arith, nat_tests)
 
+-- the interrupt line doesn't rise if it stays as it is
 pub steady : (i : Irq) → rose i i ≡ false
 steady i =
     ap (λ b. i.up && (not i.up || not b)) (same_number i.filled)
     ∙ (elim i.up as (λ b. (b && (not b || false)) ≡ false) [ true ↦ refl | false ↦ refl ])
 
+-- after quiet steps within its limit a run goes on, and the line hasn't risen
 pub goes_quietly : (p : Past) (old : Keyboard) (cycles : ℕ) (watched : Bool) (k : Keyboard) (tick n : ℕ) (m : Machine)
     → GoesOnSo p old cycles watched k
     → AreUneventful k.due tick n k.joint m → m.cycle ≤ old.joint.cycle + cycles → GoesOnSo p old cycles watched (record k { joint = m })
@@ -137,6 +139,7 @@ pub stuck_same : (due : Due) (old new : Machine) (stuck : Stuck) (o : Option (Wo
 stuck_same due old new stuck None h = h.1
 stuck_same due old new stuck (Some w) h = absurd h
 
+-- a keyboard whose processor is stuck is at no earlier cycle than before
 pub stuck_later : (k new : Keyboard) (most : ℕ) (stuck : Stuck)
     → HasGone k.due 2048 most k.joint (Err stuck) new.joint → k.joint.cycle ≤ new.joint.cycle
 stuck_later k new most stuck g =
@@ -144,6 +147,7 @@ stuck_later k new most stuck g =
     let cycle = ap (λ (m : Machine). m.cycle) (stuck_same k.due g.last new.joint stuck (due_step k.due g.last) g.step) in
     omega (arith, later, cycle)
 
+-- if the processor is stuck within the limit, the run ends there and says so
 pub has_stuck : (k new : Keyboard) (most : ℕ) (stuck : Stuck)
     → HasGone k.due 2048 most k.joint (Err stuck) new.joint → new.due ≡ k.due → (p : Past) (old : Keyboard) (cycles : ℕ) (watched : Bool)
     → GoesOnSo p old cycles watched k → k.joint.cycle + most < old.joint.cycle + cycles → HasRun p old cycles watched (ends.Stuck stuck) new

@@ -104,6 +104,7 @@ pub record AreCounted (n : ℕ) (old new : Machine) : Type 0 where
   pub steps : new.steps ≡ old.steps + n
   pub cycles : old.cycle + n ≤ new.cycle
 
+-- quiet steps leave the PC's side and port 2, and each takes a cycle or more
 pub counted_quietly : (due : Due) (tick n : ℕ) (old new : Machine) → AreUneventful due tick n old new → AreCounted n old new
 counted_quietly due tick zero old new h =
     let steps = ap (λ (m : Machine). m.steps) h in
@@ -236,6 +237,7 @@ steps_few k new most g =
     let one = (counted k.due g.last new.joint new.seen g.step).1 in
     omega (arith, steps, cycles, within, one)
 
+-- a keyboard that has gone on by a step has made more steps
 pub steps_later : (k new : Keyboard) (most : ℕ) (g : HasGone k.due 2048 most k.joint (Ok new.seen) new.joint)
     → k.joint.steps < new.joint.steps
 steps_later k new most g =

@@ -54,9 +54,11 @@ here p k s =
     subst (λ n. state_at (story_of p) n ≡ Some s.world) s.steps
     (subst (λ bytes. run_at (joint_board p.edges p.events) bytes (joint_start_of p.held) k.joint.steps ≡ Some s.world) s.image s.in_run.run)
 
+-- edges before a cycle are before a later one
 pub later_edges : (soon late : ℕ) (es : List Edge) → soon ≤ late → All (λ e. e.stamp + 4096 ≤ soon) es → All (λ e. e.stamp + 4096 ≤ late) es
 later_edges soon late es l h = λ i d m. let k = h i d m in omega (arith, k, l)
 
+-- events before a cycle are before a later one
 pub later_events : (soon late : ℕ) (es : List HostEvent)
     → soon ≤ late → All (λ e. e.stamp + 4096 ≤ soon) es → All (λ e. e.stamp + 4096 ≤ late) es
 later_events soon late es l h = λ i d m. let k = h i d m in omega (arith, k, l)

@@ -29,6 +29,7 @@ pub record GoesOnSo (p : Past) (old : Keyboard) (cycles : ℕ) (watched : Bool) 
   pub before : AreBefore p old.joint.steps k.joint.steps (old.joint.cycle + cycles)
   pub calm : watched ≡ true → IsCalm p old.joint.steps k.joint.steps
 
+-- before its first step a run has gone on by none
 pub goes_first : (p : Past) (old : Keyboard) (cycles : ℕ) (watched : Bool) → HasPast p old → GoesOnSo p old cycles watched old
 goes_first p old cycles watched s = record {
   has_past = subst (λ n. HasPast (gone_on p n) old) (sym s.steps) s;
@@ -37,6 +38,7 @@ goes_first p old cycles watched s = record {
   calm = λ is j l m. absurd (omega (arith, l, m));
 }
 
+-- a step of the first k + 1 is one of the first k, or the last
 pub last_or_before : (j k : ℕ) → j < suc k → (j < k) ⊎ (j ≡ k)
 last_or_before j k l =
     elim (ltb j k) as (λ b. ltb j k ≡ b → (j < k) ⊎ (j ≡ k)) [
@@ -119,5 +121,6 @@ both_true true true h = (refl, refl)
 both_true true false h = absurd (cc h)
 both_true false b h = absurd (cc h)
 
+-- a run that watches the line says that it rose just if it did
 pub rose_of : (watched r : Bool) (was is : Irq) → r ≡ (watched && rose was is) → r ≡ true → (watched ≡ true) × (rose was is ≡ true)
 rose_of watched r was is log_kept risen = both_true watched (rose was is) (sym log_kept ∙ risen)

@@ -21,6 +21,7 @@ use Rattle.story_run.specs.Advance.{IsEnding}
 use Rattle.story_run.specs.Gliding.{IsGoing, IsHeldUp, IsSilent}
 use Rattle.story_run.specs.Running.{GoesOnTo, is_over, place_of}
 
+-- if no step follows a state, the processor is stuck there
 pub stuck_where_none : (s : Story) (w : World Beside)
     → joint_step (joint_board s.edges s.events) s.bytes w ≡ None → sticks s.bytes w.cpu ≡ true
 stuck_where_none s w none = sym (none_step s.edges s.events s.bytes w) ∙ ap is_none none

@@ -35,6 +35,7 @@ then_starts : (e : Ending) (s : Story) (k n m : ℕ) → AreSameStarts e s k n �
 then_starts TickStart s k n m a b = b ∙ a
 then_starts Stamp s k n m a b = tt
 
+-- of no steps nothing is to be reported
 pub none_quiet : (e : Ending) (wires : Bool) (s : Story) (k : ℕ) → IsSilent e wires s k k
 none_quiet e wires s k = record {
   later = omega arith;
@@ -43,6 +44,7 @@ none_quiet e wires s k = record {
   levels = λ on j l m. let same : j ≡ k = omega (arith, l, m) in ap (lines_at s) same;
 }
 
+-- if nothing is to be reported of some steps and of those after them, nothing is of all of them
 pub then_quiet : (e : Ending) (wires : Bool) (s : Story) (k n m : ℕ) → IsSilent e wires s k n → IsSilent e wires s n m → IsSilent e wires s k m
 then_quiet e wires s k n m a b =
     let first = a.later in

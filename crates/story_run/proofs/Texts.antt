@@ -29,9 +29,11 @@ pub record IsSaidTo (x y : Shown) (text rest : List ℕ) : Type 0 where
   pub said : IsSaid x y front
   pub whole : front ++ rest ≡ text
 
+-- before the first line of a text nothing is said and all of it is left
 pub none_yet : (x : Shown) (text : List ℕ) → IsSaidTo x x text text
 none_yet x text = record { front = []; lines = inl refl; said = none_said x; whole = refl }
 
+-- if nothing of a text is left, all of it is said
 pub all_said : (x y : Shown) (text rest : List ℕ) → IsSaidTo x y text rest → rest ≡ [] → IsSaid x y text
 all_said x y text rest h none =
     subst (λ t. IsSaid x y t) (sym (append-nil h.front) ∙ ap (λ t. h.front ++ t) (sym none) ∙ h.whole) h.said

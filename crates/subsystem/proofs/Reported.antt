@@ -124,6 +124,7 @@ module _ (s : Story) (k : ℕ) (c : Course) (b : IsAtReport TickStart false s k 
             ∙ ap (λ (o : Option (World Beside)). starts_among s c.joint.steps ++ start_stamp s o) (sym (here s c b.run_so_far.on));
       }
 
+-- what is reported of a step is the tick start to which it led and the lines of what it said
 pub one_more : (e : Ending) (s : Story) (k : ℕ) (c : Course) (it : Starts) (b : IsAtReport e false s k c) → HasNoted e s k it
     → IsOneMore s k c b.last b.run_so_far.on.world it.stamps.items
 one_more TickStart s k c it b noted =
