@@ -431,6 +431,7 @@ module _ (keyboard : ℕ → Lines) (happens : ℕ → Happening)
   pub keeps_end : Ends Eleventh W
   keeps_end c i nine ten m l fall far after all = ends (c + i) ten (L (c + i)) (tied (c + i)) after all
 
+-- the controller keeps the rules of a host that counts eleven falls, whatever the keyboard and the PC do
 pub controller_keeps : ControllerLaw
 controller_keeps keyboard happens lines high bytes = (
   wires keyboard happens lines high,

@@ -112,6 +112,7 @@ module _ (layout : KeyLayout) (fine : IsKeyLayout layout) (keys : ℕ → ℕ �
       (requests_bytes happens write))
       Eleventh (keeps_end keyboard happens (λ c. sym (link_is c)) begins_high)
 
+-- the run at the controller is the model's, and keyboard and controller hear each byte of each other
 pub at_controller : AtControllerLaw
 at_controller layout fine keys low own_keys calls write m small = record {
   keyboard = keyboard layout fine keys low own_keys calls write m small;

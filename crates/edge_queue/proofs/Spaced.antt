@@ -25,6 +25,7 @@ ready_kept e q =
       | false ↦ elim (is_full e.down q) as (λ b. (if b then q else entered e q).ready ≡ q.ready) [ true ↦ refl | false ↦ refl ]
     ]
 
+-- an edge that is due at a time is handed over once the queue is ready
 pub due_later : (ready stamp now : ℕ) → nat_lt now (due_at ready stamp) ≡ false → ready ≤ now
 due_later ready stamp now h =
     elim (nat_lt stamp ready) as (λ b. nat_lt stamp ready ≡ b → nat_lt now (if b then ready else stamp) ≡ false → ready ≤ now) [

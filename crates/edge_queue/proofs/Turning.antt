@@ -71,6 +71,7 @@ entered_sound made e q in_matrix s new =
       long = length-set q.down e.place e.down ∙ s.long;
     }
 
+-- after an edge is pushed the edges that wait still turn each key from what it was
 pub pushed_sound : (made : ℕ → Bool) (e : Pushed) (q : Queue) → e.place < 96 → Sound made q → Sound made (pushed e q)
 pushed_sound made e q l s =
     elim (is_repeated e q) as (λ b. is_repeated e q ≡ b

@@ -46,6 +46,7 @@ made_if : (due : Due) (old : Machine) (seen : Seen) (new : Machine) (o : Option 
 made_if due old seen new None e h = absurd h
 made_if due old seen new (Some w) e h = record { world = w; step = e; after = h.0; seen_so = h.1 }
 
+-- a step that answers what was seen was made, and the machine is as that step leaves it
 pub made : (due : Due) (old : Machine) (seen : Seen) (new : Machine)
     → IsJointStep due old (due_step due old) (Ok seen) new → IsMade due old seen new
 made due old seen new h = made_if due old seen new (due_step due old) refl h

@@ -21,6 +21,7 @@ use Rattle.joint_glide.proofs.Stretches.{stood, ends_stuck, ends_written, gone, 
 pub parts_on : (old j x : Machine) → j ≡ record old { mcu = j.mcu } → x ≡ record j { mcu = x.mcu } → x ≡ record old { mcu = x.mcu }
 parts_on old j x parts only = only ∙ ap (λ (m : Machine). record m { mcu = x.mcu }) parts
 
+-- a machine of which the processor alone was changed twice differs from the first in its processor alone
 pub parts_leapt : (old x end : Machine) (cpu : Cpu)
     → x ≡ record old { mcu = x.mcu } → end ≡ record x { mcu = cpu } → end ≡ record old { mcu = end.mcu }
 parts_leapt old x end cpu parts e =

@@ -62,6 +62,7 @@ module _ (cycle : ℕ) where
 made_later : (cycle later : ℕ) (e : Edge) → cycle ≤ later → is_made cycle e ≡ true → is_made later e ≡ true
 made_later cycle later e l h = grind (arith, nat_tests, l, h)
 
+-- if all edges are made by a cycle, all are by a later one
 pub all_later : (cycle later : ℕ) → cycle ≤ later → (es : List Edge) → made_first cycle es ≡ es → made_first later es ≡ es
 all_later cycle later l [] h = refl
 all_later cycle later l (e ∷ es) h =
@@ -84,6 +85,7 @@ made_twice cycle (e ∷ es) =
       | false ↦ λ h. refl
     ] refl
 
+-- the edges of two lists, one list after the other, turn the keys as both joined
 pub turned_on : (xs ys : List Edge) (keys : List Bool) → turned_by (xs ++ ys) keys ≡ turned_by ys (turned_by xs keys)
 turned_on [] ys keys = refl
 turned_on (e ∷ es) ys keys = turned_on es ys (turned e.place e.down keys)

@@ -43,6 +43,7 @@ opened : (events : List HostEvent) (p2 now : ℕ) (o : Outside) (done : ℕ) (lo
 unfolding joint_cycle board_cycle
 opened events p2 now o done log = refl
 
+-- a cycle of the joint run is that of what is outside the processor, with the count of events and the log gone on
 pub cycle_is : (events : List HostEvent) (p2 now : ℕ) (o : Outside) (done : ℕ) (log : List Stamped) →
     let c : Passed = outside_cycle now p2 (slice_get events done) o in
     joint_cycle events p2 now (beside o done log) ≡ beside c.outside (if c.done then done + 1 else done) (log ++ c.items)

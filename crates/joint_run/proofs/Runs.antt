@@ -18,6 +18,7 @@ next_one [] done = ap (λ (es : List HostEvent). slice_get (take 2 es) 0) (sym (
 next_one (e ∷ es) zero = refl
 next_one (e ∷ es) (suc done) = next_one es done
 
+-- the second event from one on is the second of the two that were handed in
 pub next_two : (events : List HostEvent) (done : ℕ) → slice_get events (suc done) ≡ slice_get (take 2 (drop done events)) 1
 next_two [] done = ap (λ (es : List HostEvent). slice_get (take 2 es) 1) (sym (Rattle.std.proofs.Math.Seq.drop-nil done))
 next_two (e ∷ []) zero = refl

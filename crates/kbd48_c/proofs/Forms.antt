@@ -64,6 +64,7 @@ al = record { row = Z; laws = LZ; g = ghosts; d = impl [] tnil dnil; drops = imp
 abbrev pub E : box.Bx
 E = record { row = R; laws = keyboard_laws.the_row_laws; al = al }
 
+-- a handle without a keyboard is a right value, whatever its heap is
 pub null_good : (h : Val) → Good (layout Z) h → Good (layout Ha) (both vnull h)
 null_good h fits = (and_tt (has_ty (layout Z) h) fits.0, (record { fits = lit< tt }, (fits.1, tt)))
 

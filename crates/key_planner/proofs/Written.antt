@@ -13,6 +13,7 @@ pub record IsSoFar (layout : KeyLayout) (text : List ℕ) (number : ℕ) (plan :
   pub plan_is : text_plan layout text ≡ option_map (λ strokes. plan ++ lines_from number strokes) (strokes_of layout (drop number text))
   pub keys_are : first_without layout text ≡ without_from layout (suc number) (drop number text)
 
+-- before the first byte of a text its plan has no line yet
 pub so_far-first : (layout : KeyLayout) (text : List ℕ) → IsSoFar layout text 0 []
 unfolding plan_of
 so_far-first layout text = record { plan_is = refl; keys_are = refl }

@@ -233,9 +233,11 @@ module _ (layout : KeyLayout) (host : List HostEvent) (starts : ℕ → ℕ) (ca
       (λ n. ap (λ b. taken b (tick_edges starts edges n) (whole_at (keyboard layout) edges host starts n).keys.switches) off) 0
       edges seen
 
+-- with a debounce each tick takes what the tick before it saw
 pub one_later : AreTakenOneLater
 one_later layout host starts on cadence calls placed n = each_later layout host starts cadence calls placed on n
 
+-- the keyboard takes the edges of a queue one a tick, in their order, and has time to send each
 pub taken_in_turn : AreTakenInTurn
 taken_in_turn layout host starts cadence calls placed =
     in_turn layout host starts cadence calls placed layout.debounce refl

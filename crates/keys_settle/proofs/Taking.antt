@@ -262,6 +262,7 @@ module _ (layout : KeyLayout) (keys seen : List Edge) (host : List HostEvent) (s
           (of_place place keys) own later;
     }
 
+-- each edge of a key that settles late is taken once, in its order
 pub taken_once : EdgesAreTakenOnce
 taken_once layout keys seen host starts place n cadence l far later =
     once layout keys seen host starts place cadence l far later n

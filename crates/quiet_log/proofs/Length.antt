@@ -148,6 +148,7 @@ module _ (events : List HostEvent) where
       let s = h.said in
       record { said = omega (arith, s); done = h.done }
 
+-- a log has at most four items for each tick and four for each event of the host
 pub length_law : LengthLaw
 length_law layout history starts =
     let h = run_within history.host (keyboard layout) history.edges (listed starts) (length starts - 1) in
@@ -167,6 +168,7 @@ ticks_most starts stop (suc n) e c l =
     let s = (c n (omega arith)).least in
     omega (arith, e, b, s)
 
+-- the log of an accepted history has fewer than 800,000 items
 pub limit_law : LimitLaw
 limit_law layout history starts a c l =
     let n = ticks_most (listed starts) history.end (length starts - 1) a.end_in_range c l in

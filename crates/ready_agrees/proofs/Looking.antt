@@ -145,6 +145,7 @@ at_edge now dat (Request byte) false p e h is f = still_empty p (Busy (Send byte
 at_edge now dat (Busy w) true p e h is f = absurd cc
 at_edge now dat (Busy w) false p e h is f = in_frame now dat w p e is
 
+-- a look at the wires leaves a full output buffer, the command byte, and an input buffer that is empty
 pub looks_at : (now : ℕ) (clock : Bool) (line : Lines) (p : LinkEnd Wire) → p.core.input ≡ None → Fits p
     → Looks p (port_looked now clock line p)
 looks_at now clock line p e h =

@@ -377,5 +377,6 @@ module _ (stuck : NeverStuck) (logs : LogsAgree) (use_any : AnyUseIsLawful) (fil
       put_out o.middle r.opened ends.0 ends.1 o.ran.has_past t k r.end
       (r.ran (masked_at 0 bytes (o.middle.joint.cycle - 4096) (suc o.middle.joint.steps)) t)
 
+-- a keyboard that is ready has put out the AA of its self-test, and the rise of the interrupt line ended its run
 pub ready : NeverStuck → LogsAgree → AnyUseIsLawful → FillsAreFine → PromptLaw → EachIsReadOnce → ReadyHasPutOut
 ready stuck logs use_any fills prompt reads layout k fine r = ready_by stuck logs use_any fills prompt reads layout fine k r

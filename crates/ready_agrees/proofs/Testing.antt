@@ -37,6 +37,7 @@ none_of_place : (q : Edge → Bool) (k : ℕ) → by_place (λ p. filter q (of_p
 none_of_place q zero = refl
 none_of_place q (suc k) = ap (λ v. v ++ []) (none_of_place q k)
 
+-- without edges no tick sees one
 pub none_seen : (starts : ℕ → ℕ) (n : ℕ) → tick_edges starts [] n ≡ []
 none_seen starts n =
     ap (map change_of) (none_of_place (is_seen starts n) 96)
@@ -62,6 +63,7 @@ testing rate aa_due test = record (at_power_on rate) { test = test; aa_due = aa_
 abbrev pub untouched : Keyboard → LayeredKeyboard
 untouched k = record { keyboard = k; layers = no_layers; switches = all_open }
 
+-- without edges a tick changes the keyboard alone, and neither layers nor switches
 pub ticks_untouched : (layout : KeyLayout) (meeting : Meeting) (k : Keyboard)
     → (keyboard layout).ticked meeting [] (untouched k) ≡ untouched (ticked (keys_of layout) (met_as meeting) [] k)
 ticks_untouched layout meeting k =

@@ -45,6 +45,7 @@ module _ (lines : PortLinesAreArrivals) (layout : KeyLayout) (keys contacts : Li
       (λ (s : Stamped). record { tick = tick_of c.starts n s.cycle; item = s.item }) m.log)
       ∙ lines (undebounced layout) history c.starts n quiet (λ k l. near layout keys contacts host from c k)
 
+-- with switches that settle late each stroke of a key is read once, if the host only takes words and reads the status
 pub strokes_are_read : EdgesAreTakenOnce → ComesExactly → NothingElseArrives → PortLinesAreArrivals → StrokesAreRead
 strokes_are_read taken exact arrives lines layout keys contacts host from c sw quiet =
     let history : KeyHistory = clean_history c.seen host in

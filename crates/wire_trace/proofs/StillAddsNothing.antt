@@ -26,6 +26,7 @@ pub record HearAlike (a b : Ear) : Type 0 where
 with_falls : Sample → List Fall → Ear
 with_falls x falls = record { last = Some x; falls = falls }
 
+-- two ears that hear the next sample alike are the same after it
 pub alike_heard : (x : Sample) (a b : Ear) → HearAlike a b → heard x a ≡ heard x b
 unfolding with_falls
 alike_heard x a b h =
@@ -33,6 +34,7 @@ alike_heard x a b h =
     (ap (λ (l : Lines). if is_fall l x.lines then with_fall (fall_at x) a.falls else a.falls) h.wires
     ∙ ap (λ (f : List Fall). if is_fall (wires_at b.last) x.lines then with_fall (fall_at x) f else f) h.falls)
 
+-- for two ears that hear the next sample alike a dump gets the same text
 pub alike_text : (x : Sample) (a b : Ear) → HearAlike a b → sample_text x a ≡ sample_text x b
 alike_text x a b h =
     let same : completed x a ≡ completed x b =

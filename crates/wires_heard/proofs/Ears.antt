@@ -21,6 +21,7 @@ use Rattle.wires_heard.specs.Hearing.{heard_in, heard_to, sample_in}
 same_world : (a b : World Beside) → Some a ≡ Some b → a ≡ b
 same_world a b e = cc
 
+-- if the clock was high and isn't now, it fell
 pub high_low : (a b : Bool) → (a && not b) ≡ true → (a ≡ true) × (b ≡ false)
 high_low true false h = (refl, refl)
 high_low true true h = absurd cc

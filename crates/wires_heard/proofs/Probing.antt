@@ -87,5 +87,6 @@ module _ (s : Story) where
     hears = λ order. let z : (n - k) + k ≡ n = omega (arith, order) in ear_so (n - k) k ∙ ap (heard_to s) z;
   }
 
+-- a probe that listens to the wires counts just the bytes that the controller takes, or those that it sends
 pub every_probe_counts : ProbeLaw
 every_probe_counts layout history m fine ok small a b k n = counts _ (any_run_is_heard layout history m fine ok small) a b k n

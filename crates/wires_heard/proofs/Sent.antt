@@ -54,6 +54,7 @@ same_levels f g (suc m) i h =
     ap (λ b. b ∷ levels f (suc i) m) (h i (omega arith) (omega arith))
     ∙ ap (λ bs. g i ∷ bs) (same_levels f g m (suc i) (λ k a u. h k (omega (arith, a)) (omega (arith, u))))
 
+-- levels that are the same in each of eleven cells are the same frame
 pub same_eleven : (f g : ℕ → Bool) → ((k : ℕ) → k ≤ 10 → f k ≡ g k) → eleven_of f ≡ eleven_of g
 same_eleven f g h = same_levels f g 11 0 (λ k a u. h k (omega (arith, u)))
 
