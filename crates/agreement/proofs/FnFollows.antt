@@ -43,7 +43,7 @@ one is_fn byte held fn at down long l own is false e =
     let apart : byte ≢ at = grind (arith, nat_tests, e) in
     ap (λ b. if b then down else fn) (own ∙ e) ∙ is ∙ sym (get_or-set_other held at byte down false apart)
 
--- after a tick's edges Fn is down just if its key is held, if it was so before them
+-- after a tick's edges Fn is down exactly if its key is held, if it was so before them
 pub fn_follows : (is_fn : ℕ → Bool) (byte : ℕ) → ((p : ℕ) → p < 96 → is_fn p ≡ (p == byte)) → (es : List (ℕ × Bool))
     (l : Layers) (held : List Bool) → length held ≡ 96 → low_edges es → l.fn_down ≡ slice_index_or held byte false
     → (all_layers_after is_fn es l).fn_down ≡ slice_index_or (turned_all es held) byte false

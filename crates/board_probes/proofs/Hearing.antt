@@ -57,7 +57,7 @@ by_fall : (b : Bool) (fs all : List Fall) (s : Sample) → all ≡ fs ++ (cond b
 by_fall true fs all s e = ap transfer_by (one_more fs (fall_at s) ∙ ap last_eleven (sym e))
 by_fall false fs all s e = refl
 
--- a sample completes a transfer just if it is a fall, and the last eleven falls are a transfer
+-- a sample completes a transfer exactly if it is a fall, and the last eleven falls are a transfer
 pub completes_by_falls : CompletesByFalls
 completes_by_falls samples s =
     ap (completed s) (keeps_eleven_falls samples)

@@ -76,7 +76,7 @@ pub empty : (f : ℕ → ℕ) (ring : List ℕ) (s : ℕ) → f 66 % 128 ≡ 0 �
     ≡ drop_first (queue_of f ring)
 empty f ring s e = rw e refl
 
--- the exclusive or of two bytes is zero just if they are the same
+-- the exclusive or of two bytes is zero exactly if they are the same
 pub xor_is : (k : ℕ) → k < 256 → (b : ℕ) → b < 256 → (bit_xor b k == 0) ≡ (b == k)
 xor_is k l b m = pair_tests 256 256 (λ b k. bit_xor b k == 0) (λ b k. b == k) refl b k m l
 

@@ -31,7 +31,7 @@ row_bit bytes hk k l = from_each (λ k. slice_index bytes ((1024 + suc k) % 2048
 pub bit_test_back : (r b : ℕ) → r < 8 → b < 256 → (bit_and b (2 ^ r) == 0) ≡ not (bit r b)
 bit_test_back = pair_tests 8 256 (λ r b. bit_and b (2 ^ r) == 0) (λ r b. not (bit r b)) refl
 
--- the and of a row's bit and a byte is zero just if the byte doesn't have that bit
+-- the and of a row's bit and a byte is zero exactly if the byte doesn't have that bit
 pub bit_test : (r b : ℕ) → r < 8 → b < 256 → (bit_and (2 ^ r) b == 0) ≡ not (bit r b)
 bit_test = pair_tests 8 256 (λ r b. bit_and (2 ^ r) b == 0) (λ r b. not (bit r b)) refl
 
@@ -55,7 +55,7 @@ delay_read bytes hk b l =
     rw e (hk (974 + b / 32 % 4) (from_each (λ k. is_table (974 + k) ≡ false) 0 4 (refl, (refl, (refl, (refl, tt))))
     (b / 32 % 4) (omega arith) low) ∙ sym (byte_is (974 + b / 32 % 4) (omega (arith, low))) ∙ delay_in b l)
 
--- the exclusive or of two bytes isn't zero just if they differ
+-- the exclusive or of two bytes isn't zero exactly if they differ
 pub xor_test : (a b : ℕ) → a < 256 → b < 256 → not (bit_xor a b == 0) ≡ not (b == a)
 xor_test = pair_tests 256 256 (λ a b. not (bit_xor a b == 0)) (λ a b. not (b == a)) refl
 
@@ -84,7 +84,7 @@ pub code_read : (bytes : List ℕ) (b : Bool) (p : ℕ) → slice_index bytes (7
 code_read bytes true p = let e : 768 + (97 + p) ≡ 865 + p = omega arith in ap (λ i. slice_index bytes i) e
 code_read bytes false p = let e : 768 + (0 + p) ≡ 768 + p = omega arith in ap (λ i. slice_index bytes i) e
 
--- if a layout's places are silent in both layers alike, a place sends nothing with Fn just if it does without
+-- if a layout's places are silent in both layers alike, a place sends nothing with Fn exactly if it does without
 pub silent_by : (bytes : List ℕ) → IsSilentAlike bytes → (b : Bool) (p : ℕ) → p < 96
     → (image_code bytes b p == 0) ≡ (image_code bytes false p == 0)
 silent_by bytes alike true p l = alike p l
@@ -109,7 +109,7 @@ index_test : (b : Bool) (i p : ℕ) → i < 256 → p < 96 → ((place_of i == p
 index_test true = pair_tests 256 96 (λ i p. (place_of i == p) && alike (is_upper i) true) (λ i p. i == 97 + p) refl
 index_test false = pair_tests 256 96 (λ i p. (place_of i == p) && alike (is_upper i) false) (λ i p. i == 0 + p) refl
 
--- a key stops to repeat just if its place and layer are the index that repeats
+-- a key stops to repeat exactly if its place and layer are the index that repeats
 pub stops : (count i p : ℕ) (on_fn : Bool) → i < 256 → p < 96 → (b : Bool) → (i == upper on_fn + p) ≡ b → (n : Bool)
     → (count == 0) ≡ n
     → ended_in p on_fn (repeat_of count i) ≡ (if b then None else repeat_of count i)

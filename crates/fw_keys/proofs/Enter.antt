@@ -57,7 +57,7 @@ length_kept = by_byte (λ c. bit_or c 128 % 128) (λ c. c % 128) refl
 pub over_one : (c : ℕ) → c < 256 → nat_le 256 (c + 240) ≡ (bit 7 c || nat_lt 16 (c % 128 + 1))
 over_one = tests_by 256 (λ c. nat_le 256 (c + 240)) (λ c. bit 7 c || nat_lt 16 (c % 128 + 1)) refl
 
--- the count with F1 (hexadecimal) carries just if there was an overrun or there is no room for two bytes
+-- the count with F1 (hexadecimal) carries exactly if there was an overrun or there is no room for two bytes
 pub over_two : (c : ℕ) → c < 256 → nat_le 256 (c + 241) ≡ (bit 7 c || nat_lt 16 (c % 128 + 2))
 over_two = tests_by 256 (λ c. nat_le 256 (c + 241)) (λ c. bit 7 c || nat_lt 16 (c % 128 + 2)) refl
 

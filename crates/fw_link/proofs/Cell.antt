@@ -45,7 +45,7 @@ board_at_look d y w m board = after_cycles 2 16 (λ o. d.cycle w (y + o))
 pub one_less : (c n : ℕ) → c ≡ suc n → n < 255 → (c + 255) % 256 ≡ n
 one_less c n count few = omega (arith, count, few)
 
--- the count of cells, less one, isn't zero just if a cell is left
+-- the count of cells, less one, isn't zero exactly if a cell is left
 pub asks : (c n : ℕ) → (c + 255) % 256 ≡ n → (more : Bool) → not (n == 0) ≡ more → not ((c + 255) % 256 == 0) ≡ more
 asks c n less more left = ap (λ k. not (k == 0)) less ∙ left
 

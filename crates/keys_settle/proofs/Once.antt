@@ -295,7 +295,6 @@ module _ (layout : KeyLayout) (keys contacts : List Edge) (host : List HostEvent
       let t = typed W (tick_edges starts contacts) refl (λ n. refl) reading_of in
       record { seen = t.seen; later = t.later; like = t.like }
 
--- with a debounce and switches that settle late the keyboard does what one without does under clean keys, a little
--- later
+-- with a debounce a keyboard whose switches settle late types as one without under clean keys, a little later
 pub types_once : SwitchesTypeOnce
 types_once layout keys contacts host starts on cadence sw = once layout keys contacts host starts on cadence sw

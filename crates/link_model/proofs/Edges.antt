@@ -123,7 +123,7 @@ least_so p (suc n) up h =
     let g : p n ≡ false = up n (omega arith) h in
     ap (λ c. not c && none_before p n) g ∙ least_so p n (λ j l. up j (omega (arith, l))) g
 
--- if a property stays once it holds, none of the numbers up to n has it just if n hasn't
+-- if a property stays once it holds, none of the numbers up to n has it exactly if n hasn't
 pub least_or : (p : ℕ → Bool) (n : ℕ) → ((j : ℕ) → j < n → p (suc j) ≡ false → p j ≡ false) → none_before p (suc n) ≡ not (p n)
 least_or p n up =
     elim (p n) as (λ c. p n ≡ c → none_before p (suc n) ≡ not (p n)) [

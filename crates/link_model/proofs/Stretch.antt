@@ -56,7 +56,7 @@ no_more : (now : ℕ) (d : Desk UnderWay) (o : Option HostEvent) → o ≡ None 
 no_more now d None e = refl
 no_more now d (Some v) e = absurd cc
 
--- the count of events goes up by one just if the cycle did an event
+-- the count of events goes up by one exactly if the cycle did an event
 pub count_is : (events : List HostEvent) (now n : ℕ) (d : Desk UnderWay) (b : Bool) → b ≡ (cycled is_open now (slice_get events n) d).done
     → (if b && nat_lt n (length events) then n + 1 else n) ≡ (if (cycled is_open now (slice_get events n) d).done then n + 1 else n)
 count_is events now n d b h =

@@ -29,7 +29,7 @@ gone_queue (Some r) aa keys k e a = by r.resets
 gone_queue None true keys k e a = ap (λ c. if c then k.queue else drop_first k.queue) a
 gone_queue None false keys k e a = ap (λ c. if c then k.queue else drop_first k.queue) a
 
--- the byte that goes ends what repeats just if it is the reply to a reset
+-- the byte that goes ends what repeats exactly if it is the reply to a reset
 pub gone_repeats : (r : Option Reply) (keys : Keys) (k : Keyboard)
     → (without_offered r keys k).repeats ≡ (if is_reset_due r then None else k.repeats)
 gone_repeats (Some r) keys k = by r.resets
@@ -39,7 +39,7 @@ gone_repeats (Some r) keys k = by r.resets
     by false = refl
 gone_repeats None keys k = refl
 
--- the byte that goes starts the self-test anew, of 64 ticks, just if it is the reply to a reset
+-- the byte that goes starts the self-test anew, of 64 ticks, exactly if it is the reply to a reset
 pub gone_test : (r : Option Reply) (keys : Keys) (k : Keyboard)
     → (without_offered r keys k).test ≡ (if is_reset_due r then 64 else k.test)
 gone_test (Some r) keys k = by r.resets
@@ -58,7 +58,7 @@ aa_first true false q more = refl
 aa_first false true q more = refl
 aa_first false false q more = refl
 
--- AA becomes due just if the self-test ends and none was due before
+-- AA becomes due exactly if the self-test ends and none was due before
 pub aa_new : (last due : Bool) → ((if last then true else due) && not due) ≡ (last && not due)
 aa_new true true = refl
 aa_new true false = refl

@@ -121,6 +121,6 @@ both_true true true h = (refl, refl)
 both_true true false h = absurd (cc h)
 both_true false b h = absurd (cc h)
 
--- a run that watches the line says that it rose just if it did
+-- a run that watches the line says that it rose exactly if it did
 pub rose_of : (watched r : Bool) (was is : Irq) → r ≡ (watched && rose was is) → r ≡ true → (watched ≡ true) × (rose was is ≡ true)
 rose_of watched r was is log_kept risen = both_true watched (rose was is) (sym log_kept ∙ risen)

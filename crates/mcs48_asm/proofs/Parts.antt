@@ -6,13 +6,13 @@ use Rattle.mcs48_asm.specs.Faults.{arguments, is_above, is_too_large, is_outside
 use Rattle.mcs48_asm.specs.Statements.{Data}
 use Rattle.mcs48_asm.specs.Kept.{kept_part}
 
--- a DB line has too large a number just if a part's value is above 255
+-- a DB line has too large a number exactly if a part's value is above 255
 pub large-parts : (names : Meanings) (texts : List (List ℕ))
     → list_any (is_too_large names) (arguments (Data (map kept_part texts))) ≡ list_any (λ part. is_above names 255 (kept_part part)) texts
 large-parts names [] = refl
 large-parts names (text ∷ texts) = ap (λ b. is_above names 255 (kept_part text) || b) (large-parts names texts)
 
--- a DB line has an unknown name just if a part's value has no meaning
+-- a DB line has an unknown name exactly if a part's value has no meaning
 pub unknown-parts : (names : Meanings) (texts : List (List ℕ))
     → list_any (λ argument. is_none (meaning names argument.value)) (arguments (Data (map kept_part texts)))
     ≡ list_any (λ part. is_none (meaning names (kept_part part))) texts

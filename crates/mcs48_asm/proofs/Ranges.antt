@@ -7,14 +7,14 @@ use Rattle.std.specs.List.{list_any, range_with_len}
 use Rattle.std.proofs.lemmas.Bool.Decides.{nat_tests}
 use Rattle.mcs48_asm.specs.Places.{places}
 
--- some place from one on passes a test just if this one does or a later one
+-- some place from one on passes a test exactly if this one does or a later one
 pub any_range-step : (f : ℕ → Bool) (n place : ℕ) → place < n
     → list_any f (range_with_len place (n - place)) ≡ (f place || list_any f (range_with_len (place + 1) (n - (place + 1))))
 any_range-step f n place h =
     let e : n - place ≡ suc (n - (place + 1)) = omega arith in
     ap (λ k. list_any f (range_with_len place k)) e
 
--- if this place fails the test, some place passes just if a later one does
+-- if this place fails the test, some place passes exactly if a later one does
 pub any_range-false : (f : ℕ → Bool) (n place : ℕ) → place < n → f place ≡ false
     → list_any f (range_with_len place (n - place)) ≡ list_any f (range_with_len (place + 1) (n - (place + 1)))
 any_range-false f n place h t = any_range-step f n place h ∙ ap (λ b. b || list_any f (range_with_len (place + 1) (n - (place + 1)))) t

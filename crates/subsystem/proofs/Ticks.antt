@@ -33,7 +33,7 @@ pub each_with_if : (P : ℕ → ℕ → Type 0) (b : Bool) (starts : List ℕ) (
 each_with_if P true starts next all one = each_with P starts next all (one refl)
 each_with_if P false starts next all one = subst (AreEach P) (sym (append-nil starts)) all
 
--- the list of starts is one longer just if a start comes
+-- the list of starts is one longer exactly if a start comes
 pub longer_if : (b : Bool) (starts : List ℕ) (next : ℕ) → length (starts ++ (if b then next ∷ [] else [])) ≡ length starts + digit b
 longer_if true starts next = let e = one_longer starts next in omega (arith, e)
 longer_if false starts next = let e = ap length (append-nil starts) in omega (arith, e)
