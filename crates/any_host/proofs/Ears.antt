@@ -74,6 +74,7 @@ module _ (w : Wiring) (wires : AreWires w) where
   none_by b (inr down) go true s = never (sym s ∙ wires.clock.low b down)
   none_by b either go false s = ap (λ v. v && not (w.seen (suc b)).clk) s
 
+  -- if the keyboard doesn't let the clock fall and the host lets it go, the host sees no fall
   pub no_fall : (c : ℕ) → NoFall c → (w.host c).clk ≡ true → fell w c ≡ false
   no_fall zero h go = refl
   no_fall (suc b) (inl up) go = none_by b (inl up) go (w.seen b).clk refl
@@ -93,6 +94,7 @@ module _ (w : Wiring) (wires : AreWires w) where
       ∙ ap (λ d. moved m d (fell w c) (w.reads c) (w.wants c) (e c)) d
       ∙ ap (λ f. moved m dat f (w.reads c) (w.wants c) (e c)) falls
 
+  -- a host that pulls the clock drops what is under way, and has taken and given no byte more
   pub held : (c : ℕ) → (w.host c).clk ≡ false → e (suc c) ≡ record (e c) { mode = Takes [] }
   held c pulls = ap (λ b. heard_by b (w.host c).dat (fell w c) (w.reads c) (w.wants c) (e c)) pulls
 

@@ -68,6 +68,7 @@ module _ (byte : ℕ) where
       by false e = ap (λ v. (latch_of v).clk) (start_latch i (grind (arith, nat_tests, e)) l)
           ∙ clock_of_latch true false 255 let_go
 
+  -- before the first fall of a sent frame the keyboard lets the clock go
   pub sent_up : (o : ℕ) → o < 288 → (frame_lines sent o).clk ≡ true
   sent_up o l = by (nat_lt o 260) refl
     where
@@ -93,17 +94,20 @@ module _ (byte : ℕ) where
       ap (λ o. frame_lines sent o) p ∙ inside sent (28 + 32 * k + i) (omega (arith, few))
       ∙ ap latch_of (in_cell 255 byte k i l)
 
+  -- in each cell of a sent frame the keyboard holds the clock low for 16 cycles and then lets it go for 16
   pub sent_clock : (k i : ℕ) → i < 32 → 32 * k + i < 340 → (frame_lines sent (288 + 32 * k + i)).clk ≡ nat_le 16 i
   sent_clock k i l few =
       ap (λ l. l.clk) (sent_in k i l few)
       ∙ clock_of_latch (nat_le 16 i) (frame_bit byte (if nat_lt i 21 then k else suc k)) 255 let_go
 
+  -- in a cell of a sent frame the keyboard drives the cell's bit for 21 cycles, and then the next one
   pub sent_data : (k i : ℕ) → i < 32 → 32 * k + i < 340
       → (frame_lines sent (288 + 32 * k + i)).dat ≡ frame_bit byte (if nat_lt i 21 then k else suc k)
   sent_data k i l few =
       ap (λ l. l.dat) (sent_in k i l few)
       ∙ data_of_latch (nat_le 16 i) (frame_bit byte (if nat_lt i 21 then k else suc k)) 255 let_go
 
+  -- after a sent frame the keyboard lets the clock go
   pub sent_late : (o : ℕ) → 628 ≤ o → (frame_lines sent o).clk ≡ true
   sent_late o l = ap (λ l. l.clk) (late sent o l)
 
@@ -112,6 +116,7 @@ module _ (byte : ℕ) where
     abbrev cut : Frame
     cut = CutFrame byte look
 
+    -- up to two cycles after the look a frame that is cut is as one that is sent
     pub cut_as_sent : (o : ℕ) → o < 262 + look → frame_lines cut o ≡ frame_lines sent o
     cut_as_sent o l = by (nat_lt o 260) refl
       where
@@ -127,6 +132,7 @@ module _ (byte : ℕ) where
             ∙ ap latch_of (as_sent 255 byte look i (omega (arith, m, l)))
             ∙ sym (inside sent i (omega (arith, m, l, far))) ∙ sym (ap (λ o. frame_lines sent o) p)
 
+    -- from two cycles after the look on a frame that is cut lets the clock go
     pub cut_late : (o : ℕ) → 262 + look ≤ o → (frame_lines cut o).clk ≡ true
     cut_late o l = by (nat_lt o (266 + look)) refl
       where

@@ -130,6 +130,7 @@ module _ (frame : Frame) (missed : Bool) where
       not_second (driven frame (suc c)).clk (found missed (suc c))
       (ap (λ v. v || (missed && (suc c == 594))) b ∙ not_second missed (suc c == 594) other)
 
+  -- the wires of this host are wires: a look finds a pull in its second cycle at the latest
   pub wires : AreWires w
   wires = record {
     clock = record {
@@ -168,6 +169,7 @@ module _ (frame : Frame) (missed : Bool) where
   never_gives : {A : Type 0} → (c byte falls : ℕ) → (ear_to w c).mode ≡ Gives byte falls → A
   never_gives c byte falls is = let t = takes c in other_mode t.0 byte falls (sym t.1 ∙ is)
 
+  -- this host keeps all rules but the one for a byte's end
   pub rules : IsRuleful w
   rules = record {
     long = λ c low.

@@ -103,6 +103,7 @@ module _ (s : Debuggee) (left : ℕ) (old new : Course) (before : List Watch) (c
       } in
       subst (λ (n : ℕ). IsAdvanced s left old.joint.steps before n) (sym number) to
 
+  -- quiet steps and one more lead the session on
   pub strode : (r : Result (Unit {0}) Stuck) → IsStepOn s.story there r new → OnOk r (last.cycle < new.joint.cycle)
       → IsAdvanced s left old.joint.steps before new.joint.steps
   strode (Ok done) step later = goes_further step.0 step.1 later

@@ -100,6 +100,7 @@ module _ (s : Debuggee) (old : Course) (before : List Watch) (h : IsOnCourse s.s
     unmet_here = λ some. absurd (omega (arith, some));
   }
 
+  -- before the first quiet step nothing has passed
   pub not_yet : (m : Machine) → m ≡ old.joint → HasPassed s old before 0 m
   not_yet m e = subst (λ (n : Machine). HasPassed s old before 0 n) (sym e) none_passed
 
@@ -115,6 +116,7 @@ module _ (s : Debuggee) (old : Course) (before : List Watch) (h : IsOnCourse s.s
         let before_end : nat_le (s.story.stop + s.latest) on.world.cycle ≡ false = grind (arith, nat_tests, at, below, room) in
         ap (λ b. (b && nat_le (4096 + s.story.stop) on.world.cycle) || nat_le (s.story.stop + s.latest) on.world.cycle) off ∙ before_end
 
+    -- quiet steps lead the session on, and probes that rest needn't look at them
     pub passed : (k : ℕ) (m : Machine)
         → AreUneventful old.ahead.due TICK k old.joint m → m.cycle ≤ old.joint.cycle + most → HasPassed s old before k m
     passed zero m e below = not_yet m e

@@ -92,6 +92,7 @@ module _ (debounce : Bool) where
         | false ↦ record { room = omega (arith, old); long = f.long }
       ]
 
+  -- after all calls there is still room for the release of each key that is down
   pub after_fits : (calls : List Call) (q : Queue) → Fits q → Fits (after debounce calls q)
   after_fits [] q f = f
   after_fits (Push e ∷ cs) q f = after_fits cs (pushed e q) (pushed_fits e q f)

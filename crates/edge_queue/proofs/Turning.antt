@@ -126,6 +126,7 @@ module _ (debounce : Bool) where
             ] (s.turns p) (rest next (then_made made e) (first_sound made e es down ready (now + time_of debounce e.down) s) p)
       ]
 
+  -- the edges of a key that calls hand over are press, release, press and so on
   pub handed_turns : (calls : List Call) → ArePlaced calls → Turns calls
   handed_turns [] placed q made s p = tt
   handed_turns (Push e ∷ cs) placed q made s p =

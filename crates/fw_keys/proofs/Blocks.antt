@@ -180,6 +180,7 @@ module _ (d : Board) (code : Code) (has : HasRows code) (small : All IsByte code
     pub same : memory g ring ≡ memory cells ring
     pub facts : N a cells ring
 
+  -- a block that ends with some facts of memory ends with what follows from them
   pub recast : (x : ℕ) (m : Cpu) (board : d.State) (to max max' : ℕ) (M N : ℕ → (ℕ → ℕ) → List ℕ → Type 0)
       (s : Stage d.State) → max ≤ max' → ((a : ℕ) (g : ℕ → ℕ) (ring : List ℕ) → M a g ring → Again N a g ring)
       → Leads d code x s (Ends d x m board to max M) → Leads d code x s (Ends d x m board to max' N)
@@ -216,6 +217,7 @@ module _ (d : Board) (code : Code) (has : HasRows code) (small : All IsByte code
       → Leads d code x' (begin_at d pc t u m' board') (Ends d x' m' board' to more N) in
       subst (λ t. Goal t ring) (sym q.0) (subst (λ u. Goal f u) (sym q.1) (rest x' m' board')) same safe)
 
+  -- a block that leaves a known memory and A is followed by the next one
   pub seq_just_a : (x : ℕ) (m : Cpu) (board : d.State) (pc max to more v : ℕ) (f : ℕ → ℕ) (r : List ℕ) (N : ℕ → (ℕ → ℕ)
       → List ℕ → Type 0) (s : Stage d.State) → IsFine s.cpu
       → Leads d code x s (Ends d x m board pc max (JustA v f r))

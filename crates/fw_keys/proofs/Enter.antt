@@ -177,6 +177,7 @@ module _ (d : Board) (bytes : List ℕ) (hk : HasKernel bytes) (small : All IsBy
       (λ a. entered_one (f 26) f ring (bit_or z 112) h.size below)
       (is, (in_ring g ring z (f 67 + f 66) (f 26) (omega arith) j, (refl, refl, refl)))
 
+  -- a make enters the queue as in the model, in 17 cycles at most
   pub enters : Safe m ENTER f ring → f 66 % 128 ≤ 16
       → Leads d (kernel_in true bytes) x (begin_at d ENTER f ring m board)
       (Ends d x m board ENTERED 17 (λ a. Entered (f 26 ∷ []) f ring))

@@ -163,6 +163,7 @@ module _ (d : Board) (bytes : List ℕ) (hk : HasKernel bytes) (small : All IsBy
           ),
         )
 
+    -- the head of a tick reads the columns, finds what is offered and puts the lights, in 231 cycles
     pub head_law : Bytes f ring → IsFree m → Leads d (kernel_in true bytes) y started Headed
     head_law h = head_by (f 64 == 0) (f 65 == 0) (f 66 % 128 == 0) refl refl refl (h.cell 64 (omega arith))
         (h.cell 65 (omega arith)) (h.cell 66 (omega arith)) (h.cell 67 (omega arith)) (f 66 % 128) refl

@@ -146,6 +146,7 @@ module _ (old new : ℕ → ℕ) where
     all_new : (i : ℕ) → i < 96 → part 96 i ≡ down_at new i
     all_new i l = let e : nat_lt i 96 ≡ true = grind (arith, nat_tests, l) in rw e refl
 
+    -- the edges that the bytes of changes show turn what was held into what is
     pub held_turns : ((i : ℕ) → i < 12 → bit_xor (old i) (new i) ≡ ch i) → turned_all (tick_edges ch new) (held_by old)
         ≡ held_by new
     held_turns is = columns_turn 0 12 refl is ∙ flags_same (part 96) (down_at new) 96 all_new

@@ -239,6 +239,7 @@ module _ (keys : Keys) (on : Bool) where
       subst (λ t. Runs keys on (row_edges (8 * c) 0 8 ch dn) t s.keyboard (layers_by (column e c ch dn s).fn
       (column e c ch dn s).bytes) (column e c ch dn s).keyboard) own h
 
+  -- the columns one after another do to keyboard and layers what the list of their edges does
   pub columns_run : (c n : ℕ) (ch dn : ℕ → ℕ) → c + n ≡ 12 → (s : Decks)
       → Runs keys on (column_edges c n ch dn) (layers_by s.fn s.bytes) s.keyboard
       (layers_by (columns e c n ch dn s).fn (columns e c n ch dn s).bytes) (columns e c n ch dn s).keyboard

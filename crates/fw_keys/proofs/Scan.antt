@@ -98,6 +98,7 @@ module _ (d : Board) (bytes : List ℕ) (hk : HasKernel bytes) (alike : IsSilent
     pub others : (h 68 ≡ f 68) × (h 70 ≡ f 70) × (h 77 ≡ f 77)
     pub stack : (h 8 ≡ f 8) × (h 9 ≡ f 9)
 
+  -- the keys settle, what repeats is entered, and the edges are taken, as in steps 4 and 5 of the model
   pub scan_law : (ch hd pd : ℕ → ℕ) (x : ℕ) (m : Cpu) (board : d.State) (f : ℕ → ℕ) (ring : List ℕ) → f 66 % 128 ≤ 16
       → IsFnCell (f 78) → Safe m SCAN f ring
       → ((i : ℕ) → i < 12 → changes_by (debounces bytes) (f (96 + i)) (f (48 + i)) ≡ ch i)

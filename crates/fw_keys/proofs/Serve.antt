@@ -263,8 +263,10 @@ module _ (d : Board) (bytes : List ℕ) (hk : HasKernel bytes) (alike : IsSilent
     abbrev in_range : IsInRange b
     in_range = record { t = fine.t; pre = fine.pre }
 
+    -- a whole tick leads to the next one, and memory shows the model's keyboard a tick later
     pub tick : Tick d TICK bytes start (Next d x b (3 + last_off) (Goes meeting F))
     tick = serves d bytes hk x b in_range f ring m board (3 + last_off) (Goes meeting F) over
 
+    -- the tick has its way through the service to the next start
     pub tick_passes : Passes d bytes start
     tick_passes = passes d bytes hk x b in_range f ring m board (3 + last_off) (Goes meeting F) over

@@ -222,6 +222,7 @@ module _ (d : Board) (bytes : List ℕ) (hk : HasKernel bytes) (small : All IsBy
       })
       (again d bytes hk small low held x1 m1 board1 g1 ring safe1 most))
 
+  -- step 4 finds whether scanning is on, and does with the key that repeats what the model does
   pub step4_law : (b : Bool) (x : ℕ) (m : Cpu) (board : d.State) (f : ℕ → ℕ) (ring : List ℕ) → f 66 % 128 ≤ 16
       → Safe m SCAN f ring → is_scanning (kbd_of held f ring) ≡ b
       → Leads d (kernel_in true bytes) x (begin_at d SCAN f ring m board)

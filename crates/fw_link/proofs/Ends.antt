@@ -113,6 +113,7 @@ module _ (d : Board) (bytes : List ℕ) (has : HasKernel bytes) (y : ℕ) (m : C
       after_cycles 4 16 (λ o. d.cycle (bit_or (bit_and m.p2 254) 1) (y + o))
       (after_cycles 16 0 (λ o. d.cycle (bit_and m.p2 254) (y + o)) board)
 
+  -- the eleventh fall of a sent frame holds the clock low for 16 cycles, and then the frame is sent
   pub stops : IsFree m
       → Leads d (kernel_in true bytes) y (begin_at d S_STOP f ring m board)
       (At d (record m { p2 = bit_or (bit_and m.p2 254) 1 }) SENT (put f 24 0) ring 20 board_stopped)

@@ -124,6 +124,7 @@ module _ (bytes : List ℕ) (has : HasKernel bytes) (edges : List Edge) (events 
     abbrev released : IsReleased m.p2
     released = released_of start byte u h
 
+    -- on any board above the joint one the kernel sends a whole frame if the controller leaves the clock alone
     pub sent_over : ((o : ℕ) → o < 368 → lines (260 + start + o) ≡ latch_of (sent_latch m.p2 byte o))
         → ((look : ℕ) → IsLook look → is_let events lines u look ≡ true)
         → Comes d TICK bytes w (Goes is_sending SENT 368 (sent_latch m.p2 byte))
@@ -145,6 +146,7 @@ module _ (bytes : List ℕ) (has : HasKernel bytes) (edges : List Edge) (events 
           board,
         ))
 
+    -- on any board above the joint one the kernel leaves a frame at the first look that finds the clock low
     pub cut_over : (look : ℕ) → IsLook look
         → ((o : ℕ) → o < cut_after look → lines (260 + start + o) ≡ latch_of (cut_latch m.p2 byte look o))
         → ((earlier : ℕ) → IsLook earlier → earlier < look → is_let events lines u earlier ≡ true)
@@ -172,6 +174,7 @@ module _ (bytes : List ℕ) (has : HasKernel bytes) (edges : List Edge) (events 
           board,
         ))
 
+  -- on any board above the joint one the kernel reads the byte that the controller requests to send
   pub got_over : Awaits start u → byte < 256
       → ((o : ℕ) → o < 366 → lines (260 + start + o) ≡ latch_of (received_latch m.p2 o))
       → (at_again events lines u).side.port.link ≡ Request byte

@@ -68,6 +68,7 @@ module _ (edges : List Edge) (events : List HostEvent) (d : Board) (to : d.State
   abbrev got_board : ℕ → d.State
   got_board n = driven d (260 + start) (received_latch m.p2) n 0 s
 
+  -- after so many cycles of a received frame the PC's side is as the frame's lines leave it
   pub at_offset : (n : ℕ) → n ≤ 366 → to (got_board n) ≡ record { pc = pc_in n; shown = (to s).shown }
   at_offset n l =
       over_wires edges events d to over (260 + start) (received_latch m.p2) lines n s

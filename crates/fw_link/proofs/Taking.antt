@@ -140,6 +140,7 @@ module _ (d : Board) (bytes : List ℕ) (has : HasKernel bytes) (x : ℕ) (m : C
   abbrev pub bit_read : ℕ → Bool
   bit_read k = (d.pins m.p1 m.p2 (x + (28 + 32 * k + 18)) (board_in (28 + 32 * k + 18))).t1
 
+  -- the clock that rises in a cell of a received frame lets both wires go again
   pub risen_is : (w : ℕ) → w ≡ m.p2 → bit_or (bit_and w 254) 1 ≡ m.p2
   risen_is w is = ap (λ q. bit_or (bit_and q 254) 1) is ∙ rises true m.p2 released ∙ both_high m.p2 released
 
@@ -153,6 +154,7 @@ module _ (d : Board) (bytes : List ℕ) (has : HasKernel bytes) (x : ℕ) (m : C
   abbrev IsHigh : ℕ → ℕ → Type 0
   IsHigh n k = (i : ℕ) → i < n → received_latch m.p2 (28 + 32 * k + 16 + i) ≡ wired m.p2 true true
 
+  -- the board in a cell after the rise of its clock is that of the frame at this offset
   pub high_span : (n k y w : ℕ) (s : d.State) → IsHigh n k → k < 10 → y ≡ x + (28 + 32 * k) → w ≡ m.p2
       → s ≡ board_in (28 + 32 * k)
       → after_cycles n 16 (λ o. d.cycle (bit_or (bit_and w 254) 1) (y + o)) (after_cycles 16 0 (λ o. d.cycle (bit_and w 254) (y + o)) s)
@@ -163,6 +165,7 @@ module _ (d : Board) (bytes : List ℕ) (has : HasKernel bytes) (x : ℕ) (m : C
       (omega (arith, e))
       (λ i l. high i l ∙ both_high m.p2 released ∙ sym (risen_is w is)) (low_span k y w s few e is b)
 
+  -- the board at a cell's end is that of the frame at the next cell's begin
   pub cell_span : (k y w : ℕ) (s : d.State) → k < 9 → y ≡ x + (28 + 32 * k) → w ≡ m.p2 → s ≡ board_in (28 + 32 * k)
       → after_cycles 16 16 (λ o. d.cycle (bit_or (bit_and w 254) 1) (y + o))
       (after_cycles 16 0 (λ o. d.cycle (bit_and w 254) (y + o)) s)

@@ -146,6 +146,7 @@ module _ (lines : ℕ → Lines) (start v : ℕ) (released : IsReleased v) where
         ap (λ (z : Lines). z.clk) (sent_lines k i l few)
         ∙ clock_of_latch (nat_le 16 i) (frame_bit byte (if nat_lt i 21 then k else suc k)) v released
 
+    -- a sent frame is on the wires the eleven bits of its byte
     pub sent_is_frame : IsFrame lines (288 + start) (frame_bit byte)
     sent_is_frame =
         frame_by lines (288 + start) (frame_bit byte) (λ k i l few. sent_clock k i l (omega (arith, few)))
@@ -175,6 +176,7 @@ module _ (lines : ℕ → Lines) (start v : ℕ) (released : IsReleased v) where
             (λ c. (latch_of (if c then wired v true false else sent_cell v byte ((i - 28) / 32) ((i - 28) % 32))).clk) g
             ∙ clock_of_latch true false v released
 
+    -- if the clock stays up after a sent frame, the frame ends on the wires
     pub sent_ends : (rest : ℕ) → IsUp lines (628 + start) (609 + rest + start) → EndsFrame lines start rest
     sent_ends rest up =
         frame_ends lines start rest 20 (omega arith) (λ i l. sent_clock 10 i (omega (arith, l)) (omega (arith, l))) up

@@ -62,6 +62,7 @@ module _ (lines : ℕ → Lines) (start v : ℕ) (released : IsReleased v) where
         ap (λ (z : Lines). z.clk) (got_lines k i l few) ∙ clock_of_latch (nat_le 16 i)
         (if nat_lt k 10 then nat_lt i 20 || nat_lt k 9 else nat_le 16 i) v released
 
+    -- a received frame is on the wires eleven falls, with data pulled by the keyboard in the last alone
     pub received_is_frame : IsFrame lines (288 + start) received_bit
     received_is_frame =
         frame_by lines (288 + start) received_bit (λ k i l few. got_clock k i l (omega (arith, few)))
@@ -70,6 +71,7 @@ module _ (lines : ℕ → Lines) (start v : ℕ) (released : IsReleased v) where
         ap (λ o. (lines o).dat) z ∙ ap (λ (z : Lines). z.dat) (got_lines k 0 (omega arith) (omega (arith, l)))
         ∙ data_of_latch false (if nat_lt k 10 then true else false) v released ∙ same_end (nat_lt k 10))
 
+    -- before the first fall of a received frame the clock is up
     pub received_before : IsUp lines (260 + start) (288 + start)
     received_before o a b =
         let i = o - (260 + start) in
@@ -78,6 +80,7 @@ module _ (lines : ℕ → Lines) (start v : ℕ) (released : IsReleased v) where
         ap (λ q. (lines q).clk) p ∙ ap (λ (z : Lines). z.clk) (drives (0 + i) (omega (arith, l)))
         ∙ ap (λ q. (latch_of q).clk) (before_cells v i l) ∙ released.clock
 
+    -- if the clock stays up after a received frame, the frame ends on the wires
     pub received_ends : (rest : ℕ) → IsUp lines (626 + start) (609 + rest + start) → EndsFrame lines start rest
     received_ends rest up =
         frame_ends lines start rest 18 (omega arith) (λ i l. got_clock 10 i (omega (arith, l)) (omega (arith, l))) up

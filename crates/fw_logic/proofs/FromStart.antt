@@ -74,6 +74,7 @@ module _ (d : Board) (bytes : List ℕ) (has : HasKernel bytes) (w : World d.Sta
         others = λ i out. r.others i out ∙ h.others i (counting_out i out);
       }
 
+  -- from a tick start the columns are read at their offsets
   pub reads : Tick d TICK bytes w (ReadsTick d w)
   reads =
       let late : w.cpu.pre ≤ 3 = s.late in
@@ -182,6 +183,7 @@ module _ (d : Board) (bytes : List ℕ) (has : HasKernel bytes) (w : World d.Sta
               ∙ ap (λ j. after_cycles j e.cycle (d.cycle e.cpu.p2) e.board) waited;
         }
 
+    -- from the end of a tick's work the next tick start comes
     pub next : Comes d TICK bytes e (IsNext d w e)
     next =
         let early : 2 ≤ w.cpu.pre = s.early in

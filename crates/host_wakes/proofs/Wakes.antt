@@ -78,6 +78,7 @@ module _ {F : Type 0} where
         | false ↦ λ k. refl
       ] l
 
+  -- before the cycle in which the PC wakes nothing happens there
   pub sleeps : (breaks : F → Bool) (next : Option HostEvent) (d : Desk F) (end from to : ℕ)
       → to ≤ wakes breaks next d end → SleepsTo breaks next d from to
   sleeps breaks next d end from to low y l u =

@@ -97,6 +97,7 @@ module _ (edges : List Edge) (order : AreInOrder edges) (made cycle : ℕ) (due 
   rest : List Edge
   rest = drop made edges
 
+  -- the edges that are made by a cycle are those made before and those of the next that are due
   pub made_now : filter (is_made cycle) edges ≡ take made edges ++ made_first cycle due
   made_now =
       first_made cycle edges order
@@ -107,6 +108,7 @@ module _ (edges : List Edge) (order : AreInOrder edges) (made cycle : ℕ) (due 
       (before_unmade cycle (take (length due) (drop made edges)) (drop (length due) (drop made edges)) all)
       ∙ ap (λ es. take made edges ++ made_first cycle es) (sym next)
 
+  -- they are as many of the first ones
   pub taken_now : take (made + length (made_first cycle due)) edges ≡ take made edges ++ made_first cycle due
   taken_now =
       let p : made_first cycle due ≡ take (length (made_first cycle due)) (drop made edges) =
@@ -114,6 +116,7 @@ module _ (edges : List Edge) (order : AreInOrder edges) (made cycle : ℕ) (due 
       ∙ ap (λ es. take (length (made_first cycle es)) (drop made edges)) (sym next) in
       take-add made (length (made_first cycle due)) edges ∙ ap (λ es. take made edges ++ es) (sym p)
 
+  -- they are made at each later cycle too
   pub reached_now : (later : ℕ)
       → cycle ≤ later → made_first later (take made edges ++ made_first cycle due) ≡ take made edges ++ made_first cycle due
   reached_now later l =

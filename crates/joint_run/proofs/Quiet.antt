@@ -151,6 +151,7 @@ module _ (events : List HostEvent) (p2 : ℕ) where
       cycle_is events p2 now o 0 []
       ∙ ap (λ (c : Passed). beside c.outside (if c.done then 0 + 1 else 0) ([] ++ c.items)) (quiet_cycle now p2 next o q)
 
+  -- in a quiet cycle nothing but the clock's level is noted
   pub quiet_one : (now : ℕ) (o : Outside) → IsQuiet now p2 next o → passed 1 now p2 events o ≡ beside (noted p2 o) 0 []
   quiet_one now o q = quiet_tick now o q
 

@@ -70,6 +70,7 @@ module _ (events due : List HostEvent) (p2 : ℕ) (done : ℕ) (log : List Stamp
         ∙ same_cycle (now + 1) c.outside k said (nth_same c.done)
         ∙ ap (λ v. afterwards done log (joint_cycle due p2 (now + 1) v)) (sym t)
 
+    -- the cycles of a step by the history are those by the events that were handed in
     pub same_cycles : (cycles : ℕ) → 0 < cycles
         → cycles < 3 → after_cycles cycles now (joint_cycle events p2) (beside o done log) ≡ afterwards done log (passed cycles now p2 due o)
     same_cycles zero some few = absurd (omega (arith, some))

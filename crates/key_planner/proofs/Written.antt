@@ -43,6 +43,7 @@ module _ (layout : KeyLayout) (text : List ℕ) (number : ℕ) (plan : List ℕ)
       onward stroke (Some strokes) =
           ap Some (sym (append_assoc plan (stroke_lines (stroke_start number) stroke) (lines_from (suc number) strokes)))
 
+  -- after the next byte the plan has the lines of its stroke too
   pub so_far-next : (stroke : Stroke) → number < length text → stroke_of layout (character (get_or text number 0)) ≡ Some stroke
       → IsSoFar layout text (number + 1) (plan ++ stroke_lines (stroke_start number) stroke)
   so_far-next stroke within is =

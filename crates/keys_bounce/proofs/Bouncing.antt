@@ -122,6 +122,7 @@ module _ (edges : List Edge) (few : (from : ℕ) → length (moving edges from) 
       let four : length (moving edges 0) ≤ 4 = few 0 in
       omega (arith, most, four)
 
+  -- each tick shows few changes
   pub shows_few : (n : ℕ) → ShowsFew edges n
   shows_few zero = λ now is. let soon : now ≤ 2048 * 0 + 1 = is.most in first now (omega (arith, soon))
   shows_few (suc n) = λ before now was is.

@@ -67,6 +67,7 @@ module _ (pa pb : Edge → Bool) (sub : (e : Edge) → pb e ≡ false → pa e �
   tail_dwells e [] d = tt
   tail_dwells e (f ∷ fs) d = d.1
 
+  -- the edge of a place in the window, of which there is one at most, is the change that the column shows
   pub one : (p : ℕ) (before : Bool) (es : List Edge) → AreAt p es → Alternates before es → Dwells es
       → map change_of (filter win es) ≡ change_at p (last_of before (filter pa es)) (last_of before (filter pb es))
   one p before [] at alt d = stays_so p before

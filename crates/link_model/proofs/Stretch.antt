@@ -38,6 +38,7 @@ module _ (events : List HostEvent) (from : ℕ) (s : Side UnderWay) where
   unfolding byte_cycle
   cycle_is now m = refl
 
+  -- one cycle more leads on as quiet cycles do
   pub run_once : (now to : ℕ) (m m' : Side UnderWay) → from ≤ now → to ≡ now + 1 → m ≡ quietly events (now - from) from s
       → m' ≡ goes_on is_open events now m → m' ≡ quietly events (to - from) from s
   run_once now to m m' l t r e =

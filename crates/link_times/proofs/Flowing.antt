@@ -75,6 +75,7 @@ module _ (layout : KeyLayout) (history : KeyHistory) (starts : ℕ → ℕ) wher
       ∙ ap (λ v. comes_first v k ++ (left v k ++ more)) m
       ∙ ap (λ c. (if c then queued (clear k.queue) else drop 1 (waiting k)) ++ more) r
 
+  -- if each tick sends what is offered, the byte that waits as number i goes i ticks later
   pub one_byte : (i n byte : ℕ) → ((j : ℕ) → n ≤ j → j ≤ i + n → Sends layout history starts j)
       → (i ≡ 0) ⊎ (is_reset_due (keyboard_at layout history starts n).reply ≡ false)
       → slice_get (waiting (keyboard_at layout history starts n)) i ≡ Some byte

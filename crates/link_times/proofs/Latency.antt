@@ -177,6 +177,7 @@ module _ (layout : KeyLayout) (history : KeyHistory) (starts : ℕ → ℕ) (n :
       ∙ ap (λ v. first ++ v) (sym (append_assoc waits all more))
       ∙ sym (append_assoc first (waits ++ all) more)
 
+  -- the code of an edge waits after what was there before
   pub comes_after : IsListedAt (length ahead) code (waiting (keyboard_at layout history starts (suc n)))
   comes_after = record { before = ahead; afterwards = rest; is = in_its_place; number = refl }
 
@@ -272,6 +273,7 @@ module _ (layout : KeyLayout) (history : KeyHistory) (starts : ℕ → ℕ) (las
           let lo : 2048 * m ≤ starts m = (cadence m (omega (arith, u, now))).least in
           omega (arith, afterwards, lo, hi, now)
 
+  -- with a host that is quiet from some tick on a key's code is read within the bound
   pub in_time : (n : ℕ) → first ≤ n → n < last → Strikes layout history starts n edge code
       → ComesInTime layout history starts last n edge code
   in_time n f l struck =

@@ -51,6 +51,7 @@ module _ (n before : ℕ) (edge : Edge) (at : edge.stamp ≡ 2048 * n + 17 + 16 
       let c : p (suc n) ≡ true = grind (arith, nat_tests, b) in
       ap (λ v. v && none_before p (suc n)) c ∙ none_to (suc n) (omega arith)
 
+  -- an edge just after its column's read is read just at the bound, if one tick starts five cycles late
   pub met : IsMet n before edge
   met =
       let s : late last last ≡ 2048 * last + 5 = itself last in

@@ -212,6 +212,7 @@ module _ (layout : KeyLayout) (history : KeyHistory) (d : ℕ) (quiet : AreQuiet
         ap (λ p. interrupts now p.filled (view at_read.masked p)) read_same.port
         ∙ ap (λ v. interrupts now x.port.filled (view v x.port)) read_same.masked ∙ late
 
+    -- 64 cycles after a byte has arrived INT 09h has read what was put out for it, and the log says so
     pub reads_in : (all more now : ℕ) → 64 + more ≡ all → now ≡ 672 + start
         → Contains (from_meeting host start all (Sent byte) meet).log (record { cycle = now; item = Port code })
     reads_in all more now z y =
@@ -284,6 +285,7 @@ module _ (layout : KeyLayout) (history : KeyHistory) (d : ℕ) (quiet : AreQuiet
         (record { tick = k; item = Port code })) t
         (contains_map f (at_tick layout history starts last).side.log s c)
 
+    -- in the tick in which a byte arrives INT 09h reads what is put out for it
     pub read_in : (n byte : ℕ) → first ≤ n → n < last → meeting_at layout history starts n ≡ Sent byte
         → IsReadIn layout history starts last n byte
     read_in n byte f l m = record {

@@ -86,6 +86,7 @@ module _ (hs more : List HostEvent) (last : ℕ) (ahead : All (λ e. last ≤ e.
       ap (λ v. after_cycles n (now + 1) (joint_cycle (hs ++ more) p2) v) (cycle_alike p2 now s (omega (arith, l)))
       ∙ cycles_alike p2 n (now + 1) (joint_cycle hs p2 now s) (omega (arith, l))
 
+  -- edges and events that aren't due yet change nothing of a step
   pub step_alike : (es es2 : List Edge) (v w : World Beside) (o : Option Stepped)
       → w.cycle ≤ last → after_step (joint_board es hs) v o ≡ Some w
       → after_step (joint_board (es ++ es2) (hs ++ more)) v o ≡ Some w

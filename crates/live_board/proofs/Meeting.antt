@@ -80,6 +80,7 @@ module _ (stops : Stops) (p : Past) (k new : Keyboard) (s : HasPast (gone_on p k
         counter = counter_met stops.counter (d i).pc;
       }
 
+  -- whether a step meets a stop is seen from the machines before it and after it
   pub met_here : met_at stops p k.joint.steps ≡ met_by stops (irq_of k.joint.outside.desk.port) (lines_of k.joint) new
   met_here =
       ap (λ n. met_between stops (state_at (story_of p) k.joint.steps) (state_at (story_of p) n)) (sym steps)
@@ -188,6 +189,7 @@ module _ (stops : Stops) (k new : Keyboard) (most : ℕ) (g : HasGone k.due 2048
     (p : Past) (old : Keyboard) (cycles : ℕ) (so : GoesOnSo p old cycles false k)
     (room : k.joint.cycle + most < old.joint.cycle + cycles)
     (left : new.due.edges.items ≡ drop new.seen.edges k.due.edges.items) (same : new.due.host ≡ k.due.host) where
+  -- so it is of the step after quiet ones
   pub met_last : met_at stops p g.last.steps ≡ met_by stops (irq_of k.joint.outside.desk.port) (lines_of k.joint) new
   met_last =
       let last : Keyboard = record k { joint = g.last } in
@@ -205,6 +207,7 @@ module _ (k new : Keyboard) (most : ℕ) (stuck : Stuck) (g : HasGone k.due 2048
   stuck_there : new.joint ≡ g.last
   stuck_there = stuck_same k.due g.last new.joint stuck (due_step k.due g.last) g.step
 
+  -- quiet steps before the processor is stuck meet no stop
   pub stuck_unmet : (stops : Stops) (p : Past) (old : Keyboard) (cycles : ℕ) → GoesOnSo p old cycles false k
       → AreUnmet stops p old.joint.steps k.joint.steps → (most ≡ 0) ⊎ (stops.counter ≡ None)
       → k.joint.cycle + most < old.joint.cycle + cycles → AreUnmet stops p old.joint.steps new.joint.steps
@@ -212,6 +215,7 @@ module _ (k new : Keyboard) (most : ℕ) (stuck : Stuck) (g : HasGone k.due 2048
       subst (λ (m : Machine). AreUnmet stops p old.joint.steps m.steps) (sym stuck_there)
       (last_unmet stops p old cycles k most g.count g.last so unmet alone g.quiet g.within room)
 
+  -- a run that is stuck has made no more steps than it has cycles
   pub stuck_few : new.joint.steps ≤ k.joint.steps + most
   stuck_few =
       let c = counted_quietly k.due 2048 g.count k.joint g.last g.quiet in

@@ -60,6 +60,7 @@ rise_is p k new s t steps =
 module _ (p : Past) (old : Keyboard) (cycles : ℕ) (watched : Bool) (k new : Keyboard)
     (so : GoesOnSo p old cycles watched k) (t : HasPast (gone_on p new.joint.steps) new)
     (steps : new.joint.steps ≡ suc k.joint.steps) (room : k.joint.cycle < old.joint.cycle + cycles) where
+  -- with a step more all states of the run are before its last cycle
   pub before_on : AreBefore p old.joint.steps new.joint.steps (old.joint.cycle + cycles)
   before_on j w from to h =
       let to_last : j < suc k.joint.steps = omega (arith, to, steps) in
@@ -73,6 +74,7 @@ module _ (p : Past) (old : Keyboard) (cycles : ℕ) (watched : Bool) (k new : Ke
             omega (arith, room, at, c)
       ]
 
+  -- if the line didn't rise in the step, it hasn't risen in the run
   pub calm_on : (watched ≡ true → rose (irq_of k.joint.outside.desk.port) (irq_of new.joint.outside.desk.port) ≡ false)
       → watched ≡ true → IsCalm p old.joint.steps new.joint.steps
   calm_on flat is j from to =
@@ -82,6 +84,7 @@ module _ (p : Past) (old : Keyboard) (cycles : ℕ) (watched : Bool) (k new : Ke
         | inr e ↦ ap (rises p) e ∙ rise_is p k new so.has_past t steps ∙ flat is
       ]
 
+  -- if the line didn't rise in the step, the run goes on
   pub goes_more : (watched ≡ true → rose (irq_of k.joint.outside.desk.port) (irq_of new.joint.outside.desk.port) ≡ false)
       → GoesOnSo p old cycles watched new
   goes_more flat = record {
@@ -91,6 +94,7 @@ module _ (p : Past) (old : Keyboard) (cycles : ℕ) (watched : Bool) (k new : Ke
     calm = calm_on flat;
   }
 
+  -- a rise that the machines show is a rise in the run of the past
   pub rose_here : rose (irq_of k.joint.outside.desk.port) (irq_of new.joint.outside.desk.port) ≡ true
       → rises p k.joint.steps ≡ true
   rose_here is = rise_is p k new so.has_past t steps ∙ is

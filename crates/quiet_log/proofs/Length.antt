@@ -138,6 +138,7 @@ module _ (events : List HostEvent) where
       let s = c.said in
       quietly_within rest (609 + start) (4 + k) _ (record { said = omega (arith, s); done = c.done })
 
+  -- after n ticks the log has at most four items for each of them and four for each event that is done
   pub run_within : {S : Type 0} (kb : KeyboardMachine S) (edges : List Edge) (starts : ℕ → ℕ) (n : ℕ)
       → IsWithin events (4 * n) (whole_at kb edges events starts n).side
   run_within kb edges starts zero =

@@ -335,6 +335,7 @@ module _ (stuck : NeverStuck) (logs : LogsAgree) (use_any : AnyUseIsLawful) (fil
       core_is : k.joint.outside.desk.port.core ≡ e.world.board.pc.side.port.core
       core_is = ap (λ (o : Outside). o.desk.port.core) e.in_run.outside
 
+      -- a run of a second from an opened keyboard ends at the rise of the line, with AA put out
       pub put_out : (end ≡ Rose) × HasPutOut layout k
       unfolding is_masked
       put_out = (
@@ -368,6 +369,7 @@ module _ (stuck : NeverStuck) (logs : LogsAgree) (use_any : AnyUseIsLawful) (fil
         },
       )
 
+  -- so it is of each keyboard that is ready
   pub ready_by : (k : Keyboard) (r : IsReady bytes k) → (r.end ≡ Rose) × HasPutOut layout k
   ready_by k r =
       let o = r.is_opened in

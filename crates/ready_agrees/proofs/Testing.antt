@@ -163,6 +163,7 @@ module _ (stamp : ℕ) where
       inr (ap (λ v. goes_on is_open events now (with_event now e v)) h
       ∙ ap (goes_on is_open events now) (becomes true 1) ∙ goes_masked to now)
 
+  -- quiet cycles leave the PC's side as at power-on, but for the mask
   pub quiet_still : (o : Option Bool) (n now : ℕ) (s : Side UnderWay) → IsStill o s → IsStill o (quietly events n now s)
   quiet_still o zero now s h = h
   quiet_still o (suc n) now s h =
@@ -210,6 +211,7 @@ module _ (stamp : ℕ) where
     begins_idle : (m : ℕ) → (m == 0) ≡ false → meeting_by (m == 0) None look.port.link meet.port.link ≡ Idle
     begins_idle m some = ap (λ b. meeting_by b None look.port.link meet.port.link) some
 
+    -- so does a tick of the self-test
     pub idle_side : (m : ℕ) → (m == 0) ≡ false
         → IsStill None (whole_tick (keyboard layout) events [] start rest (at false m)).side
     idle_side m some =

@@ -102,6 +102,7 @@ module _ (s : Story) (k : ℕ) (c : Course) (b : IsAtReport TickStart false s k 
   same : starts_among s c.joint.steps ≡ starts
   same = ap (starts_among s) b.steps ∙ b.quiet.starts
 
+  -- what is reported of a step is known from the tick starts that were noted
   pub one_more_by : IsOneMore s k c b.last b.run_so_far.on.world starts
   one_more_by =
       let silent = b.quiet.later in

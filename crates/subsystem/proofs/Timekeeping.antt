@@ -82,6 +82,7 @@ module _ (s : Story) (t : KeepsTimeFrom (joint_start_of s.held) s.bytes s.edges 
         let reaches = h.last.reaches in
         omega (arith, last, early, reaches)
 
+    -- the tick starts of a run keep the cadence
     pub keeps_cadence : KeepsCadenceTo (listed run.starts) (length run.starts - 1)
     keeps_cadence n l = t.near n (listed run.starts n) (starts_at n l)
 

@@ -36,6 +36,7 @@ module _ (lines : PortLinesAreArrivals) (layout : KeyLayout) (keys contacts : Li
   abbrev history : KeyHistory
   history = clean_history c.seen host
 
+  -- what INT 09h has read is what was put out for the bytes that arrived in the model under clean keys
   pub reads : (n stamp : ℕ) (s : IsStart (joint_board contacts host) TICK (image_of layout) from n stamp)
       → bytes_read (log_of s.state.board) ≡ put_out_for false (all_arrived (undebounced layout) history c.starts 0 n)
   reads n stamp s =

@@ -49,6 +49,7 @@ module _ (layout : KeyLayout) (keys contacts : List Edge) (host : List HostEvent
   typed : TypesAs layout keys host starts V
   typed = types_as layout keys contacts host starts on cadence sw V es refl (λ n. refl) reading
 
+  -- a run under contacts that settle late is the model's under clean keys
   pub clean : RunsClean layout keys contacts host from
   clean = record {
     goes_on = goes.goes_on;

@@ -62,6 +62,7 @@ pressed_at rate place = Some (record { place = place; count = delay rate; on_fn 
 
 module _ (keys : Keys) (rate last : ℕ) (bytes : List ℕ) (started : Bool) (rep : Option Repeat) (held : List Bool)
     (place code : ℕ) (at : keys.code false place ≡ code) (fn : keys.is_fn place ≡ false) where
+  -- a press enters the key's code and begins to repeat, if there is room
   pub presses : nat_lt 16 (length bytes + length (code ∷ [])) ≡ false
       → edges_if true keys (edge place true ∷ []) (typing rate last bytes started rep held)
       ≡ typing rate last (bytes ++ code ∷ []) started (pressed_at rate place) (turned place true held)
@@ -79,6 +80,7 @@ module _ (keys : Keys) (rate last : ℕ) (bytes : List ℕ) (started : Bool) (re
         queue = if b then record q { overrun = true } else record q { bytes = bytes ++ code ∷ [] };
       }) room
 
+  -- the release of a key that only makes enters nothing
   pub ends_silently : keys.make_only place ≡ true
       → edges_if true keys (edge place false ∷ []) (typing rate last bytes started rep held)
       ≡ typing rate last bytes started (ended_at place rep) (turned place false held)
@@ -93,6 +95,7 @@ module _ (keys : Keys) (rate last : ℕ) (bytes : List ℕ) (started : Bool) (re
         queue = if b then q else enter (release (keys.code false place)) q;
       }) only
 
+  -- the release of a key enters F0 and its code, if there is room
   pub ends : keys.make_only place ≡ false → nat_lt 16 (length bytes + length (0xf0 ∷ code ∷ [])) ≡ false
       → edges_if true keys (edge place false ∷ []) (typing rate last bytes started rep held)
       ≡ typing rate last (bytes ++ 0xf0 ∷ code ∷ []) started (ended_at place rep) (turned place false held)

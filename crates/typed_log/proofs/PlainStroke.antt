@@ -206,6 +206,7 @@ module _ (layout : KeyLayout) (h : KeyHistory) (ss : List Stroke) (edges : h.edg
       (no_edges layout [] None all_up) (omega arith) (refl, tt) (words ++ Some w ∷ [])
       (append-nil (words ++ Some w ∷ [])))
 
+  -- without a debounce a plain stroke leads from rest to rest, and its word is taken
   pub plain_stroke : Rest layout h ss edges host fit m words
       → Rest layout h ss edges host fit (suc m) (words ++ Some w ∷ [])
   plain_stroke r =

@@ -211,6 +211,7 @@ module _ (layout : KeyLayout) (ss : List Stroke) (fit : AllFit layout.entries ss
     number_in_range = omega (arith, l, few_edges 0 ss, few_takes 0 ss);
   }
 
+  -- the history of strokes whose keys the layout has is accepted and quiet
   pub playable : IsPlayable layout (planned ss)
   unfolding planned
   playable = record {

@@ -33,6 +33,7 @@ module _ (f g : ℕ → Bool) where
       ap (λ v. v ++ change_at k (f k) (g k)) (none_to k (λ p l. h p (omega (arith, l))))
       ∙ change_none k (f k) (g k) (h k (omega arith))
 
+  -- if all keys are as they were, nothing is shown
   pub shown_none : ((p : ℕ) → p < 96 → f p ≡ g p) → shown f g ≡ []
   shown_none h = none_to 96 h
 
@@ -55,6 +56,7 @@ module _ (f g : ℕ → Bool) where
             ∙ ap (λ v. (q, d) ∷ v) (change_none k (f k) (g k) (h k (omega arith) apart))
       ] refl
 
+  -- if one key has changed, its change alone is shown
   pub shown_one : (q : ℕ) (d : Bool) → q < 96 → f q ≡ not d → g q ≡ d → ((p : ℕ) → p < 96 → p ≢ q → f p ≡ g p)
       → shown f g ≡ (q, d) ∷ []
   shown_one q d l was is h = one_to q d was is 96 l h

@@ -98,6 +98,7 @@ module _ (s : Story) (k : ℕ) (level : lines_at s k ≡ Some (wires_at (heard_t
       subst IsStill (sym e)
       (one_still (m + k) before (state_at s (suc (m + k))) (levels (suc (m + k)) (omega arith) (omega arith)))
 
+  -- as long as the wires keep their levels, the dump's text stays, and what is heard next is the same
   pub still_to : (n : ℕ) → k ≤ n → ((j : ℕ) → k ≤ j → j ≤ n → lines_at s j ≡ lines_at s k) → IsStill n
   still_to n l levels =
       let m = n - k in

@@ -54,6 +54,7 @@ module _ {F : Type 0} (opens : F → Bool) where
   after_free now stop awaits (Request byte) h = refl
   after_free now stop awaits (Busy x) h = h
 
+  -- if no byte is under way, none is after a cycle in which nothing comes over the link
   pub stays_free : (events : List HostEvent) (now : ℕ) (s : Side F) → is_busy s.port.link ≡ false
       → is_busy (goes_on opens events now s).port.link ≡ false
   unfolding goes_on

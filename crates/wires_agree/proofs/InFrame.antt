@@ -50,6 +50,7 @@ module _ (events : List HostEvent) (latch : ℕ → Lines) (now : ℕ) (bits : �
       let z : j ≡ k = grind (arith, nat_tests, e, f) in
       subst (λ i. Agrees i n) z (off.in_cell n short)
 
+  -- up to the cell at whose look the controller pulls the clock, byte time is what the wires are
   pub in_sent : (k n : ℕ) → k < 10 → n ≤ 31 → ((i : ℕ) → i < k → lets_look events latch now b i ≡ true) → Agrees k n
   in_sent k n below short lets =
       elim (holds_so events latch now bits is b q Free w true at (sent_way bits b.side.port) k below) [

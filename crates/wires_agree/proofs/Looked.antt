@@ -51,6 +51,7 @@ module _ (events : List HostEvent) (latch : ℕ → Lines) (start rest : ℕ) (a
       ∙ ap (λ j. board_cycles events latch rest j at609) q
 
   module _ (up : IsUp latch (256 + start) (288 + start)) (idle : is_busy at256.side.port.link ≡ false) where
+    -- from the look up to the meeting the keyboard lets the clock go
     pub up288 : (o : ℕ) → 256 + start ≤ o → o < 256 + start + 32 → (latch o).clk ≡ true
     up288 o l u = up o (omega (arith, l)) (omega (arith, u))
 

@@ -94,6 +94,7 @@ module _ (events : List HostEvent) (latch : ℕ → Lines) where
     clock_is = last_clock 31 now b up (ap (λ l. (drive l).clk) (free_between 31 1 32 now b refl (omega arith) up here there));
   }
 
+  -- a byte that is requested at the look is requested still at the meeting, with the clock up
   pub request_at : (now : ℕ) (b : Pc) (byte : ℕ) → ((o : ℕ) → now ≤ o → o < now + 32 → (latch o).clk ≡ true)
       → b.side.port.link ≡ Request byte
       → IsAt (board_cycles events latch 32 now b) (Request byte) true

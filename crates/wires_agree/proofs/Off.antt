@@ -136,6 +136,7 @@ module _ (events : List HostEvent) (latch line : ℕ → Lines) (start j n : ℕ
       since_look (λ k u. off.before k (omega (arith, u, l))) (off.before j l)
   here i off false false e f = let z : i ≡ j = grind (arith, nat_tests, e, f) in by_look (subst Off z off)
 
+  -- by the look of cell j the byte was broken off, and byte time is what the wires are
   pub is_off : IsOff
   is_off =
       elim (holds_so events line now bits frame c q Free w true at (sent_way bits c.side.port) j below) [

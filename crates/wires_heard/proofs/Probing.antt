@@ -81,6 +81,7 @@ module _ (s : Story) where
       ap (λ ear. ear_from s line_kind (k + 1 + 1) more ear) (next_ear k)
       ∙ ap (λ j. ear_from s line_kind (j + 1) more (heard_to s (suc k))) z ∙ ear_so more (suc k) ∙ ap (heard_to s) y
 
+  -- if all is heard, a probe on the wires counts just the bytes that pass
   pub counts : HearsAll s → (a b k n : ℕ) → CountsPassing s a b k n
   counts all a b k n = record {
     steps = met_so all (record { a = a; b = b }) (n - k) k;

@@ -203,12 +203,14 @@ module _ (s : Story) (time : KeepsTimeFrom (joint_start_of s.held) s.bytes s.edg
     holds_so zero = first
     holds_so (suc n) = next n (holds_so n)
 
+    -- in each step what is heard is what passes
     pub each : (k : ℕ) → transfer_at s k ≡ passed_at s k
     each k =
         let t = holds_so (suc k) in
         let many : suc k ≤ t.steps = t.many in
         t.law k (omega (arith, many))
 
+    -- through each number of steps what is heard is what passes
     pub all : (k : ℕ) → transfers_to s k ≡ passed_to s k
     all zero = refl
     all (suc k) = ap (λ ts. ts ++ transfer_at s k) (all k) ∙ ap (λ ts. passed_to s k ++ ts) (each k)
