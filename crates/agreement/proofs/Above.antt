@@ -18,6 +18,7 @@ module _ (edges : List Edge) (events : List HostEvent) (d : Board) (to : d.State
   abbrev joint : Board
   joint = joint_board edges events
 
+  -- what a board above the joint one shows of the columns is a byte
   pub low_over : (p1 p2 c : ℕ) (s : d.State) → (d.pins p1 p2 c s).bus < 256
   low_over p1 p2 c s =
       subst (λ (p : Pins). p.bus < 256) (sym (over.pins p1 p2 c s)) (bus_low edges events p1 p2 c (to s))
@@ -26,6 +27,7 @@ module _ (edges : List Edge) (events : List HostEvent) (d : Board) (to : d.State
     abbrev u : World Beside
     u = under to w
 
+    -- a tick reads the same columns on it as on the joint board
     pub down_over : (c : ℕ) → column_read d w c ≡ column_read joint u c
     down_over c =
         let p2 : ℕ = w.cpu.p2 in

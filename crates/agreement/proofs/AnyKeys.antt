@@ -49,6 +49,7 @@ module _ (d : Board) (bytes : List ℕ) (hk : HasKernel bytes) (alike : IsSilent
       GoesOn v × (v.cycle ≤ w.cycle + longest_tick bytes) × (v.cycle ≤ w.cycle + tick_with bytes (length (edges_now bytes d w)))
       × Passes d bytes w × (w.cycle + shortest_tick ≤ v.cycle)
 
+  -- each tick start leads to the next one, whatever the keys and the PC do, and within the bounds of a tick
   pub onward : (w : World d.State) → GoesOn w → Tick d TICK bytes w (Next w)
   onward w g =
       let f = found d w in
@@ -90,6 +91,7 @@ module _ (d : Board) (bytes : List ℕ) (hk : HasKernel bytes) (alike : IsSilent
       pub nth : IsNth d TICK bytes from n w
       pub keeps : GoesOn w
 
+    -- each number has a tick start
     pub known : (n : ℕ) → Known n
     known zero = record {
       w = first.end;
@@ -124,9 +126,11 @@ module _ (d : Board) (bytes : List ℕ) (hk : HasKernel bytes) (alike : IsSilent
         (same_start d TICK bytes from r.steps k (known n).w w r.run run (at_start n) at r.count)
         (onward (known n).w (known n).keeps).rest.goal.3
 
+    -- the run has a state after each number of steps
     pub never_stuck : (k : ℕ) → (w : World d.State) × (run_at d bytes from k ≡ Some w)
     never_stuck = goes_on d TICK bytes from (λ n. ((known n).w, reached n))
 
+    -- each tick start has a stamp
     pub starts : (n : ℕ) → (stamp : ℕ) × IsStart d TICK bytes from n stamp
     starts n =
         let r = reached n in
@@ -152,6 +156,7 @@ module _ (d : Board) (bytes : List ℕ) (hk : HasKernel bytes) (alike : IsSilent
     cycle_is : (n stamp : ℕ) → IsStart d TICK bytes from n stamp → (known n).w.cycle ≡ 4096 + stamp
     cycle_is n stamp s = ap (λ (v : World d.State). v.cycle) (is_nth n stamp s) ∙ s.cycle
 
+    -- the first tick start is the one to which power-on leads
     pub begins : (stamp : ℕ) → IsStart d TICK bytes from 0 stamp → first.end.cycle ≡ 4096 + stamp
     unfolding known
     begins stamp s = cycle_is 0 stamp s
@@ -161,6 +166,7 @@ module _ (d : Board) (bytes : List ℕ) (hk : HasKernel bytes) (alike : IsSilent
     unfolding known
     one_on n = (onward (known n).w (known n).keeps).rest.goal
 
+    -- a tick start comes no later after the one before than the longest tick takes
     pub soon : (n stamp next : ℕ) → IsStart d TICK bytes from n stamp → IsStart d TICK bytes from (suc n) next
         → next ≤ stamp + longest_tick bytes
     soon n stamp next s e =
@@ -169,6 +175,7 @@ module _ (d : Board) (bytes : List ℕ) (hk : HasKernel bytes) (alike : IsSilent
         let short : (known (suc n)).w.cycle ≤ (known n).w.cycle + longest_tick bytes = (one_on n).1 in
         omega (arith, here, there, short)
 
+    -- a tick start comes no sooner after the one before than the shortest tick takes
     pub apart : (n stamp next : ℕ) → IsStart d TICK bytes from n stamp → IsStart d TICK bytes from (suc n) next
         → stamp + shortest_tick ≤ next
     apart n stamp next s e =
@@ -177,6 +184,7 @@ module _ (d : Board) (bytes : List ℕ) (hk : HasKernel bytes) (alike : IsSilent
         let long : (known n).w.cycle + shortest_tick ≤ (known (suc n)).w.cycle = (one_on n).4 in
         omega (arith, here, there, long)
 
+    -- a tick start comes no later than the keys that the tick before it takes allow
     pub by_keys : (n stamp next : ℕ) (s : IsStart d TICK bytes from n stamp) → IsStart d TICK bytes from (suc n) next
         → next ≤ stamp + tick_with bytes (length (edges_now bytes d s.state))
     by_keys n stamp next s e =
@@ -231,6 +239,7 @@ module _ (layout : KeyLayout) (edges : List Edge) (events : List HostEvent) (fin
   first =
       record { steps = first_comes.steps; end = first_comes.end; run = first_comes.run; goal = first_comes.goal.0 }
 
+  -- power-on leads to a first tick start
   pub comes_first : Comes joint TICK bytes from (λ w. at_tick joint TICK w ≡ true)
   comes_first =
       comes_as joint TICK bytes Keeps (λ w. at_tick joint TICK w ≡ true) from
@@ -239,12 +248,14 @@ module _ (layout : KeyLayout) (edges : List Edge) (events : List HostEvent) (fin
       g).at)
       first
 
+  -- each tick goes through the passages of a tick
   pub each_passes : (k : ℕ) (w : World Beside) → run_at joint bytes from k ≡ Some w → at_tick joint TICK w ≡ true
       → Passes joint bytes w
   each_passes =
       passes joint bytes (has_kernel layout) (is_alike layout fine) prefix (are_bytes layout fine) (bus_low edges events)
       from first
 
+  -- from power-on the run never stops, whatever the keys and the PC do
   pub never_stops : NeverStops from bytes edges events
   never_stops =
       let kernel = has_kernel layout in

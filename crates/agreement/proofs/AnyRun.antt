@@ -15,6 +15,7 @@ use Rattle.agreement.specs.Agreement.{switched_on}
 use Rattle.agreement.specs.AnyKeys.{AnyKeysLaw}
 use Rattle.agreement.specs.Executed.{ExecutedLaw, LateLaw, SoonLaw}
 
+-- under any edges and events the run of a layout's image never stops, and its ticks come in their bounds
 pub any_keys : AnyKeysLaw
 any_keys layout edges events fine m small = never_stops layout edges events fine m small
 

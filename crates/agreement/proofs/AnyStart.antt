@@ -218,6 +218,8 @@ module _ (layout : KeyLayout) (edges : List Edge) (events : List HostEvent) (fin
             subst (λ m. log_of s.state.board ≡ (model_from kb edges events starts m k).side.log) is (says k stamp s);
       }
 
+-- from any tick start at which data memory shows a keyboard the run goes on as the model, if each tick shows few
+-- changes
 pub from_any_start : FromAnyStart
 from_any_start layout edges events n w fine ok s few later =
     let early : 2 ≤ w.cpu.pre = s.started.entered.early in
@@ -277,8 +279,10 @@ module _ (layout : KeyLayout) (edges : List Edge) (events : List HostEvent) (fin
       c.goal.1.started c.goal.1.waits first
       (λ k. let same : k ≡ 0 + k = omega arith in subst (λ j. ShowsFew edges (suc j)) same (few (suc k))) at model_is
 
+-- so it does from power-on, whether or not keys bounce, if each tick shows few changes
 pub as_shown : AsShown
 as_shown layout edges events fine ok few m small = in_time layout edges events fine ok m small few
 
+-- the run goes on as the model whatever the layout's keys do, any number at once, by what its columns show
 pub any_count : AnyCountLaw
 any_count layout edges events fine ok m small = from_power_on layout edges events fine ok m small

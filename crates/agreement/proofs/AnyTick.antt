@@ -324,6 +324,7 @@ module _ (d : Board) (bytes : List ℕ) (hk : HasKernel bytes) (alike : IsSilent
       (λ look is. clock_look_is l byte look is ∙ looks look is)) (safe l range))
       (frame_came Sent frame last_off)
 
+  -- a tick whose byte is cut at a look is the model's tick in which the byte was cut
   pub cut : (byte look : ℕ) → Offers d w byte → IsLook look
       → ((earlier : ℕ) → IsLook earlier → earlier < look → clock_in d w byte earlier ≡ true)
       → clock_in d w byte look ≡ false → Tick d TICK bytes w (So Cut (CutFrame byte look))

@@ -370,6 +370,7 @@ module _ (d : Board) (w : World d.State) (now : ℕ → Bool)
             ∙ ap (λ b. settles (is_down_at s.settled (8 * c + r)) (is_down_at s.read (8 * c + r)) b)
             (sym (turned_shown s.read now (8 * c + r) long (omega (arith, lc, lr))))
 
+    -- the edges that a tick takes are those that the model takes of what the columns show
     pub edges_taken : (bytes : List ℕ) (debounce : Bool) → debounces bytes ≡ debounce → read_by bytes ram ≡ s.read
         → length s.read ≡ 96 → edges_now bytes d w ≡ taken debounce seen s
     edges_taken bytes debounce flag read long =

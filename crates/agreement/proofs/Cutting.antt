@@ -88,6 +88,7 @@ module _ (edges : List Edge) (events : List HostEvent) (world : World Beside)
   abbrev latch : ℕ
   latch = latch_now (joint_board edges events) world
 
+  -- a frame that is cut is cut at the first look after the controller began to pull the clock
   pub is_cut_by : (frame : Frame) → Since events latch world.cycle released (at_look edges events world) frame
       → IsCutBy (λ offset. (beside_in edges events (tick_latch world.cpu.p2 latch frame) world offset).pc.side.port.link) world.cycle frame
   is_cut_by NoFrame since = tt

@@ -60,6 +60,7 @@ module _ (d : Board) (bytes : List ℕ) (hk : HasKernel bytes) (alike : IsSilent
       ∙ ap (λ b. not (not b && v.cpu.ext_on && not (seen d v).int_pin) && not (not b && v.cpu.tim_on && v.cpu.rq))
       h.started.entered.serves
 
+  -- a tick of the firmware does what its frame and its meeting say, and selects its columns
   pub does : Finds d w frame meeting
       → Tick d TICK bytes w (Does d bytes frame meeting w)
       × Selects d TICK bytes w (λ c. column_latch w.cpu.p1 (c - w.cycle))
@@ -77,6 +78,7 @@ module _ (d : Board) (bytes : List ℕ) (hk : HasKernel bytes) (alike : IsSilent
         selects_from d bytes hk w (entered_served w.cpu s.entered) c.goal.passes,
       )
 
+-- every image that has the kernel does in each tick what a tick of the model is, on any board
 pub tick_law : TickLaw
 tick_law bytes hk alike codes small pins tick low w s repeats whole few frame meeting =
     does (numbered pins tick) bytes hk alike codes small low w s repeats whole few frame meeting

@@ -197,6 +197,7 @@ first_few edges now placed order thin soon =
     and_true true = refl
     and_true false = refl
 
+-- if of any five edges in a row the last is at least 2,240 cycles later than the first, each tick shows few changes
 pub thin_shows_few : ThinShowsFew
 thin_shows_few edges zero placed order thin k =
     let same : k ≡ 0 + k = omega arith in subst (λ j. ShowsFew edges j) same (by k)

@@ -27,6 +27,7 @@ by_place (Some own) p l = by (own == p) refl
     by true e = let same : own ≡ p = eqb-true own p e in let f : (p == own) ≡ true = grind (arith, nat_tests, same) in e ∙ sym f
     by false e = let f : (p == own) ≡ false = grind (arith, nat_tests, e) in e ∙ sym f
 
+-- the image has the place of the layout's Fn key
 pub image_fn : (layout : KeyLayout) → IsFnPlaceOf layout (slice_index (image_of layout) fn_place_at)
 image_fn layout p l = by_place (fn_place layout) p l ∙ ap (λ b. p == b) (sym (fn_place_read layout))
 
@@ -42,6 +43,7 @@ one is_fn byte held fn at down long l own is false e =
     let apart : byte ≢ at = grind (arith, nat_tests, e) in
     ap (λ b. if b then down else fn) (own ∙ e) ∙ is ∙ sym (get_or-set_other held at byte down false apart)
 
+-- after a tick's edges Fn is down exactly if its key is held, if it was so before them
 pub fn_follows : (is_fn : ℕ → Bool) (byte : ℕ) → ((p : ℕ) → p < 96 → is_fn p ≡ (p == byte)) → (es : List (ℕ × Bool))
     (l : Layers) (held : List Bool) → length held ≡ 96 → low_edges es → l.fn_down ≡ slice_index_or held byte false
     → (all_layers_after is_fn es l).fn_down ≡ slice_index_or (turned_all es held) byte false

@@ -54,5 +54,6 @@ module _ (d : Board) (w : World d.State) where
   by_test true ended = by_clock (clock_now d w) refl ended
   by_test false runs = record { frame = NoFrame; meeting = Idle; finds = inl runs }
 
+  -- the looks of each tick find a frame and a meeting
   pub found : Found
   found = by_test (tests_in d w) refl

@@ -29,6 +29,7 @@ pub record FailsFirst (f : ℕ → Bool) : Type 0 where
   pub before : (k : ℕ) → k < j → f k ≡ true
   pub fails : f j ≡ false
 
+-- of some tests all hold, or one is the first that fails
 pub first_fails : (f : ℕ → Bool) (n : ℕ) → n ≤ 10 → ((k : ℕ) → k < n → f k ≡ true) ⊎ (FailsFirst f)
 first_fails f zero l = inl (λ k u. absurd (omega (arith, u)))
 first_fails f (suc n) l = more (first_fails f n (omega (arith, l))) (f n) refl

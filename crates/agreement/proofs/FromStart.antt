@@ -68,6 +68,7 @@ module _ (S : Type 0) (bytes : List ℕ) (edges : List Edge) (events : List Host
         ties = c.goal.0;
       }
 
+  -- each tick start is reached, with the model's state that is tied to it
   pub station : ℕ → Station
   station zero = first
   station (suc k) = next (station k)
@@ -83,6 +84,7 @@ module _ (S : Type 0) (bytes : List ℕ) (edges : List Edge) (events : List Host
   unfolding station first
   model_first = refl
 
+  -- the first of them is the start from which the run goes on
   pub begins_there : (station 0).w ≡ begin
   unfolding station first
   begins_there = refl
@@ -92,6 +94,7 @@ module _ (S : Type 0) (bytes : List ℕ) (edges : List Edge) (events : List Host
   unfolding station next
   model_next k = refl
 
+  -- the model's state there is that which goes by what the columns showed
   pub model_is : (k : ℕ) → (station k).m ≡ model_from kb edges events starts model k
   model_is zero = model_first
   model_is (suc k) =
@@ -131,9 +134,11 @@ module _ (S : Type 0) (bytes : List ℕ) (edges : List Edge) (events : List Host
   here : (k : ℕ) → at_tick d TICK (station k).w ≡ true
   here k = (onward (station k)).at
 
+  -- the run has a state after each number of steps
   pub never_stuck : (k : ℕ) → (w : World Beside) × (run_at d bytes from k ≡ Some w)
   never_stuck = numbers.goes_on d TICK bytes from (λ k. ((station k).w, reached k))
 
+  -- each of these states is the tick start of its number
   pub each : (k : ℕ) → IsStart d TICK bytes from k (starts k)
   each k =
       let r = reached k in
@@ -156,6 +161,7 @@ module _ (S : Type 0) (bytes : List ℕ) (edges : List Edge) (events : List Host
       numbers.same_start d TICK bytes from r.steps s.steps w s.state r.run s.reached (here k) s.at (r.count ∙ sym s.number) in
       subst (λ w. P k w (model_from kb edges events starts model k)) same (subst (λ m. P k w m) (model_is k) (law k))
 
+  -- what the tie says of a state and a model is so at each tick start
   pub at_starts : (P : World Beside → Whole S → Type 0) → ((w : World Beside) (m : Whole S) → R w m → P w m)
       → (k stamp : ℕ) (s : IsStart d TICK bytes from k stamp) → P s.state (model_from kb edges events starts model k)
   at_starts P law = at_each (λ k w m. P w m) (λ k. law (station k).w (station k).m (station k).ties)
@@ -190,6 +196,7 @@ module _ (S : Type 0) (bytes : List ℕ) (edges : List Edge) (events : List Host
         let past : 4096 ≤ (station k).w.cycle = (station k).past in
         omega (arith, long, past)
 
+    -- a tick start comes no later than the changed keys of the tick before it allow
     pub soon : (k : ℕ) → starts (suc k) ≤ starts k + tick_with bytes (length (changed k))
     soon k =
         let by : (station (suc k)).w.cycle ≤ (station k).w.cycle + tick_with bytes (length (changed k)) =
@@ -219,6 +226,7 @@ module _ (S : Type 0) (bytes : List ℕ) (edges : List Edge) (events : List Host
           subst (λ i. (station (suc i)).w.cycle + late 0 ≡ (station (suc (k + 0))).w.cycle + 2048 * suc j + (station (suc i)).w.cpu.pre) z
           (omega (arith, ih, pass))
 
+      -- once few keys change, tick starts come at the multiples of 2,048 from some stamp on, or a cycle past them
       pub steady : (origin : ℕ) × ((j : ℕ) → (origin + 2048 * j ≤ starts (suc (k + j)))
           × (starts (suc (k + j)) ≤ origin + 2048 * j + 1))
       steady = (
@@ -302,9 +310,11 @@ module _ (S : Type 0) (bytes : List ℕ) (edges : List Edge) (events : List Host
       timed zero = timed_first
       timed (suc k) = timed_next k (timed k)
 
+      -- if few keys change, each tick start is at its multiple of 2,048 or one cycle past it
       pub prompt : (k : ℕ) → IsPrompt (n + k) (starts k)
       prompt k = as_prompt (n + k) (station k).w (punctual k (timed k))
 
+      -- what holds of each start in time is so at each tick start, if few keys change
       pub in_time : (P : ℕ → World Beside → Whole S → Type 0)
           → ((k : ℕ) (w : World Beside) (m : Whole S) → IsOnTime (n + k) w → IsStarted w.cpu → HasFew m.keys → R w m → P k w m)
           → (k stamp : ℕ) (s : IsStart d TICK bytes from k stamp) → P k s.state (model_from kb edges events starts model k)

@@ -58,6 +58,7 @@ use Rattle.agreement.proofs.Ties.{Ties}
 
 -- a tick of the image's keyboard is one of the layout's, and keeps what is to be kept
 module _ (a b : Keys) (same : SameKeys a b) (codes : NoPrefix b) where
+  -- a tick of the image's keyboard is a tick of the layout's
   pub layout_ticks : (meeting : KeyboardMeeting) (es : List (ℕ × Bool)) (l : Layers) (k : Keyboard) → low_edges es
       → Sound b l k → ticked a meeting (layered a.is_fn es l) k ≡ ticked b meeting (layered b.is_fn es l) k
   layout_ticks meeting es l k low s =
@@ -215,6 +216,7 @@ module _ (edges : List Edge) (events : List HostEvent) (d : Board) (to : d.State
       let cycles : e.cycle ≡ w.cycle + n = omega (arith, later) in
       record { latch = h.latch; length = n; cycles = cycles; board = h.board n cycles }
 
+  -- a tick whose frame and meeting fit the PC's side leads to a start that is tied to the model a tick later
   pub goes : (meeting : KeyboardMeeting) (met : Meeting) (frame : Frame) → IsFrameOf (offer m.keys.keyboard) met frame
       → met_as met ≡ meeting → Asks met
       → Wires (lines frame) met

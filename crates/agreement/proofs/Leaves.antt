@@ -44,6 +44,7 @@ sent_kept h v byte k n r0 i l =
     above h4 24 r0 i (omega arith) l ∙ above h3 30 (left_at byte k) i (omega arith) l ∙ above h2 27 n i (omega arith) l
     ∙ above h1 26 (bit_and v 253) i (omega arith) l ∙ above h 25 r1 i (omega arith) l
 
+-- a sent frame leaves the cells above the registers, and the way back on the stack
 pub sent_leaves : (v byte k n r0 : ℕ) → Leaves (λ h. sending h v byte k n r0)
 sent_leaves v byte k n r0 = record {
   kept = λ g i l. sent_kept (looked_in g) v byte k n r0 i l ∙ above_looked g i l;
@@ -70,6 +71,7 @@ got_kept h byte right i l =
     above h4 29 (255 * digit right) i (omega arith) l ∙ above h3 25 (in_quarters byte) i (omega arith) l
     ∙ above h2 28 byte i (omega arith) l ∙ above h1 27 0 i (omega arith) l ∙ above h 24 0 i (omega arith) l
 
+-- a received frame leaves the cells above the registers, and the way back on the stack
 pub got_leaves : (byte : ℕ) (right : Bool) → Leaves (λ h. got_cells h byte right)
 got_leaves byte right = record {
   kept = λ g i l. got_kept (looked_in g) byte right i l ∙ above_looked g i l;

@@ -103,6 +103,7 @@ module _ (edges : List Edge) (events : List HostEvent) (d : Board) (to : d.State
       ∙ cycles_more events lines 32 (32 * k + 18) (50 + 32 * k) (256 + x) (at_look edges events u) e
       ∙ ap (λ c. board_cycles events lines (32 * k + 18) c first) a
 
+  -- a tick that went by its latch is a tick of the joint board at its wires
   pub on_wires : (bytes : List ℕ) (meeting : Meeting) (e : World d.State) → Ran d bytes meeting frame w e
       → AtWires edges events (lines_by frame (latch_now d w) w.cycle released) u (under to e)
   on_wires bytes meeting e h =

@@ -42,6 +42,7 @@ abbrev WritesNext : Option HostEvent → Type 0
 WritesNext None = Unit {0}
 WritesNext (Some event) = WritesByte event.act
 
+-- if all events that write write bytes, the next one does
 pub writes_next : (events : List HostEvent) (k : ℕ) → AreWritten events → WritesNext (slice_get events k)
 writes_next [] k written = tt
 writes_next (e ∷ es) zero written = All-head (λ event. WritesByte event.act) e es written
@@ -175,6 +176,7 @@ wrong_in : (again : Bool) (s : ControllerState) → HoldsByte s.input
 wrong_in true s i = i
 wrong_in false s i = i
 
+-- what the controller does with what came keeps that all its bytes are bytes
 pub received_in : {F : Type 0} (now : ℕ) (came : Option ℕ) (p : LinkEnd F) → IsPortInBytes p → IsPortInBytes (received now came p)
 received_in now (Some byte) p b =
     let t : Translated = translation (translates p.core) p.core.break_mark byte in
@@ -198,6 +200,7 @@ closed_in (Ask byte since) a = a
 closed_in (Request byte) a = a
 closed_in (Busy u) a = tt
 
+-- what comes over the link keeps that all the controller's bytes are bytes
 pub happened_in : (now : ℕ) (event : Event) (p : LinkEnd UnderWay) → IsPortInBytes p
     → IsPortInBytes (happened_at now event p)
 happened_in now Quiet p b = b

@@ -11,6 +11,7 @@ use Rattle.kbd_model.specs.Tick.{met, tested_if}
 use Rattle.kbd_model.specs.declared.meeting.Meeting.{Meeting}
 use Rattle.kbd_model.specs.declared.state.Repeat.{Repeat}
 
+-- what repeats as the keys' steps begin is a key that was pressed at the tick's start
 pub pressed_at : (keys : Keys) (meeting : Meeting) (l : Layers) (k : Keyboard) → IsPressed keys l k.repeats
     → IsPressedAt keys meeting l k
 pressed_at keys meeting l k is = by (tested_if (not (k.test == 0)) (met meeting keys k)).repeats refl

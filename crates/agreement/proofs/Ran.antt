@@ -42,6 +42,7 @@ pub record Lasted (d : Board) (bytes : List ℕ) (w v : World d.State) : Type 0 
       → IsStarted v.cpu × (v.cycle + w.cpu.pre ≡ w.cycle + 2048 + v.cpu.pre)
   pub settles : length (edges_now bytes d w) ≤ 4 → IsStarted v.cpu
 
+-- a tick as the model's lasts no longer than its changed keys need, and after four or fewer the next start is in time
 pub lasted : (d : Board) (bytes : List ℕ) (meeting : Meeting) (frame : Frame) (w v : World d.State)
     → Ran d bytes meeting frame w v → Lasted d bytes w v
 lasted d bytes meeting frame w v r =

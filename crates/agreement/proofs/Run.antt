@@ -66,6 +66,7 @@ module _ (layout : KeyLayout) (history : KeyHistory) (fine : IsKeyLayout layout)
         → joint_step (joint_board edges events) bytes one ≡ Some next → next.cpu.p1 ≡ 255
     stays_dark = begins_dark (joint_board edges events) bytes (has_kernel layout) from wake comes_first
 
+-- run and model have one log under every lawful history, whatever the part held when it was switched on
 pub every_memory : AnyMemoryLaw
 every_memory layout history fine ok m small = (
   keeps_time LayeredKeyboard (switched_on history.edges history.host m) (image_of layout) history ok.lawful (keyboard layout)
@@ -96,6 +97,7 @@ cleared =
       sp = omega arith;
     }
 
+-- run and model have one log under every lawful history, and the run keeps its time
 pub every_run : AgreementLaw
 every_run layout history fine ok = every_memory layout history fine ok reset_cpu cleared
 

@@ -50,6 +50,7 @@ module _ (edges : List Edge) (events : List HostEvent) (w : World Beside) (was :
     abbrev model_look : Side UnderWay
     model_look = to_look events m.shown (kb.lights m.keys) w.cycle m.side
 
+    -- at the look at the clock the PC's side is the model's
     pub model_looks : seen_in_bytes look.side ≡ model_look
     model_looks =
         looks_same.0
@@ -67,9 +68,11 @@ module _ (edges : List Edge) (events : List HostEvent) (w : World Beside) (was :
     -- model's tick
     module _ (lines : ℕ → Lines) (rest k : ℕ) (met : Meeting)
         (law : Ticked events lines w.cycle rest look (kb.tested m.keys) (kb.offer m.keys) met k) where
+      -- the model's meeting is the one that the wires show
       pub met_is : meeting_from kb events w.cycle m ≡ met
       met_is = meeting_is ∙ law.meets
 
+      -- at the tick's end the PC's side is the model's
       pub side_is : seen_in_bytes (board_cycles events lines k (256 + w.cycle) look).side
           ≡ from_meeting events w.cycle rest (begins_from kb events w.cycle m) (to_meeting events w.cycle model_look)
       side_is =

@@ -78,6 +78,7 @@ abbrev pub HasFewWaiting : KeyLayout → LayeredKeyboard → Type 0
 HasFewWaiting layout k =
     layout.debounce ≡ true → length (shown (is_down_at k.switches.settled) (is_down_at k.switches.read)) ≤ 4
 
+-- if a reading shows four changes at most, at most four keys wait to settle after it
 pub few_wait : (debounce : Bool) (now : ℕ → Bool) (s : Switches) → AreWide s → length (shown (is_down_at s.read) now) ≤ 4
     → debounce ≡ true
     → length (shown (is_down_at (switched debounce (shown (is_down_at s.read) now) s).settled)

@@ -85,6 +85,7 @@ module _ (layout : KeyLayout) (history : KeyHistory) (fine : IsKeyLayout layout)
     pub started : IsStarted w.cpu
     pub waits : HasFewWaiting layout m.keys
 
+  -- what is tied to the model has a place for each key
   pub fits : (w : World Beside) (m : Whole LayeredKeyboard) → Tied w m → HasPlaces m.keys
   fits w m t = record {
     read = ap length (sym t.ties.read) ∙ flags_long (down_at (read_cell (debounces bytes) (cells_in w.cpu.ram))) 96;
@@ -93,9 +94,11 @@ module _ (layout : KeyLayout) (history : KeyHistory) (fine : IsKeyLayout layout)
         ∙ flags_long (down_at (λ c. slice_index w.cpu.ram (32 + c))) 96;
   }
 
+  -- so has what is tied to it in time
   pub fits_in_time : (w : World Beside) (m : Whole LayeredKeyboard) → TiedInTime w m → HasPlaces m.keys
   fits_in_time w m t = fits w m t.tied
 
+  -- the first tick start is tied to the model at power-on
   pub tied_first : (m : Cpu) → IsFine m → Comes (joint_board edges events) TICK bytes (switched_on edges events m)
       (λ e. IsOnTime 0 e × TiedInTime e (at_first (keyboard layout) events e.cycle))
   tied_first m small =
@@ -134,6 +137,7 @@ module _ (layout : KeyLayout) (history : KeyHistory) (fine : IsKeyLayout layout)
     abbrev wide : AreWide m.keys.switches
     wide = fits w m tied
 
+    -- the edges that a tick takes are the model's
     pub columns : edges_now bytes (joint_board edges events) w ≡ takes layout m (columns_in edges w.cycle)
     columns =
         board_edges edges events w past m.keys.switches (ap (λ (k : Keyboard). k.held) tie.keyboard ∙ tie.settled) bytes
@@ -216,6 +220,7 @@ module _ (layout : KeyLayout) (history : KeyHistory) (fine : IsKeyLayout layout)
         column_from joint bytes (has_kernel layout) w tie.started.served passes went.rest.steps went.first next went.step
         went.rest.run (is_tick edges events next went.rest.goal.0.started)
 
+    -- from a start that is tied to the model each tick leads to one that is
     pub tied_next : Tick joint TICK bytes w
         (λ e. Tied e (by_columns (keyboard layout) edges events w.cycle e.cycle m) × Lasted joint bytes w e)
     tied_next = record {
@@ -259,6 +264,7 @@ module _ (layout : KeyLayout) (history : KeyHistory) (fine : IsKeyLayout layout)
         held_same (column_read W (watched w)) (column_read joint w) (λ c l. down_over edges events W beneath above (watched w) c)
         ∙ reads
 
+    -- in each tick the keyboard drives the frame that its meeting says
     pub tick_drives : DrivesFrame edges events bytes (offer m.keys.keyboard) (meeting_from (keyboard layout) events w.cycle m) w
     tick_drives =
         let t =
@@ -314,6 +320,7 @@ module _ (layout : KeyLayout) (history : KeyHistory) (fine : IsKeyLayout layout)
         subst (λ v. length v ≤ 4) (sym (columns w m past t.tied))
         (takes_few layout.debounce (columns_in edges w.cycle) m.keys.switches four t.waits)
 
+    -- with four changes at most a tick in time leads to one in time
     pub next_in_time : Tick (joint_board edges events) TICK bytes w
         (λ e. IsOnTime (suc n) e × TiedInTime e (by_columns (keyboard layout) edges events w.cycle e.cycle m))
     next_in_time =
@@ -340,5 +347,6 @@ module _ (layout : KeyLayout) (history : KeyHistory) (fine : IsKeyLayout layout)
               next.rest;
         }
 
+    -- and it drives the frame that its meeting says
     pub drives_in_time : DrivesFrame edges events bytes (offer m.keys.keyboard) (meeting_from (keyboard layout) events w.cycle m) w
     drives_in_time = tick_drives w m past t.tied

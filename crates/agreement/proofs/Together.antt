@@ -98,6 +98,7 @@ module _ (events : List HostEvent) (v start : ℕ) (released : IsReleased v) (lo
     )
     by_link (Busy x) e = tt
 
+    -- a tick's frame that isn't cut fits what the controller does
     pub together : (tests : Bool) → With (frame_in events lines start look tests o)
     together false = tt
     together true = by_link look.side.port.link refl
@@ -118,6 +119,7 @@ module _ (edges : List Edge) (events : List HostEvent) (w : World Beside)
       ap (λ (b : Beside). b.pc)
       (after_clock edges events (joint_board edges events) (λ b. b) (itself edges events) w lit released frame 32)
 
+  -- so it does in the words of the joint run
   pub goes_with : (frame : Frame) → With events v w.cycle released (at_look edges events w) frame
       → GoesWith (pc frame) frame
   goes_with NoFrame h = tt

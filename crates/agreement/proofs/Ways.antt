@@ -169,11 +169,13 @@ module _ (edges : List Edge) (events : List HostEvent) (d : Board) (to : d.State
           cut d bytes hk alike small low w s repeats byte look offers is
           (λ earlier at l. sees_look byte earlier at ∙ high earlier at l) (sees_look byte look is ∙ pulls)
 
+  -- if a byte is offered, the link is free and the controller leaves the clock alone, the tick sends the byte
   pub sends : (byte : ℕ) → (kbd.test == 0) ≡ true → offer kbd ≡ Some byte → IsWhole kbd.queue → b.side.port.link ≡ Free
       → ((look : ℕ) → IsLook look → lets_at events (lines_by (SentFrame byte) v start free_latch) start b look ≡ true)
       → Tick d TICK bytes w (So Sent (SentFrame byte))
   sends byte no_test is codes free high = sends_so byte no_test is free codes high
 
+  -- if the controller pulls the clock at a look of the frame, and at none before it, the tick's byte is cut
   pub is_cut : (byte look : ℕ) → IsLook look → (kbd.test == 0) ≡ true → offer kbd ≡ Some byte
       → b.side.port.link ≡ Free
       → ((earlier : ℕ) → IsLook earlier → earlier < look
@@ -212,6 +214,7 @@ module _ (edges : List Edge) (events : List HostEvent) (d : Board) (to : d.State
         (no_test, sees_clock ∙ ap (λ q. (drive q).clk) asks)
         (sees_data ∙ request_shows events v start free_latch b byte asks) (asks_again byte asks)
 
+  -- if the controller requests to send a byte, the tick gets the byte, with right parity
   pub gets : (byte : ℕ) → byte < 256 → (kbd.test == 0) ≡ true → b.side.port.link ≡ Request byte
       → Tick d TICK bytes w (So (Got byte true) ReceivedFrame)
   gets byte less no_test asks = gets_so byte less asks no_test

@@ -17,10 +17,12 @@ pub record Kept (n : ℕ) (first e : Ear) : Type 0 where
   pub taken : e.taken ≡ first.taken
   pub given : e.given ≡ first.given
 
+-- at most so many falls are at most more
 pub more : (m : Mode) (a b : ℕ) → a ≤ b → AtMost a m → AtMost b m
 more (Takes bits) a b l h = omega (arith, l, h)
 more (Gives byte falls) a b l h = omega (arith, l, h)
 
+-- true isn't false, so anything follows if it is
 pub never : {A : Type 0} → true ≡ false → A
 never e = absurd cc
 
@@ -72,6 +74,7 @@ module _ (w : Wiring) (wires : AreWires w) where
   none_by b (inr down) go true s = never (sym s ∙ wires.clock.low b down)
   none_by b either go false s = ap (λ v. v && not (w.seen (suc b)).clk) s
 
+  -- if the keyboard doesn't let the clock fall and the host lets it go, the host sees no fall
   pub no_fall : (c : ℕ) → NoFall c → (w.host c).clk ≡ true → fell w c ≡ false
   no_fall zero h go = refl
   no_fall (suc b) (inl up) go = none_by b (inl up) go (w.seen b).clk refl
@@ -91,6 +94,7 @@ module _ (w : Wiring) (wires : AreWires w) where
       ∙ ap (λ d. moved m d (fell w c) (w.reads c) (w.wants c) (e c)) d
       ∙ ap (λ f. moved m dat f (w.reads c) (w.wants c) (e c)) falls
 
+  -- a host that pulls the clock drops what is under way, and has taken and given no byte more
   pub held : (c : ℕ) → (w.host c).clk ≡ false → e (suc c) ≡ record (e c) { mode = Takes [] }
   held c pulls = ap (λ b. heard_by b (w.host c).dat (fell w c) (w.reads c) (w.wants c) (e c)) pulls
 

@@ -12,6 +12,7 @@ use Rattle.fw_link.specs.Latch.{frame_cycles, frame_latch, received_cell, sent_c
 use Rattle.joint_run.specs.Joint.{latch_of}
 use Rattle.any_host.specs.Ticks.{frame_lines}
 
+-- a latch of FF (hexadecimal) pulls neither wire
 pub let_go : IsReleased 255
 let_go = record { byte = omega arith; clock = refl; data_wire = refl }
 
@@ -30,11 +31,13 @@ early frame o l = by (nat_lt o 232) refl
 pub inside : (frame : Frame) (i : ℕ) → i < frame_cycles frame → frame_lines frame (260 + i) ≡ latch_of (frame_latch frame 255 i)
 inside frame i l = ap latch_of (within 255 255 frame i l)
 
+-- after its frame the keyboard drives neither wire
 pub late : (frame : Frame) (o : ℕ) → 260 + frame_cycles frame ≤ o → frame_lines frame o ≡ latch_of 255
 late frame o l =
     let p : o ≡ 260 + frame_cycles frame + (o - (260 + frame_cycles frame)) = omega (arith, l) in
     ap (λ i. frame_lines frame i) p ∙ ap latch_of (afterwards 255 255 frame (o - (260 + frame_cycles frame)))
 
+-- in a tick without a frame the keyboard never pulls the clock
 pub none : (o : ℕ) → (frame_lines NoFrame o).clk ≡ true
 none o = by (nat_lt o 260) refl
   where
@@ -65,6 +68,7 @@ module _ (byte : ℕ) where
       by false e = ap (λ v. (latch_of v).clk) (start_latch i (grind (arith, nat_tests, e)) l)
           ∙ clock_of_latch true false 255 let_go
 
+  -- before the first fall of a sent frame the keyboard lets the clock go
   pub sent_up : (o : ℕ) → o < 288 → (frame_lines sent o).clk ≡ true
   sent_up o l = by (nat_lt o 260) refl
     where
@@ -90,17 +94,20 @@ module _ (byte : ℕ) where
       ap (λ o. frame_lines sent o) p ∙ inside sent (28 + 32 * k + i) (omega (arith, few))
       ∙ ap latch_of (in_cell 255 byte k i l)
 
+  -- in each cell of a sent frame the keyboard holds the clock low for 16 cycles and then lets it go for 16
   pub sent_clock : (k i : ℕ) → i < 32 → 32 * k + i < 340 → (frame_lines sent (288 + 32 * k + i)).clk ≡ nat_le 16 i
   sent_clock k i l few =
       ap (λ l. l.clk) (sent_in k i l few)
       ∙ clock_of_latch (nat_le 16 i) (frame_bit byte (if nat_lt i 21 then k else suc k)) 255 let_go
 
+  -- in a cell of a sent frame the keyboard drives the cell's bit for 21 cycles, and then the next one
   pub sent_data : (k i : ℕ) → i < 32 → 32 * k + i < 340
       → (frame_lines sent (288 + 32 * k + i)).dat ≡ frame_bit byte (if nat_lt i 21 then k else suc k)
   sent_data k i l few =
       ap (λ l. l.dat) (sent_in k i l few)
       ∙ data_of_latch (nat_le 16 i) (frame_bit byte (if nat_lt i 21 then k else suc k)) 255 let_go
 
+  -- after a sent frame the keyboard lets the clock go
   pub sent_late : (o : ℕ) → 628 ≤ o → (frame_lines sent o).clk ≡ true
   sent_late o l = ap (λ l. l.clk) (late sent o l)
 
@@ -109,6 +116,7 @@ module _ (byte : ℕ) where
     abbrev cut : Frame
     cut = CutFrame byte look
 
+    -- up to two cycles after the look a frame that is cut is as one that is sent
     pub cut_as_sent : (o : ℕ) → o < 262 + look → frame_lines cut o ≡ frame_lines sent o
     cut_as_sent o l = by (nat_lt o 260) refl
       where
@@ -124,6 +132,7 @@ module _ (byte : ℕ) where
             ∙ ap latch_of (as_sent 255 byte look i (omega (arith, m, l)))
             ∙ sym (inside sent i (omega (arith, m, l, far))) ∙ sym (ap (λ o. frame_lines sent o) p)
 
+    -- from two cycles after the look on a frame that is cut lets the clock go
     pub cut_late : (o : ℕ) → 262 + look ≤ o → (frame_lines cut o).clk ≡ true
     cut_late o l = by (nat_lt o (266 + look)) refl
       where
@@ -154,6 +163,7 @@ module _ (byte : ℕ) where
 abbrev pub got : Frame
 got = ReceivedFrame
 
+-- before the first fall of a received frame the keyboard drives neither wire
 pub got_up : (o : ℕ) → o < 288 → frame_lines got o ≡ latch_of 255
 got_up o l = by (nat_lt o 260) refl
   where
@@ -173,6 +183,7 @@ got_in k i l few =
     ap (λ o. frame_lines got o) p ∙ inside got (28 + 32 * k + i) (omega (arith, few))
     ∙ ap latch_of (got_cell 255 k i l)
 
+-- in each cell of a received frame the keyboard holds the clock low for 16 cycles and then lets it go for 16
 pub got_clock : (k i : ℕ) → i < 32 → 32 * k + i < 338 → (frame_lines got (288 + 32 * k + i)).clk ≡ nat_le 16 i
 got_clock k i l few =
     ap (λ l. l.clk) (got_in k i l few)
@@ -187,5 +198,6 @@ got_data k i few l =
     ∙ data_of_latch (nat_le 16 i) (if nat_lt k 10 then nat_lt i 20 || nat_lt k 9 else nat_le 16 i) 255 let_go
     ∙ ap (λ c. if c then nat_lt i 20 || nat_lt k 9 else nat_le 16 i) a ∙ ap (λ c. c || nat_lt k 9) b
 
+-- after a received frame the keyboard doesn't pull the clock
 pub got_late : (o : ℕ) → 626 ≤ o → (frame_lines got o).clk ≡ true
 got_late o l = ap (λ l. l.clk) (late got o l)

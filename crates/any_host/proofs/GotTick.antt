@@ -70,6 +70,7 @@ module _ (w : Wiring) (wires : AreWires w) (rules : IsRuleful w) where
     dat : (o : ℕ) → o < 626 → (w.keyboard (x + o)).dat ≡ (frame_lines ReceivedFrame o).dat
     dat o l = ap (λ l. l.dat) (drives o (omega (arith, long, l)))
 
+    -- before the first fall of a received frame the keyboard lets the clock go
     pub up_clk : (o : ℕ) → o < 288 → (w.keyboard (x + o)).clk ≡ true
     up_clk o l = clk o (omega (arith, l)) ∙ ap (λ l. l.clk) (got_up o l)
 
@@ -134,6 +135,7 @@ module _ (w : Wiring) (wires : AreWires w) (rules : IsRuleful w) where
             (rules.asks (x + o) bits is low (x + 256) (omega (arith, m)) (omega (arith, l)))
         by (Gives byte falls) is = giving o l (omega (arith, m)) byte falls is
 
+    -- at the look at data the host has begun to send a byte, and no fall is counted
     pub begun : Begun
     begun =
         elim (pulled_by (λ c. (w.keyboard c).dat) (λ c. (w.host c).dat) (λ c. (w.pins c).dat) (λ c. (w.seen c).dat)
@@ -232,9 +234,11 @@ module _ (w : Wiring) (wires : AreWires w) (rules : IsRuleful w) where
           ap (λ i. (w.keyboard (x + i)).clk) (at3 ∙ z) ∙ clk (288 + 32 * k + 0) (omega (arith, few))
           ∙ got_clock k 0 (omega arith) (omega (arith, few))
 
+      -- at each cell's begin the host sees the clock fall
       pub falls : fell w (x + (288 + 32 * k)) ≡ true
       falls = ap (λ i. fell w (x + i)) (sym at3) ∙ falls_at w wires x (suc (suc o)) high down
 
+      -- with a cell's fall the host counts one more
       pub fallen : ear_to w (suc (x + (288 + 32 * k))) ≡ with_fall byte k (E (288 + 32 * k))
       fallen =
           let z : 285 + 32 * k + 3 ≡ 288 + 32 * k = omega arith in
@@ -254,6 +258,7 @@ module _ (w : Wiring) (wires : AreWires w) (rules : IsRuleful w) where
       is : (E (289 + 32 * k)).mode ≡ Gives byte (suc k)
       is = ap (λ (v : Ear). v.mode) fell_is
 
+      -- in the rest of a cell the keyboard lets no clock fall
       pub no_fall_in : (i : ℕ) → i < 31 → NoFall w wires (x + (289 + 32 * k + i))
       no_fall_in i l = by (nat_le 16 (suc i)) refl
         where
@@ -282,6 +287,7 @@ module _ (w : Wiring) (wires : AreWires w) (rules : IsRuleful w) where
       there_all : E (288 + 32 * suc k) ≡ E (289 + 32 * k)
       there_all = let z : 288 + 32 * suc k ≡ 289 + 32 * k + 31 = omega arith in ap E z ∙ stay 31 (omega arith)
 
+      -- from the fall of one cell the host comes to that of the next with one fall more
       pub next : At (suc k)
       next = record {
         mode = ap (λ (v : Ear). v.mode) there_all ∙ is;
@@ -339,6 +345,7 @@ module _ (w : Wiring) (wires : AreWires w) (rules : IsRuleful w) where
               ap (λ v. (w.host v).dat) t ∙ put 18 (omega arith) (omega arith) ∙ is)
               ∙ sym is
 
+    -- at the k-th cell's fall the host has counted k falls
     pub at_cell : (k : ℕ) → k ≤ 10 → At k
     at_cell zero l = begins
     at_cell (suc k) l = next k (omega (arith, l)) (at_cell k (omega (arith, l)))
@@ -365,6 +372,7 @@ module _ (w : Wiring) (wires : AreWires w) (rules : IsRuleful w) where
         subst (λ u. Kept 0 then_has u) (sym is)
         (record { most = omega arith; taken = h.taken; given = ap (λ t. t ++ byte ∷ []) h.given })
 
+    -- after the eleventh fall the clock falls no more in the tick
     pub no_more : (o : ℕ) → 609 ≤ o → x + o < y → NoFall w wires (x + o)
     no_more o l m = by (nat_lt o 624) refl (nat_lt o 626) refl
       where
@@ -387,5 +395,6 @@ module _ (w : Wiring) (wires : AreWires w) (rules : IsRuleful w) where
             ∙ clk (288 + 32 * 10 + i) (omega (arith, u)) ∙ got_clock 10 i (omega (arith, u)) (omega (arith, u)) ∙ up)
         by false s false t = inl (ap (λ l. l.clk) (drives o m) ∙ got_late o (grind (arith, nat_tests, t)))
 
+    -- at the next tick start the host has given its byte, and nothing is under way
     pub given_there : Kept 0 then_has (ear_to w y)
     given_there = to_next w wires x y ReceivedFrame long drives 0 609 then_has (omega (arith, long)) no_more ended

@@ -161,8 +161,10 @@ module _ (counts : Counting) (w : Wiring) (wires : AreWires w) (rules : IsRulefu
   given_at zero = first.given
   given_at (suc n) = (adds n (rests_at n)).given ∙ ap (λ v. v ++ got_by (meetings n)) (given_at n)
 
+  -- over all ticks the host takes each byte that is sent, and the keyboard each byte of the host, once and right
   pub hears_each : HearsEach counts w starts frames meetings
   hears_each = record { taken = taken_at; given = given_at; right = λ n. (adds n (rests_at n)).right }
 
+-- a host that keeps the rules takes each byte that is sent once and right, and the keyboard each byte of the host
 pub ruleful : RulefulLaw
 ruleful counts w wires rules ends starts frames meetings ticks = hears_each counts w wires rules ends starts frames meetings ticks

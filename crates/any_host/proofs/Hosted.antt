@@ -59,6 +59,7 @@ module _ (d : Board) (w : World d.State) (frame : Frame) where
       spans_on d x latch n 232 (x + 232) v (in_tick d w 232) w.board refl
       (λ i m. before_data w.cpu.p2 v frame i (omega (arith, l, m))) to_lights
 
+  -- the clock that the tick's look finds is the clock on the wire in that cycle
   pub clock_there : clock_now d w ≡ (levels_at d w frame 256).t0
   clock_there =
       let p : x + 232 + 24 ≡ x + 256 = omega arith in
@@ -66,6 +67,7 @@ module _ (d : Board) (w : World d.State) (frame : Frame) where
       ∙ ap (λ c. (d.pins 44 v c (board_at d w frame 256)).t0) p
       ∙ ap (λ l. (d.pins 44 l (x + 256) (board_at d w frame 256)).t0) (sym (before_data w.cpu.p2 v frame 24 (omega arith)))
 
+  -- the data that the tick's look finds is the data on the wire in that cycle
   pub data_there : data_now d w ≡ (levels_at d w frame 258).t1
   data_there =
       let p : x + 232 + 26 ≡ x + 258 = omega arith in
@@ -100,6 +102,7 @@ module _ (d : Board) (w : World d.State) (byte look : ℕ) (is : IsLook look) wh
       (λ i t l. let z : 0 + i ≡ i = omega arith in
       ap (λ v. d.cycle v (w.cycle + (0 + i)) t) (same_latch (0 + i) (omega (arith, l))))
 
+  -- the clock that a look of a frame finds is the clock on the wire there, if the frame is cut at that look
   pub clock_same : clock_in d w byte look ≡ (levels_at d w (CutFrame byte look) (260 + look)).t0
   clock_same =
       ap (λ s. (d.pins 44 (latch_at d w (SentFrame byte) (260 + look)) (w.cycle + (260 + look)) s).t0) same_board
@@ -260,6 +263,7 @@ module _ (layout : KeyLayout) (d : Board) (from : World d.State) (a : WorksAlone
         let cycles : s.state.cycle ≡ one.state.cycle = ap (λ (v : World d.State). v.cycle) same in
         omega (arith, here, there, cycles)
 
+    -- at a host that keeps the rules the keyboard works: each hears each byte of the other
     pub works_at : WorksAt counts layout d from w
     works_at = record {
       works = a;
@@ -269,6 +273,7 @@ module _ (layout : KeyLayout) (d : Board) (from : World d.State) (a : WorksAlone
       right = hears.right;
     }
 
+-- at any host that keeps the rules the run is the model's, and host and keyboard hear each byte of each other
 pub any_host : AnyHostLaw
 any_host layout fine pins tick low m small board few w of_run wires rules counts ends =
     works_at layout (numbered pins tick) (power_on (numbered pins tick) m board)

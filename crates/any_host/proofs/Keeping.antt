@@ -76,11 +76,13 @@ module _ (m : Cpu) (s : IsAnyStart m) where
   abbrev lamps : ℕ
   lamps = slice_index m.ram LIGHTS
 
+  -- the latch that shows the lights pulls neither wire
   pub lit_let_go : IsReleased (255 - lamps)
   lit_let_go =
       let alone : lamps ≡ 16 * (lamps / 16 % 8) = s.inv.lamps in
       lights_leave lamps (omega (arith, alone)) (omega (arith, alone))
 
+  -- the latch shows the lights of the keyboard that memory shows
   pub lit_shows : (shown_by m.ram).lights ≡ lights_of (255 - lamps)
   lit_shows =
       let alone : lamps ≡ 16 * (lamps / 16 % 8) = s.inv.lamps in
@@ -133,6 +135,7 @@ module _ (layout : KeyLayout) (fine : IsKeyLayout layout) (d : Board)
     of_layout : All (IsOfLayout layout) es
     of_layout = edges_placed layout fine d w k g.keyboard g.read g.settled shows g.placed
 
+    -- each tick goes as its frame and its meeting say, on any board
     pub tick : Tick d TICK bytes w (Ran d bytes meeting frame w)
     tick =
         every d bytes (has_kernel layout) (is_alike layout fine) (are_bytes layout fine) low w g.started g.repeating frame meeting
@@ -213,6 +216,7 @@ module _ (layout : KeyLayout) (fine : IsKeyLayout layout) (d : Board)
         (λ p1 p2 c s. low p1 p2 c s.under) (watched w) g.started g.repeating frame meeting whole
         (finds_same d latch w frame meeting finds))
 
+    -- in each tick what is driven, taken and shown is the model's
     pub ticks_by : TicksBy layout d k frame meeting es0 w
     ticks_by =
         let r = lit_let_go w.cpu g.started in

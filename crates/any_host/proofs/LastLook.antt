@@ -17,15 +17,19 @@ use Rattle.any_host.specs.Ticks.{AreTicks, IsFound, frame_lines}
 use Rattle.any_host.specs.Wires.{AreWires, Wiring}
 use Rattle.agreement.specs.AnyKeys.{shortest_tick}
 
+-- a number isn't both 1 and 0
 pub one_isnt_none : (n : ℕ) → n ≡ 1 → n ≡ 0 → true ≡ false
 one_isnt_none n one none = absurd (omega (arith, one, none))
 
+-- a number that is at least another, which is 1, isn't 0
 pub one_or_more : (n m : ℕ) → n ≡ 1 → n ≤ m → m ≡ 0 → true ≡ false
 one_or_more n m one more none = absurd (omega (arith, one, more, none))
 
+-- an and of two that are true is true
 pub both : (a b : Bool) → a ≡ true → b ≡ true → (a && b) ≡ true
 both a b p q = rw (p, q) refl
 
+-- an and whose second part is false is false
 pub not_second : (a b : Bool) → b ≡ false → (a && b) ≡ false
 not_second true b p = p
 not_second false b p = refl
@@ -34,21 +38,25 @@ not_second false b p = refl
 abbrev pub goes : ℕ → Bool
 goes c = nat_lt c 594 || nat_le 618 c
 
+-- before the pull this host lets the clock go
 pub goes_early : (c : ℕ) → c < 594 → goes c ≡ true
 goes_early c l = let a : nat_lt c 594 ≡ true = grind (arith, nat_tests, l) in rw a refl
 
+-- after the pull this host lets the clock go
 pub goes_late : (c : ℕ) → 618 ≤ c → goes c ≡ true
 goes_late c l =
     let a : nat_lt c 594 ≡ false = grind (arith, nat_tests, l) in
     let b : nat_le 618 c ≡ true = grind (arith, nat_tests, l) in
     rw (a, b) refl
 
+-- this host pulls the clock for 24 cycles, from the cycle of the last look on
 pub pulls : (c : ℕ) → 594 ≤ c → c < 618 → goes c ≡ false
 pulls c l m =
     let a : nat_lt c 594 ≡ false = grind (arith, nat_tests, l) in
     let b : nat_le 618 c ≡ false = grind (arith, nat_tests, m) in
     rw (a, b) refl
 
+-- if this host pulls the clock, its pull has begun
 pub pulled_from : (c : ℕ) → goes c ≡ false → 594 ≤ c
 pulled_from c is = by (nat_lt c 594) refl
   where
@@ -56,6 +64,7 @@ pulled_from c is = by (nat_lt c 594) refl
     by true s = never (sym (goes_early c (grind (arith, nat_tests, s))) ∙ is)
     by false s = grind (arith, nat_tests, s)
 
+-- if this host pulls the clock, its pull isn't over
 pub pulled_to : (c : ℕ) → goes c ≡ false → c < 618
 pulled_to c is = by (nat_le 618 c) refl
   where
@@ -67,6 +76,7 @@ pulled_to c is = by (nat_le 618 c) refl
 abbrev pub driven : Frame → ℕ → Lines
 driven frame c = if nat_lt c 3000 then frame_lines frame c else latch_of 255
 
+-- in the first tick the keyboard drives its frame
 pub in_first : (frame : Frame) (c : ℕ) → c < 3000 → driven frame c ≡ frame_lines frame c
 in_first frame c l = let a : nat_lt c 3000 ≡ true = grind (arith, nat_tests, l) in rw a refl
 
@@ -84,6 +94,7 @@ no_frame o = by (nat_lt o 260) refl
 abbrev pub found : Bool → ℕ → Bool
 found missed c = goes c || (missed && (c == 594))
 
+-- if the host lets the clock go, a look finds it let go
 pub found_high : (missed : Bool) (c : ℕ) → goes c ≡ true → found missed c ≡ true
 found_high missed c is = rw is refl
 
@@ -119,6 +130,7 @@ module _ (frame : Frame) (missed : Bool) where
       not_second (driven frame (suc c)).clk (found missed (suc c))
       (ap (λ v. v || (missed && (suc c == 594))) b ∙ not_second missed (suc c == 594) other)
 
+  -- the wires of this host are wires: a look finds a pull in its second cycle at the latest
   pub wires : AreWires w
   wires = record {
     clock = record {
@@ -157,6 +169,7 @@ module _ (frame : Frame) (missed : Bool) where
   never_gives : {A : Type 0} → (c byte falls : ℕ) → (ear_to w c).mode ≡ Gives byte falls → A
   never_gives c byte falls is = let t = takes c in other_mode t.0 byte falls (sym t.1 ∙ is)
 
+  -- this host keeps all rules but the one for a byte's end
   pub rules : IsRuleful w
   rules = record {
     long = λ c low.
@@ -201,6 +214,7 @@ C = wiring cut false
 abbrev pub S : Wiring
 S = wiring sent true
 
+-- the last look at the clock is at offset 334 of the frame
 pub last_look : IsLook 334
 last_look = inr (inr (9, omega arith, inl refl))
 
@@ -211,6 +225,7 @@ up_at look is =
     ∙ ap (λ (l : Lines). l.clk) (sym (cut_as_sent 0 look is (260 + look + 0) (omega arith)))
     ∙ at_look 0 look is 0 (omega arith)
 
+-- if the last look misses the pull, each look of the sent frame finds the clock high
 pub looks : (look : ℕ) → IsLook look → (S.pins (0 + (260 + look))).clk ≡ true
 looks look is =
     both (driven sent (0 + (260 + look))).clk (found true (0 + (260 + look)))
@@ -229,20 +244,26 @@ looks look is =
         let m : 594 ≤ 260 + look = grind (arith, nat_tests, s) in
         let p : 260 + look ≡ 594 = omega (arith, m, far) in ap (found true) p
 
+-- if the last look misses the pull, the first tick sends its byte, and the other ticks are idle
 pub s_ticks : AreTicks S starts (frames sent) (meetings Sent)
 s_ticks = ticks sent true Sent (refl, omega arith, refl, refl, looks)
 
+-- if the last look finds the pull, the first tick's frame is cut, and the other ticks are idle
 pub c_ticks : AreTicks C starts (frames cut) (meetings Cut)
 c_ticks = ticks cut false Cut (refl, last_look, not_second (driven cut 594).clk (found false 594) refl)
 
+-- in the first tick the keyboard drives a sent frame
 pub s_drives : (o : ℕ) → 0 + o < 3000 → S.keyboard (0 + o) ≡ frame_lines sent o
 s_drives o l = let z : 0 + o ≡ o = omega arith in ap (driven sent) z ∙ in_first sent o (omega (arith, l))
 
+-- the first tick is long enough for the frame
 pub room : 0 + 2016 ≤ 3000
 room = omega arith
 
+-- the byte that is sent, 00, is a byte
 pub small : 0 < 256
 small = omega arith
 
+-- before the first tick the host has nothing under way
 pub rests : Kept 0 no_byte (ear_to S 0)
 rests = record { most = omega arith; taken = refl; given = refl }

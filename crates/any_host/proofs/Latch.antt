@@ -100,9 +100,11 @@ module _ (layout : KeyLayout) (d : Board) (from : World d.State) (a : WorksAlone
           let same : m ≡ k = (let u : m ≤ k = grind (arith, nat_tests, t) in omega (arith, u, l)) in
           let no : true ≡ false = sym h ∙ ap (in_step c) (sym same) ∙ e in absurd cc
 
+  -- the latch of port 2 in each cycle of a run
   pub latch : ℕ → ℕ
   latch c = pick c (a.each c).steps
 
+  -- it is the latch after the step of which the cycle is one
   pub of_run : (k c : ℕ) (one next : World d.State) → run_at d (image_of layout) from k ≡ Some one
       → joint_step d (image_of layout) one ≡ Some next → one.cycle ≤ c → c < next.cycle → next.cpu.p2 ≡ latch c
   unfolding latch
@@ -130,6 +132,7 @@ module _ (layout : KeyLayout) (d : Board) (from : World d.State) (a : WorksAlone
           let least : c ≤ a.starts c = count c in
           absurd (omega (arith, before, cycle, least, low))
 
+-- each run has a latch of port 2 in each cycle, and so its wires, whatever the host is
 pub wirings : LatchLaw
 wirings layout fine pins tick low m small board few host seen reads wants =
     let d : Board = numbered pins tick in

@@ -28,6 +28,7 @@ lost =
     (tick.no_more S (wires sent true) (rules sent true) 0 3000 room 0 small s_drives looks refl refl no_byte rests)
     dropped
 
+-- a host that pulls the clock where the last look misses it, and counts eleven falls, doesn't get the byte sent
 pub loses : HearsEach Eleventh S starts (frames sent) (meetings Sent) → true ≡ false
 loses h =
     one_isnt_none (length (ear_to S (starts 1)).taken) (ap length (h.taken 1)) (ap length lost.taken)
@@ -69,6 +70,7 @@ abbrev bits_of : Mode → List Bool
 bits_of (Takes bits) = bits
 bits_of (Gives byte falls) = []
 
+-- this host begins no pull from 19 cycles after the tenth fall up to the eleventh
 pub ends_eleven : EndsBy 19 Eleventh S
 ends_eleven c i nine ten is all falls far later every = by (goes (c + i)) refl (nat_lt 594 (c + i)) refl
   where

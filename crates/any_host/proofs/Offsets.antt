@@ -10,6 +10,7 @@ pub after : (x o : ℕ) → suc (x + o) ≡ x + suc o
 after x o = omega arith
 
 module _ (k h p s : ℕ → Bool) (wire : IsWire k h p s) (x : ℕ) where
+  -- the host sees a wire high that both let go for three cycles, by the offset from a tick's start
   pub high_at : (o : ℕ) → k (x + o) ≡ true → h (x + o) ≡ true → k (x + suc o) ≡ true → h (x + suc o) ≡ true
       → k (x + suc (suc o)) ≡ true → h (x + suc (suc o)) ≡ true → s (x + suc (suc o)) ≡ true
   high_at o a b c d e f =
@@ -18,6 +19,7 @@ module _ (k h p s : ℕ → Bool) (wire : IsWire k h p s) (x : ℕ) where
       ap s two
       ∙ wire.high (x + o) a b (ap k (sym one) ∙ c) (ap h (sym one) ∙ d) (ap k (sym two) ∙ e) (ap h (sym two) ∙ f)
 
+  -- a look of the keyboard finds it high too
   pub risen_at : (o : ℕ) → k (x + o) ≡ true → h (x + o) ≡ true → k (x + suc o) ≡ true → h (x + suc o) ≡ true
       → k (x + suc (suc o)) ≡ true → h (x + suc (suc o)) ≡ true → p (x + suc (suc o)) ≡ true
   risen_at o a b c d e f =
@@ -59,6 +61,7 @@ module _ (w : Wiring) (wires : AreWires w) (x : ℕ) where
   pub let_go_at : (o : ℕ) → (w.keyboard (x + o)).clk ≡ true → NoFall w wires (x + o)
   let_go_at o up = inl up
 
+  -- after a cycle in which the keyboard pulls the clock there is no fall
   pub low_at : (o : ℕ) → (w.keyboard (x + o)).clk ≡ false → NoFall w wires (x + suc o)
   low_at o down = inr (x + o, sym (after x o), down)
 

@@ -149,6 +149,7 @@ module _ (layout : KeyLayout) (fine : IsKeyLayout layout) (d : Board)
       keeps = first_comes.goal.2;
     }
 
+    -- each tick start is reached, and memory shows the model's keyboard there
     pub station : (n : ℕ) → Station n
     station zero = first
     station (suc n) = next n (station n)
@@ -237,6 +238,7 @@ module _ (layout : KeyLayout) (fine : IsKeyLayout layout) (d : Board)
         same_start d TICK bytes from r.steps s.steps (station n).w s.state r.run s.reached
         (starts_tick d (station n).w (station n).keeps.started.served) s.at (r.count ∙ sym s.number)
 
+    -- the run works by itself: it never stops, its ticks come in their bounds, and they go as the model's
     pub works_alone : WorksAlone layout d from
     works_alone = record {
       goes_on = goes_on d TICK bytes from (λ n. ((station n).w, reached n (station n)));
@@ -257,6 +259,7 @@ module _ (layout : KeyLayout) (fine : IsKeyLayout layout) (d : Board)
           (meetings n) (at n).finds));
     }
 
+-- the run of a layout's image is the model's, whatever the pins show, if the columns show keys of the layout alone
 pub any_pins : AnyPinsLaw
 any_pins layout fine pins tick low m small board few =
     works_alone layout fine (numbered pins tick) low m small board few

@@ -49,6 +49,7 @@ module _ (v : ℕ) (r : IsReleased v) where
       let b : Bool = if nat_lt k 10 then nat_lt o 20 || nat_lt k 9 else nat_le 16 o in
       chosen (nat_lt i 28) v (wired v a b) 255 (wired 255 a b) high (pulls a b)
 
+  -- the latch of a tick drives the frame's lines, whatever lights it shows
   pub same_lines : (old : ℕ) → IsReleased old → (frame : Frame) (o : ℕ)
       → latch_of (tick_latch old v frame o) ≡ frame_lines frame o
   same_lines old was frame o =

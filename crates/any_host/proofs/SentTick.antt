@@ -21,6 +21,7 @@ abbrev pub bits_to : (ℕ → Bool) → ℕ → List Bool
 bits_to bits zero = []
 bits_to bits (suc k) = bits_to bits k ++ bits k ∷ []
 
+-- the first k bits of a frame are k bits
 pub length_bits : (bits : ℕ → Bool) (k : ℕ) → length (bits_to bits k) ≡ k
 length_bits bits zero = refl
 length_bits bits (suc k) =
@@ -61,6 +62,7 @@ module _ (w : Wiring) (wires : AreWires w) (rules : IsRuleful w) (x y : ℕ) (lo
   abbrev E : ℕ → Ear
   E o = ear_to w (x + o)
 
+  -- in a tick with a sent frame the keyboard drives the clock as the frame says
   pub clk : (o : ℕ) → o < 628 → (w.keyboard (x + o)).clk ≡ (frame_lines (SentFrame byte) o).clk
   clk o l = ap (λ l. l.clk) (drives o (omega (arith, long, l)))
 
@@ -73,9 +75,11 @@ module _ (w : Wiring) (wires : AreWires w) (rules : IsRuleful w) (x y : ℕ) (lo
   let_go_there : (w.keyboard (x + 257)).clk ≡ true
   let_go_there = clk 257 (omega arith) ∙ sent_up byte 257 (omega arith)
 
+  -- from the look at data up to the last look the host lets data go
   pub host_dat : (o : ℕ) → 257 ≤ o → o ≤ 614 → (w.host (x + o)).dat ≡ true
   host_dat = lets_data w wires rules x looks at_clock at_data first there let_go_there
 
+  -- from the look at the clock up to the last look the host lets the clock go
   pub host_clk : (o : ℕ) → 256 ≤ o → o ≤ 593 → (w.host (x + o)).clk ≡ true
   host_clk = leaves w wires rules x looks at_clock at_data
 
@@ -160,6 +164,7 @@ module _ (w : Wiring) (wires : AreWires w) (rules : IsRuleful w) (x y : ℕ) (lo
         ap (λ i. (w.keyboard (x + i)).clk) (at3 ∙ z) ∙ clk (288 + 32 * k + 0) (omega (arith, few))
         ∙ sent_clock byte k 0 (omega arith) (omega (arith, few))
 
+    -- at each cell's begin the host sees the clock fall
     pub falls : fell w (x + (288 + 32 * k)) ≡ true
     falls = ap (λ i. fell w (x + i)) (sym at3) ∙ falls_at w wires x (suc (suc o)) high down
 
@@ -207,6 +212,7 @@ module _ (w : Wiring) (wires : AreWires w) (rules : IsRuleful w) (x y : ℕ) (lo
     level : (i : ℕ) → i ≤ 16 → (w.seen (x + (288 + 32 * k) + i)).dat ≡ frame_bit byte k
     level i l = by_level i l (frame_bit byte k) refl
 
+    -- with a cell's fall the host reads the cell's bit
     pub read : w.reads (x + (288 + 32 * k)) ≡ frame_bit byte k
     read = rules.reads (x + (288 + 32 * k)) (frame_bit byte k) falls level
 
@@ -232,11 +238,13 @@ module _ (w : Wiring) (wires : AreWires w) (rules : IsRuleful w) (x y : ℕ) (lo
     not_ten : (length (bits k) == 10) ≡ false
     not_ten = grind (arith, nat_tests, long_bits, few)
 
+    -- after a cell's fall the host has taken the cell's bit
     pub fell_is : E (289 + 32 * k) ≡ record (E (288 + 32 * k)) { mode = Takes (bits (suc k)) }
     fell_is =
         let z : x + (289 + 32 * k) ≡ suc (x + (288 + 32 * k)) = omega arith in
         ap (ear_to w) z ∙ fallen k (omega (arith, few)) h ∙ rw not_ten refl
 
+    -- in the rest of a cell the keyboard lets no clock fall
     pub no_fall_in : (i : ℕ) → i < 31 → NoFall w wires (x + (289 + 32 * k + i))
     no_fall_in i l = by (nat_le 16 (suc i)) refl
       where
@@ -368,6 +376,7 @@ module _ (w : Wiring) (wires : AreWires w) (rules : IsRuleful w) (x y : ℕ) (lo
         (ap (λ c. (ear_to w c).mode) (sym z) ∙ ap (λ (v : Ear). v.mode) (same ∙ fell_is 9 (omega arith) h))
         (length_bits (frame_bit byte) 10)
 
+    -- at the next tick start a host that counts eleven falls has taken the byte, and nothing is under way
     pub sent : Kept 0 then_has (ear_to w y)
     sent =
         to_next w wires x y (SentFrame byte) long drives 0 609 then_has (omega (arith, long)) no_more

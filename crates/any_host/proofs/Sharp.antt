@@ -6,6 +6,7 @@ use Rattle.any_host.proofs.LastLook.{starts, frames, meetings, wires, rules, cut
 use Rattle.any_host.proofs.Loses.{loses, ends_eleven}
 use Rattle.any_host.proofs.TakesTwice.{takes_twice, ends_ten}
 
+-- one cycle less for a host that counts ten falls, or one more for one that counts eleven, and a byte is heard wrong
 pub sharp : SharpLaw
 sharp = (
   record {

@@ -26,6 +26,7 @@ module _ (w : Wiring) (wires : AreWires w) (x y : ℕ) (frame : Frame) (long : x
       (λ i m. let p : x + (o + i) ≡ x + o + i = omega arith in
       subst (λ c. NoFall w wires c) p (h (o + i) (omega arith) (omega (arith, m)))) k)
 
+  -- in a tick without a frame the host takes and gives nothing
   pub still : (first : Ear) → frame ≡ NoFrame → Kept 0 first (e x) → Kept 0 first (e y)
   still first is k =
       let z : x ≡ x + 0 = omega arith in
@@ -36,12 +37,14 @@ module _ (w : Wiring) (wires : AreWires w) (x y : ℕ) (frame : Frame) (long : x
   -- a frame that is cut at a look
   module _ (byte look : ℕ) (is : frame ≡ CutFrame byte look) (at : IsLook look) (far : look ≤ 334)
       (low : (w.pins (x + (260 + look))).clk ≡ false) (first : Ear) (rests : Kept 0 first (e x)) where
+    -- the look that cuts a frame is long before the next tick start
     pub room : x + (266 + look) ≤ y
     room = omega (arith, long, far)
 
     clk : (o : ℕ) → o < 266 + look → (w.keyboard (x + o)).clk ≡ (frame_lines (CutFrame byte look) o).clk
     clk o l = ap (λ l. l.clk) (drives o (omega (arith, room, l))) ∙ ap (λ f. (frame_lines f o).clk) is
 
+    -- up to two cycles after the look the clock is that of a sent frame
     pub as_sent : (o : ℕ) → o < 262 + look → (w.keyboard (x + o)).clk ≡ (frame_lines (SentFrame byte) o).clk
     as_sent o l = clk o (omega (arith, l, far)) ∙ ap (λ l. l.clk) (cut_as_sent byte look at o l)
 
@@ -60,6 +63,7 @@ module _ (w : Wiring) (wires : AreWires w) (x y : ℕ) (frame : Frame) (long : x
         ap (λ o. (frame_lines (SentFrame byte) o).clk) p
         ∙ sent_clock byte k (26 + i) (omega (arith, l)) (omega (arith, l, few)) ∙ up
 
+    -- from two cycles before the look on the keyboard lets the clock go
     pub up_late : (o : ℕ) → 258 + look ≤ o → x + o < y → (w.keyboard (x + o)).clk ≡ true
     up_late o l m = ap (λ l. l.clk) (drives o m) ∙ ap (λ f. (frame_lines f o).clk) is ∙ by (nat_lt o (262 + look)) refl
       where
@@ -105,6 +109,7 @@ module _ (w : Wiring) (wires : AreWires w) (x y : ℕ) (frame : Frame) (long : x
                   ∙ sent_clock byte k i (omega (arith, l)) (omega (arith, l, few)) ∙ below,
             )
 
+    -- at a cell's fall before the look the host has counted at most the cells before it, and no byte more
     pub cells : (k : ℕ) → k ≤ 10 → 288 + 32 * k ≤ 260 + look → Kept k first (e (x + (288 + 32 * k)))
     cells zero l m =
         let z : 288 ≡ 288 + 32 * 0 = omega arith in

@@ -62,11 +62,13 @@ took =
     ap length (same_taken 577 (omega arith) ∙ ap (taken_at_tenth S) z
     ∙ tenth.at_tenth S (wires sent true) (rules sent true) 0 3000 room 0 small s_drives looks refl refl no_byte rests)
 
+-- a host that counts ten falls has taken the byte of a frame that its pull cuts at the last look
 pub takes_twice : HearsEach Tenth C starts (frames cut) (meetings Cut) → true ≡ false
 takes_twice h =
     one_or_more (length (taken_at_tenth C 577)) (length (taken_at_tenth C (577 + 2423))) took (grows 2423 577)
     (ap length (h.taken 1))
 
+-- this host begins no pull from the tenth fall up to 17 cycles after it
 pub ends_ten : EndsBy 17 Tenth C
 ends_ten c i nine is all falls go soon = by (nat_lt c 577) refl (nat_le 618 c) refl
   where

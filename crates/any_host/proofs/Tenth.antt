@@ -42,6 +42,7 @@ module _ (w : Wiring) (wires : AreWires w) where
   pub pulling : (c : ℕ) → (w.host c).clk ≡ false → t (suc c) ≡ t c
   pulling c pulls = no_count c (ap (λ b. b && (w.host c).dat && fell w c) pulls)
 
+  -- without a fall of the clock a host that counts ten falls takes no byte
   pub unfallen : (c : ℕ) → fell w c ≡ false → t (suc c) ≡ t c
   unfallen c none = no_count c (by (w.host c).clk (w.host c).dat)
     where
@@ -50,6 +51,7 @@ module _ (w : Wiring) (wires : AreWires w) where
       by true false = refl
       by false b = refl
 
+  -- while the keyboard doesn't let the clock fall such a host takes no byte
   pub quiet : (c : ℕ) → NoFall w wires c → t (suc c) ≡ t c
   quiet c none = by (w.host c).clk refl
     where
@@ -61,9 +63,11 @@ module _ (w : Wiring) (wires : AreWires w) where
   pub too_few : (c : ℕ) → AtMost 8 (ear_to w c).mode → t (suc c) ≡ t c
   too_few c l = adds_none c (few_bits (ear_to w c).mode (counts_in c) (w.reads c) l)
 
+  -- while it sends such a host takes no byte
   pub gives : (c byte falls : ℕ) → (ear_to w c).mode ≡ Gives byte falls → t (suc c) ≡ t c
   gives c byte falls is = adds_none c (ap (λ m. by_tenth m (counts_in c) (w.reads c)) is)
 
+  -- unless nine bits are taken such a host takes no byte
   pub other : (c : ℕ) (bits : List Bool) → (ear_to w c).mode ≡ Takes bits → (length bits == 9) ≡ false → t (suc c) ≡ t c
   other c bits is long =
       adds_none c

@@ -81,6 +81,7 @@ module _ (w : Wiring) (wires : AreWires w) (rules : IsRuleful w) (x y : ℕ) (lo
   whole_frame : frame_to 9 ++ frame_bit byte 9 ∷ true ∷ [] ≡ frame_bits byte
   whole_frame = refl
 
+  -- after the tenth fall a host that counts ten falls has taken the byte, once and right
   pub at_tenth : t (x + 577) ≡ t x ++ Some byte ∷ []
   at_tenth =
       let p : x + 0 ≡ x = omega arith in
@@ -111,6 +112,7 @@ module _ (w : Wiring) (wires : AreWires w) (rules : IsRuleful w) (x y : ℕ) (lo
       subst (λ c. NoFall w wires c) p
       (no_fall_in w wires rules x y long byte small drives looks at_clock at_data first rests 9 (omega arith) nine i l)
 
+  -- before the eleventh fall ten falls are counted at most
   pub ten_there : Kept 10 first (E 608)
   ten_there =
       let z : x + 577 + 31 ≡ x + 608 = omega arith in
@@ -181,6 +183,7 @@ module _ (w : Wiring) (wires : AreWires w) (rules : IsRuleful w) (x y : ℕ) (lo
     pub given : (ear_to w y).given ≡ first.given
     pub taken : t y ≡ t x ++ Some byte ∷ []
 
+  -- at the next tick start it has taken the byte, and nothing is under way
   pub took : Took
   took =
       let k : Kept 0 (E 609) (ear_to w y) =

@@ -26,6 +26,7 @@ module _ (w : Wiring) (wires : AreWires w) (x y : ℕ) (frame : Frame) (long : x
       let p : x + 0 ≡ x = omega arith in
       ap t (sym z) ∙ same_to w wires x 0 (y - x) (omega arith) (λ o l m. h o (omega (arith, m, long))) ∙ ap t p
 
+  -- in a tick without a frame a host that counts ten falls takes no byte
   pub still : frame ≡ NoFrame → t y ≡ t x
   still is =
       adds_none
@@ -138,5 +139,6 @@ module _ (w : Wiring) (wires : AreWires w) (x y : ℕ) (frame : Frame) (long : x
             subst (λ o. t (suc (x + o)) ≡ t (x + o)) p
             (in_cell k i (omega (arith, p, m, far)) (omega arith) (omega (arith, p, m)))
 
+    -- in a tick whose frame is cut such a host takes no byte
     pub cut : t y ≡ t x
     cut = adds_none each

@@ -102,6 +102,7 @@ module _ (wanted : BoardRun) (image : List ℕ) (layout : KeyLayout) (text : Lis
       with_history (MayRun wanted image probes) (history_of layout text) history answer probes left is may
 
   module _ (history : KeyHistory) (is : history_of layout text ≡ Ok history) where
+    -- what `board` puts of a run is what may be said of the run of that key file
     pub boarded : (s : Story) (probes left : List Watch) (result : Result Spoken Refusal) (x y : Shown)
         → s ≡ board_story wanted image history → IsSpoken (MayBoard wanted.prints_what s probes left) result x y
         → IsSpoken (λ answer taking log. MaySayOfBoard wanted image layout text answer probes (left_after left taking log)) result x y

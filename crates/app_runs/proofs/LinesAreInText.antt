@@ -105,6 +105,7 @@ module _ (layout : KeyLayout) (history : KeyHistory) (command : RunCommand) (pri
       let same : r.0 ≡ text = let e = r.3 in cc in
       (r.1, subst (λ v. IsRunText command layout history v r.1) same r.2)
 
+  -- with a quiet host the text that is printed has the line of each byte of each key, in time
   pub printed : KeysComeInTime → IsHostQuiet history → (text : List ℕ) (probes : List Watch) (left : Left)
       → MayAnswerRun command layout history (Ok text) probes left
       → (run : Outcome) × IsRunText command layout history text run
@@ -120,6 +121,7 @@ module _ (layout : KeyLayout) (history : KeyHistory) (command : RunCommand) (pri
             (in_time layout history (listed run.starts) (length run.starts - 1) n edge code quiet of.1.1.cadence l struck),
       )
 
+  -- so it has from the tick on from which the host is quiet
   pub printed_from : KeysComeInTimeFrom → (text : List ℕ) (probes : List Watch) (left : Left)
       → MayAnswerRun command layout history (Ok text) probes left
       → (run : Outcome) × IsRunText command layout history text run

@@ -103,6 +103,7 @@ said_at_end : (may : May) (result : Result (Unit {0}) SinkFault) (text : List �
 said_at_end may (Ok done) text x y h said broken = (text, [], h Whole, said)
 said_at_end may (Err fault) text x y h said broken = (Ok text, [], h (CutOff x y), broken)
 
+-- what `sample` puts is the text that it may answer, whole or broken off
 pub said_sample : (count : ℕ) (result : Result (Unit {0}) SinkFault) (text : List ℕ) (x y : Shown) (probes left : List Watch)
     → MayAnswerSample count (Ok text) probes left
     → OnOk result (IsSaid x y text) → OnErr result (IsBrokenOff x y text)
@@ -162,6 +163,7 @@ said_by_run c d layout text probes left result x y is h =
     subst (λ (k : RunCommand). IsSpoken (λ answer taking log. MaySayOfText k layout text answer probes (left_after left taking log)) result x y)
     (sym is) h
 
+-- a report that isn't put yet is what the same command may say once it is
 pub reported_unsaid : (c d : RunCommand) (layout : KeyLayout) (text : List ℕ) (probes left : List Watch)
     (said : Result (Vec ℕ Global) Refusal) (result : Result Spoken Refusal) (x : Shown) → c ≡ d
     → result ≡ still_to_say said → ((taking : Taking) → MaySayOfText d layout text (answer_of said) probes (left_so left taking))

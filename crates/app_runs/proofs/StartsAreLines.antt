@@ -12,6 +12,7 @@ use Rattle.subsystem.specs.Texts.{log_text}
 use Rattle.subsystem.proofs.Lines.{are_lines}
 use Rattle.app_runs.specs.RunTexts.{text_after_log, run_text, start_line, start_lines}
 
+-- the line of a tick start ends with a line's end
 pub ends : (number stamp : ℕ) → EndsLine (start_line number stamp)
 ends number stamp = ends_afterwards (codes "start " ++ decimal number ++ codes " " ++ decimal stamp) (codes "\n") ([], refl)
 
@@ -40,16 +41,19 @@ module _ (ticks steps : Bool) (run : Outcome) where
       lines_after (log_text run.log) (if ticks then start_lines 0 run.starts else []) (are_lines run.log) (ticks_lines ticks run.starts)
 
   module _ (x a b z : Shown) where
+    -- if the log, the tick starts and the state are said, the text of the run is said
     pub whole_run : IsSaid x a (log_text run.log) → IsSaid a b (if ticks then start_lines 0 run.starts else [])
         → IsSaid b z (if steps then state_text_of run.end run.steps run.cycles else []) → IsSaid x z (run_text ticks steps run)
     whole_run h k l =
         said_then_said x b z _ _ both_lines (said_then_said x a b (log_text run.log) _ (are_lines run.log) h k) l
 
+    -- if the state is broken off, the text of the run is
     pub cut_in_end : IsSaid x a (log_text run.log) → IsSaid a b (if ticks then start_lines 0 run.starts else [])
         → IsBrokenOff b z (if steps then state_text_of run.end run.steps run.cycles else []) → IsBrokenOff x z (run_text ticks steps run)
     cut_in_end h k l =
         said_then_broken x b z _ _ both_lines (said_then_said x a b (log_text run.log) _ (are_lines run.log) h k) l
 
+  -- if the tick starts are broken off, the text of the run is
   pub cut_in_starts : (x a z : Shown) → IsSaid x a (log_text run.log) → IsBrokenOff a z (if ticks then start_lines 0 run.starts else [])
       → IsBrokenOff x z (run_text ticks steps run)
   cut_in_starts x a z h k =
@@ -61,12 +65,14 @@ module _ (ticks steps : Bool) (run : Outcome) where
   starts_after_log x a z h k =
       record { between = a; said = h; broken = broken_before a z _ _ (ticks_lines ticks run.starts) k }
 
+  -- if the state is broken off, the text is broken off after the log
   pub end_after_log : (x a b z : Shown) → IsSaid x a (log_text run.log) → IsSaid a b (if ticks then start_lines 0 run.starts else [])
       → IsBrokenOff b z (if steps then state_text_of run.end run.steps run.cycles else [])
       → IsBrokenAfter x z (log_text run.log) (text_after_log ticks steps run)
   end_after_log x a b z h k l =
       record { between = a; said = h; broken = said_then_broken a b z _ _ (ticks_lines ticks run.starts) k l }
 
+  -- if the log is broken off, the text of the run is
   pub cut_in_log : (x z : Shown) → IsBrokenOff x z (log_text run.log) → IsBrokenOff x z (run_text ticks steps run)
   cut_in_log x z h =
       broken_before x z _ _ both_lines (broken_before x z (log_text run.log) _ (are_lines run.log) h)

@@ -75,6 +75,7 @@ history_is count =
       end = stroke_start m;
     }) n
 
+-- the strokes of `sample`, up to 10,000, are an accepted history for the sample layout
 pub sample_accepted : (count : ℕ) → count ≤ 10000 → IsAcceptedFor us84 (sample_history count)
 sample_accepted count few =
     let n = many 0 count in
@@ -90,6 +91,7 @@ edges_more a (suc n) j h =
     let later : suc n + 1 ≡ suc (n + 1) = omega arith in
     ap (λ m. flat_map stroke_edges (range_with_len a m)) later ∙ ap (λ es. stroke_edges a ++ es) (edges_more (a + 1) n j (omega (arith, h)))
 
+-- with the press and the release of one stroke more the edges are those of one stroke more
 pub edges_pushed : (k t u place : ℕ) (xs ys zs : List Edge)
     → xs ≡ flat_map stroke_edges (range_with_len 0 k) → t ≡ stroke_start k → u ≡ t + 10240 → place ≡ stroke_key k
     → ys ≡ xs ++ record { stamp = t; place = place; down = true } ∷ [] → zs ≡ ys ++ record { stamp = u; place = place; down = false } ∷ []
@@ -98,6 +100,7 @@ edges_pushed k t u place xs ys zs was begins ends at first second =
     let up : u ≡ stroke_start k + 10240 = ends ∙ ap (λ n. n + 10240) begins in
     second ∙ rw (first, was, up, begins, at) (sym (edges_more 0 k k (omega arith)))
 
+-- with the take of one stroke more the takes are those of one stroke more
 pub takes_pushed : (k t : ℕ) (xs ys : List HostEvent) → xs ≡ map stroke_take (range_with_len 0 k) → t ≡ stroke_start k + 14336
     → ys ≡ xs ++ record { stamp = t; act = Take } ∷ [] → ys ≡ map stroke_take (range_with_len 0 (k + 1))
 takes_pushed k t xs ys was in_its_place more = more ∙ rw (was, in_its_place) (sym (map-range_with_len_more stroke_take 0 k k (omega arith)))

@@ -12,10 +12,12 @@ pub and-left : (a b : Bool) → (a && b) ≡ true → a ≡ true
 and-left true b h = refl
 and-left false b h = h
 
+-- if an and is true, its second part is
 pub and-right : (a b : Bool) → (a && b) ≡ true → b ≡ true
 and-right true b h = h
 and-right false b h = absurd cc
 
+-- if an and is true, both parts are
 pub both : (a b : Bool) → (a && b) ≡ true → (a ≡ true) × (b ≡ true)
 both a b h = (and-left a b h, and-right a b h)
 
@@ -37,6 +39,7 @@ same_of a b h = grind (arith, nat_tests, h)
 pub by_byte : (f g : ℕ → ℕ) → every_below (λ b. f b == g b) 256 ≡ true → (b : ℕ) → b < 256 → f b ≡ g b
 by_byte f g e b l = same_of (f b) (g b) (at_each (λ b. f b == g b) 256 e b l)
 
+-- functions found to agree on each number below a bound agree on each such number
 pub by_below : (k : ℕ) (f g : ℕ → ℕ) → every_below (λ b. f b == g b) k ≡ true → (b : ℕ) → b < k → f b ≡ g b
 by_below k f g e b l = same_of (f b) (g b) (at_each (λ b. f b == g b) k e b l)
 
@@ -45,6 +48,7 @@ abbrev pub same : Bool → Bool → Bool
 same true b = b
 same false b = not b
 
+-- tests that are found to agree are equal
 pub same_is : (a b : Bool) → same a b ≡ true → a ≡ b
 same_is true true h = refl
 same_is true false h = absurd cc
@@ -63,6 +67,7 @@ pair_tests j k p q e a b l m =
     same_is (p a b) (q a b)
     (at_each (λ b. same (p a b) (q a b)) k (at_each (λ a. every_below (λ b. same (p a b) (q a b)) k) j e a l) b m)
 
+-- functions found to agree on each pair of numbers below two bounds agree on each such pair
 pub pair_by : (j k : ℕ) (f g : ℕ → ℕ → ℕ)
     → every_below (λ a. every_below (λ b. f a b == g a b) k) j ≡ true → (a b : ℕ) → a < j → b < k → f a b ≡ g a b
 pair_by j k f g e a b l m =

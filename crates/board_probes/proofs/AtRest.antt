@@ -72,6 +72,7 @@ neither : (b : Bool) → cond b false false ≡ false
 neither true = refl
 neither false = refl
 
+-- a probe that isn't armed meets nothing
 pub unmet : (kind : ℕ) (arms : Option Arms) (ear : Ear) (s : Sight) → is_none arms ≡ true → met_as kind arms ear s ≡ false
 unmet kind None ear s e = neither (kind == line_kind)
 unmet kind (Some arms) ear s e = absurd (cc e)

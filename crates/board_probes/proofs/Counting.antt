@@ -19,6 +19,7 @@ use Rattle.board_probes.specs.Transfers.{Ear}
 abbrev pub as_counted : Watch → ℕ → Option ℕ → Ear → Watch
 as_counted w count first ear = record { kind = w.kind; counted = record { arms = w.counted.arms; count = count; first = first }; ear = ear }
 
+-- probes that counted and heard the same are the same
 pub same_counts : (w : Watch) (m n : ℕ) (f g : Option ℕ) (a b : Ear) → m ≡ n → f ≡ g → a ≡ b → as_counted w m f a ≡ as_counted w n g b
 same_counts w m n f g a b d e h =
     ap (λ (k : ℕ). as_counted w k f a) d ∙ ap (λ (o : Option ℕ). as_counted w n o a) e ∙ ap (as_counted w n g) h
@@ -26,6 +27,7 @@ same_counts w m n f g a b d e h =
 grown_twice : (top count m n : ℕ) → min (min (count + suc m) top + suc n) top ≡ min (count + suc (m + suc n)) top
 grown_twice top count m n = omega arith
 
+-- a count that grows by m and then by n grows by m + n
 pub grown_by : (count m n : ℕ) → grown count (m + n) ≡ grown (grown count m) n
 grown_by count zero zero = refl
 grown_by count zero (suc n) = let e : 0 + suc n ≡ suc n = omega arith in ap (grown count) e
@@ -86,6 +88,7 @@ module _ (s : Story) (kind : ℕ) (arms : Option Arms) where
       (met_from s kind arms (step + 1 + m) n (ear_from s kind (step + 1) m next)))
       ∙ ap (λ (k : ℕ). (here ++ met_from s kind arms (step + 1) m next) ++ met_from s kind arms k n (ear_from s kind (step + 1) m next)) e
 
+-- what a probe counts through some steps and then through others is what it counts through all of them
 pub counted_both : (s : Story) (k m n : ℕ)
     → k ≤ m → m ≤ n → (w : Watch) → counted_between s k n w ≡ counted_between s m n (counted_between s k m w)
 counted_both s k m n a b w =
@@ -138,10 +141,12 @@ counted_once s k w =
     ∙ ap (λ (i : ℕ). with_met (met_from s w.kind w.counted.arms i 1 w.ear) (ear_from s w.kind i 1 w.ear) w) e
     ∙ met_if_so (suc k) (state_at s (suc k)) w
 
+-- functions that say the same of everything give the same list
 pub map_as : {X Y : Type 0} (f g : X → Y) → ((x : X) → f x ≡ g x) → (xs : List X) → map f xs ≡ map g xs
 map_as f g h [] = refl
 map_as f g h (x ∷ xs) = ap (λ y. y ∷ map f xs) (h x) ∙ ap (λ ys. g x ∷ ys) (map_as f g h xs)
 
+-- a function that changes nothing leaves a list as it is
 pub map_same : {X : Type 0} (f : X → X) → ((x : X) → f x ≡ x) → (xs : List X) → xs ≡ map f xs
 map_same f h [] = refl
 map_same f h (x ∷ xs) = ap (λ y. y ∷ xs) (sym (h x)) ∙ ap (λ ys. f x ∷ ys) (map_same f h xs)

@@ -40,6 +40,7 @@ all_heard (s ∷ more) o fs =
     ∙ all_heard more (Some s) (fs ++ here)
     ∙ ap (λ (v : List Fall). ear_with (last_of (Some s) more) (last_eleven v)) (append_assoc fs here (falls_after s.lines more))
 
+-- of all samples the last one and the last eleven falls of the clock are kept
 pub keeps_eleven_falls : KeepsElevenFalls
 keeps_eleven_falls samples = all_heard samples None []
 
@@ -56,6 +57,7 @@ by_fall : (b : Bool) (fs all : List Fall) (s : Sample) → all ≡ fs ++ (cond b
 by_fall true fs all s e = ap transfer_by (one_more fs (fall_at s) ∙ ap last_eleven (sym e))
 by_fall false fs all s e = refl
 
+-- a sample completes a transfer exactly if it is a fall, and the last eleven falls are a transfer
 pub completes_by_falls : CompletesByFalls
 completes_by_falls samples s =
     ap (completed s) (keeps_eleven_falls samples)

@@ -15,6 +15,7 @@ looked_each : (step : ℕ) (o : Option (World Beside)) (probes : List Watch) →
 looked_each step None probes = map_same (looked_if step None) (λ w. refl) probes
 looked_each step (Some v) probes = refl
 
+-- after looks at each state of the first n steps each probe has counted through these steps
 pub looks_count : LooksCount
 looks_count s zero probes = map_same (counted_between s 0 0) (counted_nowhere s 0) probes
 looks_count s (suc n) probes =

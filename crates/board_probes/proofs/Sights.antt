@@ -12,6 +12,7 @@ use Rattle.board_probes.specs.Probes.{Sight, sight_in, sight_of}
 abbrev sight : Cpu → ℕ → Outside → Sight
 sight cpu cycle o = record { cpu = cpu; cycle = cycle; lines = outside_wires cpu.p2 o }
 
+-- a joint machine in a state of the run is seen as that state is
 pub same_sight : (m : Machine) (w : World Beside)
     → m.mcu ≡ w.cpu → m.outside ≡ outside_of w.board → m.cycle ≡ w.cycle → sight_of m ≡ sight_in w
 same_sight m w cpu outside cycle =

@@ -49,6 +49,7 @@ same_parts a b log end mcu steps cycles =
     ∙ ap (λ (v : ℕ). whole b.log b.end b.mcu v a.cycles) steps
     ∙ ap (λ (v : ℕ). whole b.log b.end b.mcu b.steps v) cycles
 
+-- a program has one run on the board under a history
 pub boards_alike : (s : Story) (a b : Outcome) → IsOutcome s a → IsOutcome s b → a ≡ b
 boards_alike s a b p q =
     let steps = same_steps s a b p q in

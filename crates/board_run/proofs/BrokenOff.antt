@@ -29,6 +29,7 @@ module _ (s : Story) where
       → EndsAfter s (suc h.last)
   ends_after broken first probes h = ends_within s (4096 + s.stop) (suc h.last) h.led_to h.goes_on h.made (omega arith)
 
+  -- if a put fails in what a step says, the log of the whole run is broken off
   pub log_broken_off : (before after : Shown) (first probes : List Watch)
       → BrokeOff Stamp s (IsLogBrokenAt s before after) first probes → IsLogBrokenOff s before after
   log_broken_off before after first probes h =

@@ -17,6 +17,7 @@ abbrev pub outcome_at : ℕ → World Beside → End → Outcome
 outcome_at k w end = record { log = log_of w.board; end = end; mcu = w.cpu; steps = k; cycles = w.cycle }
 
 module _ (s : Story) where
+  -- a run that has gone on to a state and ends there has that outcome
   pub comes_to : (k : ℕ) (w : World Beside) (end : End) → GoesOnTo Stamp s k → state_at s k ≡ Some w → EndsAt Stamp s k w end
       → IsOutcome s (outcome_at k w end)
   comes_to k w end on there h =

@@ -16,6 +16,7 @@ module _ (s : Story) where
   the_run : EndsAfter s 0
   the_run = ends_within s (4096 + s.stop) 0 (joint_start_of s.held) tt refl (omega arith)
 
+  -- the end of a run on the board, if it has one
   pub end_of : Option End
   end_of = Some the_run.0.end
 

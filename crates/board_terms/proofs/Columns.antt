@@ -17,6 +17,7 @@ clears row rows = same_bits (column_keys (bit_and rows (255 - 1 * 2 ^ row % 256)
 abbrev sets : ℕ → ℕ → Bool
 sets row rows = same_bits (column_keys (bit_or rows (1 * 2 ^ row % 256))) (set (column_keys rows) row false)
 
+-- to clear a row's bit in a column's byte puts the row's key down, and leaves the others
 pub row_down : (rows row : ℕ) → rows < 256 → row < 8
     → column_keys (bit_and rows (255 - 1 * 2 ^ row % 256)) ≡ set (column_keys rows) row true
 row_down rows row l r = same_bits-true (column_keys (bit_and rows (255 - 1 * 2 ^ row % 256))) (set (column_keys rows) row true)
@@ -24,6 +25,7 @@ row_down rows row l r = same_bits-true (column_keys (bit_and rows (255 - 1 * 2 ^
     (let p : every_below (λ row. every_below (clears row) 256) 8 ≡ true = refl in
     at_each (λ row. every_below (clears row) 256) 8 p row r) rows l)
 
+-- to set a row's bit in a column's byte puts the row's key up, and leaves the others
 pub row_up : (rows row : ℕ) → rows < 256 → row < 8 → column_keys (bit_or rows (1 * 2 ^ row % 256)) ≡ set (column_keys rows) row false
 row_up rows row l r = same_bits-true (column_keys (bit_or rows (1 * 2 ^ row % 256))) (set (column_keys rows) row false)
     (at_each (sets row) 256
@@ -47,6 +49,7 @@ key_turned (first ∷ columns) (suc column) row rows down c r e =
     ∙ ap (λ n. column_keys first ++ set (keys_in columns) n down) (sym at)
     ∙ sym (set-append_right (column_keys first) (keys_in columns) 8 (8 * suc column + row) down refl past)
 
+-- to write a column with one row changed is to make that key's edge
 pub edge_made : (columns : List ℕ) (place rows : ℕ) (down : Bool) → place / 8 < length columns
     → column_keys rows ≡ set (column_keys (get_or columns (place / 8) 0)) (place % 8) down
     → keys_in (set columns (place / 8) rows) ≡ turned place down (keys_in columns)
@@ -82,6 +85,7 @@ shows_itself rows = eqb (rows_by (column_keys rows)) rows
 shown_back : (rows : ℕ) → rows < 256 → rows_by (column_keys rows) ≡ rows
 shown_back rows l = eqb-true (rows_by (column_keys rows)) rows (at_each shows_itself 256 refl rows l)
 
+-- a column that is read as keys and written as rows is the byte that it was
 pub column_shown : (columns : List ℕ) (column : ℕ) → column < length columns → get_or columns column 0 < 256
     → column_rows (keys_in columns) column ≡ get_or columns column 0
 column_shown columns column c l =
@@ -108,6 +112,7 @@ reads_column columns p1 n c l =
     let less : p1 % 16 < length columns = omega (arith, n, c) in
     sym (column_shown columns (p1 % 16) less l) ∙ ap (λ b. if b then column_rows (keys_in columns) (p1 % 16) else 255) (sym in_range)
 
+-- a port 1 that selects no column reads FF (hexadecimal)
 pub reads_none : (columns : List ℕ) (p1 : ℕ) → 12 ≤ p1 % 16 → 255 ≡ rows_of (keys_in columns) p1
 reads_none columns p1 c =
     let out : nat_lt (p1 % 16) 12 ≡ false = grind (arith, nat_tests, c) in

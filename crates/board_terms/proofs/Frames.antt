@@ -18,6 +18,7 @@ masked b =
 abbrev by_masks : ℕ → Bool
 by_masks b = same_bits (masked b) (data_bits b)
 
+-- the bits of a byte, each by its mask, are its data bits, lowest first
 pub masks_give : (b : ℕ) → b < 256 → masked b ≡ data_bits b
 masks_give b l = same_bits-true (masked b) (data_bits b) (at_each by_masks 256 refl b l)
 
@@ -34,6 +35,7 @@ abbrev reads_back : ℕ → Bool
 unfolding byte_of
 reads_back b = is_some_of b (byte_of (frame_bits b))
 
+-- a byte's frame is read back as that byte
 pub read_back : (b : ℕ) → b < 256 → byte_of (frame_bits b) ≡ Some b
 unfolding byte_of
 read_back b l = some_is b (byte_of (frame_bits b)) (at_each reads_back 256 refl b l)
@@ -47,6 +49,7 @@ all_given_back : each_bit
     (λ c. each_bit (λ d. each_bit (λ e. each_bit (λ f. each_bit (λ g. each_bit (λ h. given_back a b c d e f g h)))))))) ≡ true
 all_given_back = refl
 
+-- the data bits of the number of eight bits are these bits
 pub bits_of_value : (a b c d e f g h : Bool) → data_bits (value (a ∷ b ∷ c ∷ d ∷ e ∷ f ∷ g ∷ h ∷ [])) ≡ a ∷ b ∷ c ∷ d ∷ e ∷ f ∷ g ∷ h ∷ []
 bits_of_value a b c d e f g h =
     same_bits-true (data_bits (value (a ∷ b ∷ c ∷ d ∷ e ∷ f ∷ g ∷ h ∷ []))) (a ∷ b ∷ c ∷ d ∷ e ∷ f ∷ g ∷ h ∷ [])

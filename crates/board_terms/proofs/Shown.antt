@@ -15,6 +15,7 @@ use Rattle.board_terms.specs.Laws.{AreFirst, EdgesShown, FirstEdgesShown}
 pub skip : {X : Type 0} (p : X → Bool) (x : X) (xs : List X) → p x ≡ false → filter p (x ∷ xs) ≡ filter p xs
 skip p x xs h = ap (λ c. if c then x ∷ filter p xs else filter p xs) h
 
+-- an element that passes a test stays at the front
 pub keep : {X : Type 0} (p : X → Bool) (x : X) (xs : List X) → p x ≡ true → filter p (x ∷ xs) ≡ x ∷ filter p xs
 keep p x xs h = ap (λ c. if c then x ∷ filter p xs else filter p xs) h
 
@@ -46,6 +47,7 @@ none_down zero place = refl
 none_down (suc n) zero = refl
 none_down (suc n) (suc place) = none_down n place
 
+-- edges made in their order, from all keys up, show each key as its edges say
 pub edges_shown : EdgesShown
 edges_shown edges at place l =
     shown_from edges all_up place refl l ∙ ap (λ b. last_of b (of_place place edges)) (none_down 96 place)
@@ -80,6 +82,7 @@ none_made cycle place e [] order h = not_made cycle place e [] h
 none_made cycle place e (f ∷ fs) order h =
     not_made cycle place e (f ∷ fs) h ∙ none_made cycle place f fs order.1 (later_not cycle e f order.0 h)
 
+-- edges in order without the first are in order
 pub tail_in_order : (e : Edge) (es : List Edge) → AreInOrder (e ∷ es) → AreInOrder es
 tail_in_order e [] order = tt
 tail_in_order e (f ∷ fs) order = order.1
@@ -95,6 +98,7 @@ firsts (e ∷ es) cycle (suc count) place order first =
     (firsts es cycle count place (tail_in_order e es order)
     (record { made = λ i x l g. first.made (suc i) x (omega (arith, l)) g; left = λ x g. first.left x g }))
 
+-- the edges up to a cycle, made in order, show the keys that are down at it
 pub first_edges_shown : FirstEdgesShown
 first_edges_shown edges cycle count place order at first l =
     shown_from (take count edges) all_up place refl l ∙ ap (λ b. last_of b (of_place place (take count edges))) (none_down 96 place)

@@ -31,6 +31,7 @@ module _ (edges : List Edge) (events : List HostEvent) (program : List ℕ) wher
   said w None h = h
   said w (Some v) h = record { chip = h.0; time = h.1; latch = h.2 }
 
+  -- a step of the chip by the board's levels is the step of the board's processor
   pub next_is : (w : World Beside) → IsNextOf edges events program w (joint_step d program w)
   next_is w = said w (joint_step d program w) (next_by w (stepped program (seen d w) w.cpu))
 
@@ -53,6 +54,7 @@ module _ (edges : List Edge) (events : List HostEvent) (program : List ℕ) wher
         wired n w r ∙ ap (λ c. after (next_of (seen d w) c) c) (ih w r)
         ∙ one_on w v (stepped program (seen d w) w.cpu) s
 
+    -- the chip after n steps is the processor of the board's run after n steps
     pub follows : (n : ℕ) (w : World Beside) → run_at d program from n ≡ Some w → chips n ≡ chip_of program w.cpu
     follows zero w r = begun ∙ ap (λ m. chip_of program m) (ap (cpu_or from.cpu) r)
     follows (suc n) w r = follows_by n (run_at d program from n) w (follows n) refl r

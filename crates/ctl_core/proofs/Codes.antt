@@ -14,6 +14,7 @@ same None (Some n) = false
 same (Some m) None = false
 same (Some m) (Some n) = eqb m n
 
+-- answers that the test finds the same are the same
 pub same-true : (o p : Option ℕ) → same o p ≡ true → o ≡ p
 same-true None None h = refl
 same-true None (Some n) h = absurd cc
@@ -25,11 +26,13 @@ abbrev pub in_table : ℕ → Bool
 unfolding translated scan_codes
 in_table k = eqb k 131 || (eqb k 132 || same (slice_get SCAN_CODES k) (translated k))
 
+-- if an or of three is true and the first two parts are false, the third is true
 pub or-right : (a b c : Bool) → a ≡ false → b ≡ false → (a || (b || c)) ≡ true → c ≡ true
 or-right true b c h k l = absurd cc
 or-right false true c h k l = absurd cc
 or-right false false c h k l = l
 
+-- but for its two codes above the table, the table gives each key's scan code
 pub tabled : (b : ℕ) → b < 256 → eqb b 131 ≡ false → eqb b 132 ≡ false → slice_get SCAN_CODES b ≡ translated b
 unfolding translated scan_codes
 tabled b h k l = same-true (slice_get SCAN_CODES b) (translated b)

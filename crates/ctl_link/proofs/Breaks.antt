@@ -38,6 +38,7 @@ module _ {F : Type 0} (breaks : F → Bool) where
   kept_after now p l keeps since e early =
       keeps since (ap (λ (q : LinkEnd F). pulled q.link) (unbroken now p (pulled_idle p.link since e)) ∙ e) early
 
+  -- a pull that is said to begin after the break began before it or with it
   pub begun_after : (now : ℕ) (p : LinkEnd F) (l : Link F) → BeginsPull now (broken_off breaks now p).link l → BeginsPull now p.link l
   begun_after now p l begins e =
       begins (ap (λ (q : LinkEnd F). q.link) (unbroken now p (ap is_busy e)) ∙ e)
@@ -64,6 +65,7 @@ module _ {F : Type 0} (breaks : F → Bool) where
   by_rest true false i now p x is e = inl (settles_busy now p x e)
   by_rest false a i now p x is e = inl (settles_busy now p x e)
 
+  -- a byte under way stays so, or was broken off, after the controller has settled
   pub breaks_or_not : (now : ℕ) (p : LinkEnd F) (x : F) → p.link ≡ Busy x → Stays x now (settled now (broken_off breaks now p)).port.link
   breaks_or_not now p x e =
       subst (λ l. Stays x now

@@ -11,11 +11,14 @@ module _ (F : Type 0) (now : ℕ) (p q r : LinkEnd F) (took : q ≡ (takes_input
   by_parts : r ≡ (settled now p).port
   by_parts = moved ∙ ap (λ (x : LinkEnd F). moves_link now x) took
 
+  -- after both parts of settling the output buffer is empty unless the link is held
   pub empty_after : IsEmptyUnlessHeld p → IsEmptyUnlessHeld r
   empty_after h = subst (λ (x : LinkEnd F). IsEmptyUnlessHeld x) (sym by_parts) (keeps_empty now p h)
 
+  -- both parts of settling keep a pull of the clock for 64 cycles
   pub pull_kept : KeepsPull now p.link r.link
   pull_kept = subst (λ (x : LinkEnd F). KeepsPull now p.link x.link) (sym by_parts) (keeps_pull F now p)
 
+  -- both parts of settling begin a pull in this cycle, or none
   pub pull_begun : BeginsPull now p.link r.link
   pull_begun = subst (λ (x : LinkEnd F). BeginsPull now p.link x.link) (sym by_parts) (begins_pull F now p)

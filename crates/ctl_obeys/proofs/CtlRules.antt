@@ -98,6 +98,7 @@ module _ (keyboard : ℕ → Lines) (happens : ℕ → Happening)
   abbrev M : ℕ → Mode
   M c = (ear_to W c).mode
 
+  -- the wires between keyboard and controller are wires
   pub wires : AreWires W
   wires = record {
     clock = at_once (λ c. (keyboard c).clk) (λ c. (drive (L c)).clk);
@@ -302,6 +303,7 @@ module _ (keyboard : ℕ → Lines) (happens : ℕ → Happening)
           (from_busy c (happens c) (S c) (Send byte (suc edges))
           (late_fell c (happens c) (S c) (Busy (Send byte edges)) is fb ∙ rw t refl ∙ ap (λ n. Busy (Send byte n)) one))
 
+  -- what the controller has under way is what an ear on the wires has
   pub tied : (c : ℕ) → Rel c (L c) (M c)
   tied zero = refl
   tied (suc c) = step c (L c) refl (tied c) (f c) refl
@@ -319,6 +321,7 @@ module _ (keyboard : ℕ → Lines) (happens : ℕ → Happening)
         | inr ends ↦ absurd (let long : s + 64 ≤ c + n = ends.0 in omega (arith, long, l))
       ])
 
+  -- each pull of the clock by the controller lasts 24 cycles and more
   pub long : (c : ℕ) → (drive (L c)).clk ≡ false
       → (a : ℕ) × (a ≤ c) × (c < a + 24) × ((i : ℕ) → a ≤ i → i < a + 24 → (drive (L i)).clk ≡ false)
   long c low =
@@ -415,6 +418,7 @@ module _ (keyboard : ℕ → Lines) (happens : ℕ → Happening)
       let count : n ≡ suc falls = ap falls_of same in
       ap (λ n. frame_bit b n) count ∙ ap (λ b. frame_bit b (suc falls)) bytes
 
+  -- if it is asked to send bytes alone, the controller keeps the rules of a host
   pub keeps_rules : ((c : ℕ) → asked_by (L c) < 256) → IsRuleful W
   keeps_rules small = record {
     long = long;
@@ -431,6 +435,7 @@ module _ (keyboard : ℕ → Lines) (happens : ℕ → Happening)
   pub keeps_end : Ends Eleventh W
   keeps_end c i nine ten m l fall far after all = ends (c + i) ten (L (c + i)) (tied (c + i)) after all
 
+-- the controller keeps the rules of a host that counts eleven falls, whatever the keyboard and the PC do
 pub controller_keeps : ControllerLaw
 controller_keeps keyboard happens lines high bytes = (
   wires keyboard happens lines high,

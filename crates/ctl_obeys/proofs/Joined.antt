@@ -56,9 +56,11 @@ module _ (layout : KeyLayout) (fine : IsKeyLayout layout) (keys : ℕ → ℕ �
         own_keys c place l (down_is_low (place % 8) n (omega arith) (low c (32 + place / 8)) is);
   }
 
+  -- the run on the controller's board works as the model
   pub alone : WorksAlone layout d from
   alone = works_alone layout fine d (λ p1 p2 c s. low c p1) m small at_start (λ n stamp s. own s.state)
 
+  -- the latch of port 2 in each cycle
   pub l : ℕ → ℕ
   l = latch layout d from alone
 
@@ -104,6 +106,7 @@ module _ (layout : KeyLayout) (fine : IsKeyLayout layout) (keys : ℕ → ℕ �
     data_wire = λ c. ap (λ (v : Lines). v.dat) (link_is c);
   }
 
+  -- at the controller the keyboard works: each hears each byte of the other
   pub joined_run : WorksAt Eleventh layout d from (wiring_by keyboard happens)
   joined_run =
       works_at layout d from alone (wiring_by keyboard happens) wiring refl
@@ -112,6 +115,7 @@ module _ (layout : KeyLayout) (fine : IsKeyLayout layout) (keys : ℕ → ℕ �
       (requests_bytes happens write))
       Eleventh (keeps_end keyboard happens (λ c. sym (link_is c)) begins_high)
 
+-- the run at the controller is the model's, and keyboard and controller hear each byte of each other
 pub at_controller : AtControllerLaw
 at_controller layout fine keys low own_keys calls write m small = record {
   keyboard = keyboard layout fine keys low own_keys calls write m small;

@@ -29,6 +29,7 @@ low_is_pulled (Request byte) e = absurd cc
 low_is_pulled (Busy (Recv flip bits)) e = absurd cc
 low_is_pulled (Busy (Send byte edges)) e = absurd cc
 
+-- while a pull lasts, the controller drives the clock low
 pub pulled_is_low : (l : Link Wire) (h : ℕ) → pulled l ≡ Some h → (drive l).clk ≡ false
 pulled_is_low Free h e = absurd cc
 pulled_is_low (Hold since) h e = refl
@@ -36,6 +37,7 @@ pulled_is_low (Ask byte since) h e = refl
 pulled_is_low (Request byte) h e = absurd cc
 pulled_is_low (Busy wire) h e = absurd cc
 
+-- if the controller lets the clock go, no pull lasts
 pub high_is_none : (l : Link Wire) → (drive l).clk ≡ true → pulled l ≡ None
 high_is_none Free e = refl
 high_is_none (Hold since) e = absurd cc
@@ -89,6 +91,7 @@ edge_begins now dat p (Busy (Recv flip bits)) e h =
 edge_begins now dat p (Busy (Send byte edges)) e h =
     choice (edges == 10) now (handed_over p) (record p { link = Busy (Send byte (edges + 1)) }) (inl refl) (inl refl)
 
+-- if no pull lasts, there is none after a look at the wires, or one that begins now
 pub look_begins : (c : Bool) (now : ℕ) (dat : Bool) (p : LinkEnd Wire) → pulled p.link ≡ None
     → OrNow now (if c then edge_at now dat p.link p else p).link
 look_begins c now dat p h = choice c now (edge_at now dat p.link p) p (edge_begins now dat p p.link refl h) (inl h)
@@ -204,6 +207,7 @@ pub since_now : (now : ℕ) (l : Link Wire) → OrNow now l → (drive l).clk �
 since_now now l (inr e) low = e
 since_now now l (inl e) low = let p = low_is_pulled l low in let q : pulled l ≡ Some p.0 = p.1 in absurd (cc (e, q))
 
+-- a pull of the clock that begins lasts 64 cycles at least
 pub pulls_last : PullsLast
 pulls_last happens now n w high low l =
     let next : WireState = wire_cycle now (happens now) w in

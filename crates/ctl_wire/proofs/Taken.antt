@@ -3,6 +3,7 @@ use Rattle.std.proofs.Common.{◌≡◌, ℕ, ◌≤◌, ◌<◌, Bool, List, []
 use Rattle.std.proofs.lemmas.List.{take_all, length-take, length-set}
 use Rattle.std.proofs.Math.Seq.{take-suc-set}
 
+-- ten bits, with the eleventh written after them, are the frame's eleven
 pub ended : (bits view : List Bool) (count : ℕ) (bit : Bool) → length bits ≡ 11 → count ≤ 10 → take count bits ≡ view → length view ≡ 10
     → set bits 10 bit ≡ view ++ bit ∷ []
 ended bits view count bit n c v l =

@@ -35,6 +35,7 @@ counted : (cert : Certificate) (proved : Proved) (fault : Option (Fault Rule))
 counted cert proved None is = cc
 counted cert proved (Some first) is = absurd cc
 
+-- a text that is a certificate without a fault is proved of the program
 pub is_proved : (bytes text : List ℕ) (cert : Certificate) (result : Result Proved CertFault) → certificate_of text ≡ Ok cert
     → IfOk result (λ proved. judged bytes cert ≡ Ok proved) → IfOk result (λ _. Keeps bytes cert) → IfOk result (IsProved bytes text)
 is_proved bytes text cert (Ok proved) is said keeps =

@@ -19,6 +19,7 @@ and_true : (b : Bool) → (b && true) ≡ b
 and_true true = refl
 and_true false = refl
 
+-- the weight of a register's value is 256 at most
 pub weight_most : (v : ℕ) → v < 256 → weight v ≤ 256
 weight_most v h = grind (arith, nat_tests, h)
 
@@ -77,6 +78,7 @@ one_by p true = list_all_same (λ first. list_all (falls_at p first) (first ∷ 
     (λ v. and_true (falls_at p v v)) byte_values
 one_by p false = refl
 
+-- if both bounds count one register, the bound falls exactly if it falls for each value of it
 pub falls_on_one : (p : Passage) → p.before.register ≡ p.after.register → list_all (λ value. falls_at p value value) byte_values ≡ falls p
 unfolding falls
 falls_on_one p e =
@@ -140,6 +142,7 @@ falls_by p first second true true e f h =
     (values_after p.op p.after.register second) k in
     rw (e, f, g) refl
 
+-- if the bounds count two registers, the bound falls exactly if it falls from the least bound before the row
 pub falls_beside : (p : Passage) → (p.before.register ≡ p.after.register → ⊥) → list_all (falls_at p (lightest p)) byte_values ≡ falls p
 unfolding falls
 falls_beside p ne =

@@ -96,6 +96,7 @@ module _ (op : Op) (bytes : List ℕ) (pins : Pins) (m : Cpu) (r : ℕ) (p : ℕ
       let is : register r (effect op bytes pins m) ≡ register r m = keeps op bytes pins m r a b h f in
       rw is (both (p (register r m)) true t).0
 
+  -- what is so of each value that a row may leave in a register is so of the one that it leaves
   pub value_left : gives_low op ≡ true → is_certifiable op ≡ true → m.rb ≡ false → length m.ram ≡ 128 → r < 8
       → register r (effect op bytes pins m) < 256
       → list_all p (values_after op r (register r m)) ≡ true → p (register r (effect op bytes pins m)) ≡ true

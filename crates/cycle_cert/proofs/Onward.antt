@@ -80,6 +80,7 @@ most : (b : Bound) (v : ℕ) → v < 256 → cycles_at b v ≤ most_cycles b
 most b v below =
     let m : b.factor * weight v ≤ b.factor * 256 = mul-le-mul_left b.factor (weight_most v below) in omega (arith, m)
 
+-- if one certificate's target is a certified place of another, a run reaches the second's target within both bounds
 pub follows : FollowLaw
 follows bytes first second one two m pins bound next range plain levels here there =
     let a : ComesTo bytes pins m first.target (cycles_at bound (register bound.register m)) =

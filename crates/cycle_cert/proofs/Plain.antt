@@ -56,6 +56,7 @@ control_plain DisI m a h = (h.0, refl, h.2)
 control_plain DisTcnti m a h = (h.0, h.1, refl)
 control_plain op m a h = h
 
+-- an instruction that may be certified leaves bank 0 selected and both interrupts off
 pub effect_plain : (op : Op) (bytes : List ℕ) (pins : Pins) (m : Cpu) → is_certifiable op ≡ true → IsPlain m
     → IsPlain (effect op bytes pins m)
 effect_plain (Moves op) bytes pins m a h = move_plain op bytes m a h

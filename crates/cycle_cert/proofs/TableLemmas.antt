@@ -56,6 +56,7 @@ single : (e : Entry) → e.place < 2048 → All IsWithin (e ∷ [])
 single e h zero d l = h
 single e h (suc k) d l = absurd (omega (arith, l))
 
+-- with one more entry, at a place that has none, the table is that of the entries
 pub IsTable-add : (es : List Entry) (bounds : List (Option Bound)) (e : Entry) → IsTable es bounds → e.place < 2048 → e.bound.register < 8
     → bound_in es e.place ≡ None → IsTable (es ++ e ∷ []) (set bounds e.place (Some e.bound))
 IsTable-add es bounds e t within small fresh = record {

@@ -5,6 +5,7 @@ use Rattle.std.proofs.lemmas.List.FromFn.{length-range_with_len, get_or-range_wi
 use Rattle.std.specs.List.{list_all, range_with_len}
 use Rattle.cycle_cert.specs.Bounds.{byte_values}
 
+-- what holds if a test is true and if it is false holds
 pub true_or_false : (P : Type 0) (b : Bool) → (b ≡ true → P) → (b ≡ false → P) → P
 true_or_false P true then_true then_false = then_true refl
 true_or_false P false then_true then_false = then_false refl

@@ -47,6 +47,7 @@ lined : (s : Debuggee) (ls : List (List ℕ)) (d : Debug) (line : List ℕ) → 
 lined s ls d line h true end e = after_it s [] (asked ls) d (lines_effect s ls d) (h d) end e
 lined s ls d line h false end e = formed s ls d h (command_in line) end e
 
+-- a script's lines leave the session as what they ask for does
 pub lines_are_obeyed : LinesAreObeyed
 lines_are_obeyed s [] d end e = let same : effect_of d [] ≡ end = cc e in ap (λ (t : LineEffect). t.debug) (sym same)
 lines_are_obeyed s (line ∷ ls) d end e = lined s ls d line (lines_are_obeyed s ls) (is_blank_line line) end e

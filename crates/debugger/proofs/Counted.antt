@@ -55,6 +55,7 @@ walk_from : (s : Debuggee) (n : ℕ) (d : Debug) (o : Option (World Beside))
 walk_from s n d None next more = counted_still s.story d
 walk_from s n d (Some w) next more = counted_on s.story d (stepped_to w d) (walk s n (stepped_to w d)) (counted_step s d w next) (more w)
 
+-- after a line `step` each probe has counted just the steps that were made
 pub walk_counts : WalkCounts
 walk_counts s zero d = counted_still s.story d
 walk_counts s (suc n) d = walk_from s n d (next_state s d.steps) refl (λ w. walk_counts s n (stepped_to w d))
@@ -80,6 +81,7 @@ hunt_from : (s : Debuggee) (n : ℕ) (d : Debug) (o : Option (World Beside))
 hunt_from s n d None next more = counted_still s.story d
 hunt_from s n d (Some w) next more = hit_or_on s n d w (first_met 0 (sight_in w) d.probes) (counted_step s d w next) (more w)
 
+-- after a line `go` each probe has counted just the steps that were made
 pub hunt_counts : HuntCounts
 hunt_counts s zero d = counted_still s.story d
 hunt_counts s (suc n) d = hunt_from s n d (next_state s d.steps) refl (λ w. hunt_counts s n (stepped_to w d))

@@ -136,12 +136,14 @@ lines_from s command others d probe later watch (Some mid) at is to more =
     (sym (counted_both s.story d.steps k (obeyed_all s (command ∷ others) d).steps (line_later s command d)
     (lines_later s others (obeyed s command d).debug) watch))
 
+-- a probe goes on counting through the lines of a session, until it is armed anew or dropped
 pub lines_count : LinesCount
 lines_count s [] d probe later watch is to = still_counted s d probe watch is d.probes later (same_number s d probe watch is later to)
 lines_count s (command ∷ others) d probe later watch is to =
     lines_from s command others d probe later watch (number_then command probe) refl is to
     (λ now mid there on. lines_count s others (obeyed s command d).debug mid later now there on)
 
+-- a probe that a line arms counts from that line on, with its new arms
 pub counts_since_armed : CountsSinceArmed
 counts_since_armed s lines d probe a b later watch is to =
     let new = (obeyed s (Arm probe a b) d).debug in

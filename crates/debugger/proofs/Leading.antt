@@ -104,6 +104,7 @@ pub none_of : (hit : Option ℕ) (b : Bool) → b ≡ is_some hit → b ≡ fals
 none_of None b is off = refl
 none_of (Some probe) b is off = absurd (cc (sym is ∙ off))
 
+-- a search that hit something didn't hit nothing
 pub some_of : (hit : Option ℕ) (b : Bool) → b ≡ is_some hit → b ≡ true → {A : Type 0} → hit ≡ None → A
 some_of None b is on none = absurd (cc (sym is ∙ on))
 some_of (Some probe) b is on none = absurd (cc none)

@@ -103,6 +103,7 @@ module _ (s : Debuggee) (left : ℕ) (old new : Course) (before : List Watch) (c
       } in
       subst (λ (n : ℕ). IsAdvanced s left old.joint.steps before n) (sym number) to
 
+  -- quiet steps and one more lead the session on
   pub strode : (r : Result (Unit {0}) Stuck) → IsStepOn s.story there r new → OnOk r (last.cycle < new.joint.cycle)
       → IsAdvanced s left old.joint.steps before new.joint.steps
   strode (Ok done) step later = goes_further step.0 step.1 later
@@ -167,6 +168,7 @@ made_some s left k new before after made m steps of a some count at is looks hit
           seen (a.led some w there)));
     }
 
+-- steps made in a session are made in the same session by another name
 pub made_of : (s t : Debuggee) (left : ℕ) (d : Debug) (made : Made) (e : Debug) → s ≡ t → IsMade s left d made e → IsMade t left d made e
 made_of s t left d made e same h = subst (λ (v : Debuggee). IsMade v left d made e) same h
 

@@ -100,6 +100,7 @@ module _ (s s' : Debuggee) (all : List (List ℕ)) (d : Debug) (rest : List (Lis
   before : AreDone s all d (line ∷ others) now text
   before = subst (λ ls. AreDone s all d ls now text) next done
 
+  -- if the whole script is obeyed, its next line is
   pub asked : (t : LineEffect) × (line_effect s' line now ≡ Ok t)
   asked = subst (λ (r : Debuggee). (t : LineEffect) × (line_effect r line now ≡ Ok t)) (sym same)
       (next_right s all d line others now text end right before)
@@ -131,6 +132,7 @@ module _ (s : Debuggee) (script : List ℕ) (probes : List Watch) (rest : List (
     effect_of = ap (λ ls. lines_effect s ls (begun probes)) (done.all_so ∙ ap (λ ls. done.first ++ ls) none ∙ append-nil done.first) ∙ done.effect_of;
   }
 
+  -- lines that were obeyed, up to one, are a script obeyed in part
   pub part_done : IsObeyedInPart s script probes now.probes
   part_done = (
     length done.first,
@@ -156,6 +158,7 @@ pub said_by : {X : Type 0} (items : X → List ℕ) (result : Result X LineFault
 said_by items result sitting s script probes left is h =
     subst (λ (x : Sitting). MatchResult result (λ y. IsObeyed x.debuggee script probes (items y) left) (λ e. e ≡ Memory)) is h
 
+-- lines obeyed in a sitting at its first state are obeyed in its session
 pub part_by : (sitting : Sitting) (s : Debuggee) (script : List ℕ) (probes left : List Watch) → sitting ≡ record { debuggee = s; steps = 0 }
     → IsObeyedInPart sitting.debuggee script probes left → IsObeyedInPart s script probes left
 part_by sitting s script probes left is h = subst (λ (x : Sitting). IsObeyedInPart x.debuggee script probes left) is h

@@ -34,6 +34,7 @@ not_met : (w : Watch) (number : ℕ) (v : Sight) (b : Bool) (o : Option ℕ) →
 not_met w number v true o h = absurd (cc h)
 not_met w number v false o h = refl
 
+-- probes that rest meet nothing
 pub none_met : (clk : Bool) (number : ℕ) (v : Sight) (ws : List Watch) → all_rest clk ws ≡ true → first_met number v ws ≡ None
 none_met clk number v [] h = refl
 none_met clk number v (w ∷ ws) h =
@@ -99,6 +100,7 @@ module _ (s : Debuggee) (old : Course) (before : List Watch) (h : IsOnCourse s.s
     unmet_here = λ some. absurd (omega (arith, some));
   }
 
+  -- before the first quiet step nothing has passed
   pub not_yet : (m : Machine) → m ≡ old.joint → HasPassed s old before 0 m
   not_yet m e = subst (λ (n : Machine). HasPassed s old before 0 n) (sym e) none_passed
 
@@ -114,6 +116,7 @@ module _ (s : Debuggee) (old : Course) (before : List Watch) (h : IsOnCourse s.s
         let before_end : nat_le (s.story.stop + s.latest) on.world.cycle ≡ false = grind (arith, nat_tests, at, below, room) in
         ap (λ b. (b && nat_le (4096 + s.story.stop) on.world.cycle) || nat_le (s.story.stop + s.latest) on.world.cycle) off ∙ before_end
 
+    -- quiet steps lead the session on, and probes that rest needn't look at them
     pub passed : (k : ℕ) (m : Machine)
         → AreUneventful old.ahead.due TICK k old.joint m → m.cycle ≤ old.joint.cycle + most → HasPassed s old before k m
     passed zero m e below = not_yet m e

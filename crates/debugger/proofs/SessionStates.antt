@@ -28,10 +28,12 @@ pub next_there : (s : Debuggee) (k : ℕ) (w : World Beside) (over : Bool)
 next_there s k w over e o = ap (next_from s k) e ∙ ap (λ b. if b then None else state_at s.story (suc k)) (sym o)
 
 module _ (s : Debuggee) (c : Course) (h : IsOnCourse s.story c) where
+  -- the machine is at the state of the session's run
   pub here : state_at s.story c.joint.steps ≡ Some h.world
   here = subst (λ (bytes : List ℕ). run_at (joint_board s.story.edges s.story.events) bytes
       (joint_start_of s.story.held) c.joint.steps ≡ Some h.world) h.image h.in_run.run
 
+  -- the run has one state after so many steps
   pub same : (w : World Beside) → state_at s.story c.joint.steps ≡ Some w → h.world ≡ w
   same w e = let f : Some h.world ≡ Some w = sym here ∙ e in cc f
 
@@ -63,6 +65,7 @@ module _ (s : Debuggee) (c : Course) (h : IsOnCourse s.story c) where
       is ∙ ap (sticks s.story.bytes) h.in_run.mcu
       ∙ sym (none_step s.story.edges s.story.events s.story.bytes h.world) ∙ sym (ap is_none (next ∙ step))
 
+  -- the session's state is the machine's
   pub state_now : IsStateAt (sitting s c.joint.steps) c.joint
   state_now = record {
     world = h.world;
@@ -83,6 +86,7 @@ before_end s w h =
     let off = or_not _ (nat_le (s.story.stop + s.latest) w.cycle) h in
     grind (arith, nat_tests, off)
 
+-- if a session isn't over, its cycle is before the latest
 pub room_there : (t : Sitting) (s : Debuggee) (c : Course) → IsOnCourse s.story c → sitting s c.joint.steps ≡ t
     → (past : Bool) → DecidesSessionOver t past → past ≡ false → c.joint.cycle < s.story.stop + s.latest
 room_there t s c h view past decides off =

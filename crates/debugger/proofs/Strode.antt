@@ -41,9 +41,11 @@ module _ (s : Story) (c : Course) (h : IsOnCourse s c) (thin : IsThin s.edges) (
     pub took_edges : seen.edges ≤ length c.ahead.due.edges.items
     took_edges = edges_few s there new seen on_there thin order gone.step gone.run
 
+    -- the steps did no more events than were handed in
     pub took_host : seen.host ≤ length c.ahead.due.host.items
     took_host = host_few s there new seen on_there thin order gone.step gone.run
 
+    -- after quiet steps and one more, with its events counted, the machine is in its run
     pub strode_on : (ahead : Ahead)
         → 0 < seen.cycles → seen.cycles < 3 → IsFed s.edges s.events ahead → ahead.made ≡ c.ahead.made + seen.edges
         → ahead.done ≡ c.ahead.done + seen.host → HasStrode s most c (Ok tt) (record c { joint = new; ahead = ahead; seen = seen })
@@ -66,6 +68,7 @@ module _ (s : Story) (c : Course) (h : IsOnCourse s c) (thin : IsThin s.edges) (
     on_here : IsOnCourse s here
     on_here = on_quiet s thin order c TICK gone.count gone.last gone.quiet h
 
+    -- if the processor is stuck after quiet steps, the run has ended there
     pub strode_stuck : (r : Result (Unit {0}) Stuck) → IsErr r → HasStrode s most c r (record c { joint = new; seen = seen })
     strode_stuck (Ok done) is = absurd (cc is)
     strode_stuck (Err any) is =

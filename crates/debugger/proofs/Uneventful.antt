@@ -61,6 +61,7 @@ module _ (s : Story) (thin : IsThin s.edges) (order : AreInOrder s.edges) where
       on_moved s (record c { joint = new; seen = q.seen }) new c.seen c.fill refl
       (on_again s c new q.seen h thin order q.step q.run c.fill c.ahead q.some q.few h.fed (omega (arith, edges)) (omega (arith, host)))
 
+  -- quiet steps leave the machine in its run
   pub on_quiet : (c : Course) (tick_pc k : ℕ) (last : Machine)
       → AreUneventful c.ahead.due tick_pc k c.joint last → IsOnCourse s c → IsOnCourse s (moved c last)
   on_quiet c tick_pc zero last e h = subst (λ (m : Machine). IsOnCourse s (moved c m)) (sym e) h

@@ -25,6 +25,7 @@ empty_fits =
     let none : downs all_up ≡ 0 = refl in
     record { room = omega (arith, none); long = refl }
 
+-- the edges that a queue hands over each have their time, and are a lawful history
 pub are_lawful : AreLawful
 are_lawful debounce calls stop placed =
     let edges = handed debounce calls empty in
@@ -42,9 +43,11 @@ are_lawful debounce calls stop placed =
       },
     )
 
+-- what a queue handed over, and then what waits, is what it let in, in that order
 pub are_in_order : AreInCallersOrder
 are_in_order debounce calls = kept debounce calls empty
 
+-- a key that is down finds room for its release, and no key is down after all were released
 pub releases_fit : ReleasesFit
 releases_fit debounce calls placed stamp place l =
     let fits = after_fits debounce calls empty empty_fits in

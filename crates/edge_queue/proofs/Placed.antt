@@ -55,6 +55,7 @@ module _ (debounce : Bool) where
         | false ↦ (a.0, rest next a.1)
       ]
 
+  -- the edges that are handed over are of the matrix, if those that are pushed are
   pub handed_in : (calls : List Call) (q : Queue) → ArePlaced calls → InMatrix q.waiting → ArePlaces (handed debounce calls q)
   handed_in [] q placed a = tt
   handed_in (Push e ∷ cs) q placed a = handed_in cs (pushed e q) placed.1 (pushed_in e q placed.0 a)
@@ -80,6 +81,7 @@ module _ (debounce : Bool) where
         | false ↦ ap (λ v. (e.place, e.down) ∷ v) (rest next)
       ]
 
+  -- what was handed over, and then what waits, is what waited and what was let in, in that order
   pub kept : (calls : List Call) (q : Queue) → IsKept calls q
   kept [] q = ap (map key_of) (sym (append-nil (map edge_of q.waiting)))
   kept (Push e ∷ cs) q =

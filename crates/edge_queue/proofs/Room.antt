@@ -66,6 +66,7 @@ entered_fits stamp place false q f new room =
     let old = f.room in
     record { room = omega (arith, more, less, old); long = length-set q.down place false ∙ f.long }
 
+-- after an edge is pushed there is still room for the release of each key that is down
 pub pushed_fits : (e : Pushed) (q : Queue) → Fits q → Fits (pushed e q)
 pushed_fits e q f =
     elim (is_repeated e q) as (λ b. is_repeated e q ≡ b
@@ -91,6 +92,7 @@ module _ (debounce : Bool) where
         | false ↦ record { room = omega (arith, old); long = f.long }
       ]
 
+  -- after all calls there is still room for the release of each key that is down
   pub after_fits : (calls : List Call) (q : Queue) → Fits q → Fits (after debounce calls q)
   after_fits [] q f = f
   after_fits (Push e ∷ cs) q f = after_fits cs (pushed e q) (pushed_fits e q f)
@@ -99,6 +101,7 @@ module _ (debounce : Bool) where
 downs_some : (bs : List Bool) (p : ℕ) → get_or bs p false ≡ true → 1 ≤ downs bs
 downs_some bs p h = let less = downs_less bs p h in omega (arith, less)
 
+-- while a key is down, a queue with that room isn't full for a release
 pub has_room : (p : ℕ) (q : Queue) → Fits q → is_down q p ≡ true → is_full false q ≡ false
 has_room p q f h =
     let some = downs_some q.down p h in
@@ -106,6 +109,7 @@ has_room p q f h =
     let least : length q.waiting < 160 = omega (arith, some, room) in
     grind (arith, nat_tests, least)
 
+-- the release of a key that is down is let in
 pub release_fits : (stamp p : ℕ) (q : Queue) → Fits q → is_down q p ≡ true → answer_of (edge_at stamp p false) q ≡ Ok tt
 release_fits stamp p q f h =
     ap (λ b. if not b then Err Repeated else if is_full false q then Err Full else Ok tt) h
@@ -150,6 +154,7 @@ released_up stamp zero q l f = record { fits = f; up = λ p less. absurd (omega 
 released_up stamp (suc n) q l f =
     release_up stamp n (released_to n stamp q) (omega (arith, l)) (released_up stamp n q (omega (arith, l)) f)
 
+-- after all keys were released no key is down
 pub all_up_then : (stamp p : ℕ) (q : Queue) → p < 96 → Fits q → is_down (all_released stamp q) p ≡ false
 unfolding all_released
 all_up_then stamp p q l f = (released_up stamp 96 q (omega arith) f).up p l

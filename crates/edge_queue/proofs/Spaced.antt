@@ -25,6 +25,7 @@ ready_kept e q =
       | false ↦ elim (is_full e.down q) as (λ b. (if b then q else entered e q).ready ≡ q.ready) [ true ↦ refl | false ↦ refl ]
     ]
 
+-- an edge that is due at a time is handed over once the queue is ready
 pub due_later : (ready stamp now : ℕ) → nat_lt now (due_at ready stamp) ≡ false → ready ≤ now
 due_later ready stamp now h =
     elim (nat_lt stamp ready) as (λ b. nat_lt stamp ready ≡ b → nat_lt now (if b then ready else stamp) ≡ false → ready ≤ now) [
@@ -38,6 +39,7 @@ module _ (debounce : Bool) where
   sooner ready soon [] l s = tt
   sooner ready soon (e ∷ es) l s = let at = s.0 in (omega (arith, l, at), s.1)
 
+  -- edges that each have their time are in order
   pub in_order : (ready : ℕ) (es : List Edge) → AreSpaced debounce ready es → AreInOrder es
   in_order ready [] s = tt
   in_order ready (e ∷ []) s = tt
@@ -56,6 +58,7 @@ module _ (debounce : Bool) where
         | false ↦ sooner (e.stamp + time_of debounce e.down) ready (of_place place es) (omega (arith, at)) rest
       ]
 
+  -- the edges of one key are far enough apart
   pub dwells : (ready : ℕ) (es : List Edge) → AreSpaced debounce ready es → Dwells es
   dwells ready [] s = tt
   dwells ready (e ∷ []) s = tt
@@ -76,6 +79,7 @@ module _ (debounce : Bool) where
       let at_e = s.1.1.1.0 in
       omega (arith, l, at_b, at_c, at_d, at_e)
 
+  -- of any five edges in a row the last is far enough from the first
   pub thin : (ready : ℕ) (es : List Edge) → AreSpaced debounce ready es → IsThin es
   thin ready [] s = tt
   thin ready (e ∷ es) s =

@@ -71,6 +71,7 @@ entered_sound made e q in_matrix s new =
       long = length-set q.down e.place e.down ∙ s.long;
     }
 
+-- after an edge is pushed the edges that wait still turn each key from what it was
 pub pushed_sound : (made : ℕ → Bool) (e : Pushed) (q : Queue) → e.place < 96 → Sound made q → Sound made (pushed e q)
 pushed_sound made e q l s =
     elim (is_repeated e q) as (λ b. is_repeated e q ≡ b
@@ -125,6 +126,7 @@ module _ (debounce : Bool) where
             ] (s.turns p) (rest next (then_made made e) (first_sound made e es down ready (now + time_of debounce e.down) s) p)
       ]
 
+  -- the edges of a key that calls hand over are press, release, press and so on
   pub handed_turns : (calls : List Call) → ArePlaced calls → Turns calls
   handed_turns [] placed q made s p = tt
   handed_turns (Push e ∷ cs) placed q made s p =

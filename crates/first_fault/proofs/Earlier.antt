@@ -21,6 +21,7 @@ stops : (take : ℕ → ℕ → Result ℕ ℕ) (finish : ℕ → Result ℕ ℕ
     → and_then (at_item number result) (λ next. outcome_from take finish (number + 1) next later) ≡ refusal rule number
 stops take finish number rule later result is = rw is refl
 
+-- if the items before one break no rule and it does, the refusal names its number and the rule
 pub refuses_from : (take : ℕ → ℕ → Result ℕ ℕ) (finish : ℕ → Result ℕ ℕ) (number before after item rule : ℕ) (earlier later : List ℕ)
     → taken take before earlier ≡ Ok after → take after item ≡ Err rule
     → outcome_from take finish number before (earlier ++ item ∷ later) ≡ refusal rule (number + length earlier)

@@ -17,6 +17,7 @@ lowest rule (first ∷ lower) higher kept =
     passed first.rule first.broken (first_broken (lower ++ judge rule true ∷ higher)) (All-head IsKept first lower kept)
     ∙ lowest rule lower higher (All-tail IsKept first lower kept)
 
+-- if each rule is kept, none is the first that is broken
 pub none_broken : (rules : List (Judgement ℕ)) → All IsKept rules → first_broken rules ≡ None
 none_broken [] kept = refl
 none_broken (first ∷ rules) kept =
@@ -28,6 +29,7 @@ pub refused : (value rule : ℕ) (broken : Option ℕ) → broken ≡ Some rule 
 refused value rule (Some other) is = cc
 refused value rule None is = absurd cc
 
+-- if no rule is broken, the item's value is taken
 pub taken_so : (value : ℕ) (broken : Option ℕ) → broken ≡ None → unless broken value ≡ Ok value
 taken_so value (Some rule) is = absurd cc
 taken_so value None is = refl

@@ -118,6 +118,7 @@ module _ (layout : KeyLayout) where
   neither false c h = (refl, h)
   neither true c h = absurd cc
 
+  -- a layout's image has the kernel's bytes outside the tables
   pub has_kernel : HasKernel (image_of layout)
   has_kernel p out = pick (leb 768 p) refl
     where
@@ -137,6 +138,7 @@ module _ (layout : KeyLayout) where
       ∙ in_table codes_at (codes_of layout) KERNEL fits1 place (omega (arith, l, codes_long))
       ∙ get_or-map-range_with_len (code_byte layout) 0 96 place place 0 l (omega arith)
 
+  -- the table of codes under Fn has the layout's code of each place
   pub fn_code_read : (place : ℕ) → place < 96
       → slice_index (image_of layout) (fn_codes_at + place) ≡ fn_code_byte layout place
   fn_code_read place l =

@@ -29,6 +29,7 @@ module _ (layout : KeyLayout) (is : IsKeyLayout layout) where
       let codes = are_codes layout place is in
       codes.under_fn_none ∙ (is_silent_at_fn layout is).under_fn place ∙ sym codes.base_none
 
+  -- a place with an entry has no code exactly if it is the Fn key's
   pub silent_at_fn : (place : ℕ) → HasEntry layout place → (code_byte layout place == 0) ≡ is_fn_place layout place
   silent_at_fn place has = (are_codes layout place is).base_none ∙ (is_silent_at_fn layout is).base place has
 
@@ -36,6 +37,7 @@ module _ (layout : KeyLayout) (is : IsKeyLayout layout) where
   pub code_below : (place : ℕ) → code_byte layout place < 133
   code_below place = (are_codes layout place is).base
 
+  -- a code under Fn is below 133
   pub fn_code_below : (place : ℕ) → fn_code_byte layout place < 133
   fn_code_below place = (are_codes layout place is).under_fn
 

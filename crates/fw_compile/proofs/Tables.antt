@@ -18,6 +18,7 @@ module _ (at : ℕ) (table bytes : List ℕ) (fits : at + length table ≤ lengt
   front : length (take at bytes ++ table) ≡ at + length table
   front = length-append (take at bytes) table ∙ ap (λ n. n + length table) taken
 
+  -- a table put into bytes leaves their number
   pub length_with : length (with_table at table bytes) ≡ length bytes
   length_with =
       length-append (take at bytes ++ table) (drop (at + length table) bytes)
@@ -37,6 +38,7 @@ module _ (at : ℕ) (table bytes : List ℕ) (fits : at + length table ≤ lengt
       get_or_append_left (take at bytes ++ table) (drop (at + length table) bytes) 0 p (omega (arith, front, l))
       ∙ get_or_append_left (take at bytes) table 0 p (omega (arith, taken, l)) ∙ get_or-take at bytes p 0 l
 
+  -- a table put into bytes leaves those after it
   pub above_table : (p : ℕ) → at + length table ≤ p → slice_index (with_table at table bytes) p ≡ slice_index bytes p
   above_table p l =
       let e : at + length table + (p - (at + length table)) ≡ p = omega (arith, l) in

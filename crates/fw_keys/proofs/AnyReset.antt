@@ -78,6 +78,8 @@ module _ (d : Board) (bytes : List ℕ) (hk : HasKernel bytes) (small : All IsBy
             (h.layers (80 + i / 8) (omega arith) (let n : 80 ≤ 80 + i / 8 = omega arith in grind (arith, nat_tests, n))));
       }
 
+  -- the reply to a reset goes, and in 98 cycles at most the keyboard is as after a reset, whatever state the cells
+  -- show
   pub resets_any : Comes d TICK bytes w (λ e. Resets bytes m e.cpu × (e.cycle ≤ w.cycle + 98))
   resets_any =
       let begin = begin_at d DROP f ring m w.board in

@@ -48,6 +48,7 @@ both_long : (xs ys : List (ℕ × Bool)) → length (xs ++ ys) ≡ length xs + l
 both_long [] ys = let e : length ys ≡ 0 + length ys = omega arith in e
 both_long (x ∷ xs) ys = let h : length (xs ++ ys) ≡ length xs + length ys = both_long xs ys in omega (arith, h)
 
+-- some columns have as many edges as their bytes of changes have bits set
 pub columns_count : (ch dn : ℕ → ℕ) (c n : ℕ) → length (column_edges c n ch dn) ≡ all_edges ch c n
 columns_count ch dn c zero = refl
 columns_count ch dn c (suc n) =
@@ -62,6 +63,7 @@ pub record IsAnyStart (m : Cpu) : Type 0 where
   pub inv : Inv (cells_in m.ram)
   pub rested : IsRested (timer_of m)
 
+-- a processor as a tick begins is at such a start: memory holds a keyboard, and the timer has time left
 pub any_start : (m : Cpu) → IsStarted m → IsAnyStart m
 any_start m s = record {
   served = entered_served m s.entered;
@@ -96,5 +98,6 @@ started_is late few tf last now ring m fine inv = record {
   inv = still (refl, refl, refl, refl, refl) inv;
 }
 
+-- the exclusive or of two bytes is a byte
 pub xor_small : (a b : ℕ) → a < 256 → b < 256 → bit_xor a b < 256
 xor_small a b l m = xor_of_8 a b l m

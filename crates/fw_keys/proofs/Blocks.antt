@@ -29,6 +29,7 @@ cell-get f from (suc n) ring zero l = let e : from ≡ from + 0 = omega arith in
 cell-get f from (suc n) ring (suc i) l = let e : from + 1 + i ≡ from + suc i = omega arith in
     cell-get f (from + 1) n ring i (omega (arith, l)) ∙ ap f e
 
+-- the i-th byte of the ring is i places after the cells before it
 pub ring-get : (f : ℕ → ℕ) (from n : ℕ) (ring : List ℕ) (i : ℕ) → get_or (before f from n ring) (n + i) 0
     ≡ get_or ring i 0
 ring-get f from zero ring i = let e : 0 + i ≡ i = omega arith in rw e refl
@@ -39,6 +40,7 @@ long-before f from zero ring = let e : 0 + length ring ≡ length ring = omega a
 long-before f from (suc n) ring = let e : suc (n + length ring) ≡ suc n + length ring = omega arith in
     ap suc (long-before f (from + 1) n ring) ∙ e
 
+-- at the start of a block each cell and each byte of the ring is a byte, and the ring has its length
 pub bytes_of : (m : Cpu) (pc : ℕ) (f : ℕ → ℕ) (ring : List ℕ) → Safe m pc f ring → Bytes f ring
 bytes_of m pc f ring safe =
     let long : length (before f 0 112 ring) ≡ 128 = safe.1.long in
@@ -178,6 +180,7 @@ module _ (d : Board) (code : Code) (has : HasRows code) (small : All IsByte code
     pub same : memory g ring ≡ memory cells ring
     pub facts : N a cells ring
 
+  -- a block that ends with some facts of memory ends with what follows from them
   pub recast : (x : ℕ) (m : Cpu) (board : d.State) (to max max' : ℕ) (M N : ℕ → (ℕ → ℕ) → List ℕ → Type 0)
       (s : Stage d.State) → max ≤ max' → ((a : ℕ) (g : ℕ → ℕ) (ring : List ℕ) → M a g ring → Again N a g ring)
       → Leads d code x s (Ends d x m board to max M) → Leads d code x s (Ends d x m board to max' N)
@@ -214,6 +217,7 @@ module _ (d : Board) (code : Code) (has : HasRows code) (small : All IsByte code
       → Leads d code x' (begin_at d pc t u m' board') (Ends d x' m' board' to more N) in
       subst (λ t. Goal t ring) (sym q.0) (subst (λ u. Goal f u) (sym q.1) (rest x' m' board')) same safe)
 
+  -- a block that leaves a known memory and A is followed by the next one
   pub seq_just_a : (x : ℕ) (m : Cpu) (board : d.State) (pc max to more v : ℕ) (f : ℕ → ℕ) (r : List ℕ) (N : ℕ → (ℕ → ℕ)
       → List ℕ → Type 0) (s : Stage d.State) → IsFine s.cpu
       → Leads d code x s (Ends d x m board pc max (JustA v f r))

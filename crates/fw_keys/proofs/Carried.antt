@@ -35,6 +35,7 @@ abbrev pub low_ticks : List TickEdge → Type 0
 low_ticks [] = Unit {0}
 low_ticks (e ∷ es) = (e.place < 96) × low_ticks es
 
+-- edges at places of the matrix are still at such places once each has its layer
 pub low_layered : (is_fn : ℕ → Bool) (es : List (ℕ × Bool)) (t : Layers) → low_edges es → low_ticks (layered is_fn es t)
 low_layered is_fn [] t l = tt
 low_layered is_fn (x ∷ xs) t l = (l.0, low_layered is_fn xs (layers_after is_fn x t) l.1)
@@ -147,6 +148,7 @@ module _ (a b : Keys) (same : SameKeys a b) where
       ap (λ u. in_layer t x ∷ layered a.is_fn xs u) (step_same x t l.0)
       ∙ ap (λ u. in_layer t x ∷ u) (layered_same xs (layers_after b.is_fn x t) l.1)
 
+  -- edges at places of the matrix leave the same layers for both keys
   pub layers_alike : (es : List (ℕ × Bool)) (t : Layers) → low_edges es
       → all_layers_after a.is_fn es t ≡ all_layers_after b.is_fn es t
   layers_alike [] t l = refl
@@ -162,6 +164,7 @@ module _ (a b : Keys) (same : SameKeys a b) where
       ∙ edges on (layered b.is_fn es t) (repeated_if on a inhibited k) (low_layered b.is_fn es t m)
       ∙ ap (λ j. edges_if on b (layered b.is_fn es t) j) (repeats_if on inhibited k l)
 
+  -- a tick does the same for both keys, if its edges and what repeats are at places of the matrix
   pub ticks_same : (meeting : Meeting) (es : List (ℕ × Bool)) (t : Layers) (k : Keyboard)
       → low_repeat (tested_if (not (k.test == 0)) (met meeting b k)).repeats → low_edges es
       → ticked a meeting (layered a.is_fn es t) k ≡ ticked b meeting (layered b.is_fn es t) k
@@ -195,5 +198,6 @@ columns_low c (suc n) ch dn sum =
     more_low (row_edges (8 * c) 0 8 (ch c) (dn c)) (column_edges (suc c) n ch dn)
     (rows_low (8 * c) 0 8 (ch c) (dn c) (omega (arith, sum))) (columns_low (suc c) n ch dn (omega (arith, sum)))
 
+-- the edges of a tick are at places of the matrix
 pub edges_low : (ch dn : ℕ → ℕ) → low_edges (tick_edges ch dn)
 edges_low ch dn = columns_low 0 12 ch dn refl

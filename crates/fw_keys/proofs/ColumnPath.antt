@@ -99,6 +99,7 @@ module _ (d : Board) (bytes : List ℕ) (hk : HasKernel bytes) (small : All IsBy
         ),
       )
 
+  -- after a column's last row its layers go back, and the next column comes, or the end
   pub ends : (c x : ℕ) (m : Cpu) (board : d.State) (f layers : ℕ → ℕ) (ring last : List ℕ) (p : Patch) (r5 fn : ℕ) →
       c < 12
       → Safe m FOOT (struck (begun bytes ch hd c f layers) p r5 fn) last → p.r6 ≡ 8 * c + 8

@@ -132,6 +132,7 @@ module _ (d : Board) (bytes : List ℕ) (hk : HasKernel bytes) (alike : IsSilent
       ring m board)
       (Ends d x m board DONE (columns_time ch c n) (AfterColumns c n f layers ring))
 
+  -- the columns that are left take their edges, one column after another, up to the end of step 5
   pub columns_law : (n : ℕ) → ColumnsLaw n
   columns_law zero c x m board f layers ring sum col safe =
       let pointer : f 24 ≡ 48 + c = col.pointer in

@@ -240,6 +240,7 @@ module _ (d : Board) (bytes : List ℕ) (hk : HasKernel bytes) (small : All IsBy
           ∙ ap (λ b. if b then replies 254 (kbd_of held f ring) else commanded (image_keys bytes) (f 28)
           (record (kbd_of held f ring) { mode = Ready })) command
 
+  -- a byte that was received is obeyed as the model says, in 68 cycles at most
   pub command_law : Safe m COMMAND f ring → Obeys
   command_law safe = by (f 29 == 0) refl (f 70 == 0) refl (nat_lt (f 28) 128) refl (nat_lt (f 28) 237) refl
     where

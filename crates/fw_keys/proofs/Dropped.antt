@@ -29,6 +29,7 @@ same_mark c l some = let h : (if c % 128 == 0 then bit 7 c else bit 7 ((c + 255)
     tests_by 256 (λ c. if c % 128 == 0 then bit 7 c else bit 7 ((c + 255) % 256)) (λ c. bit 7 c) refl c l in
     ap (λ b. if b then bit 7 c else bit 7 ((c + 255) % 256)) (sym some) ∙ h
 
+-- one less in the count and one more in the head is the queue without its first byte
 pub dropped : (f : ℕ → ℕ) (ring : List ℕ) (n s : ℕ) → f 66 < 256 → f 66 % 128 ≡ suc n
     → (not (s == 0)) ≡ ((slice_index ring ((f 67 + 0) % 16) == 240) && not (not (f 68 == 0)))
     → queue_by ((f 66 + 255) % 256) ((f 67 + 1) % 256) s ring ≡ drop_first (queue_of f ring)
@@ -75,11 +76,14 @@ pub empty : (f : ℕ → ℕ) (ring : List ℕ) (s : ℕ) → f 66 % 128 ≡ 0 �
     ≡ drop_first (queue_of f ring)
 empty f ring s e = rw e refl
 
+-- the exclusive or of two bytes is zero exactly if they are the same
 pub xor_is : (k : ℕ) → k < 256 → (b : ℕ) → b < 256 → (bit_xor b k == 0) ≡ (b == k)
 xor_is k l b m = pair_tests 256 256 (λ b k. bit_xor b k == 0) (λ b k. b == k) refl b k m l
 
+-- to note the last byte sent changes neither held keys nor their changes
 pub kept_last : (f : ℕ → ℕ) (u v i : ℕ) → 32 ≤ i → i < 60 → put (put f 25 u) 76 v i ≡ f i
 kept_last f u v i l m = grind (arith, nat_tests, l, m)
 
+-- to note the last byte sent changes neither the layers nor what is pending
 pub kept_layers : (f : ℕ → ℕ) (u v i : ℕ) → 78 ≤ i → i < 108 → put (put f 25 u) 76 v i ≡ f i
 kept_layers f u v i l m = grind (arith, nat_tests, l, m)

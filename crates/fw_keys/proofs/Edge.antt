@@ -113,6 +113,7 @@ module _ (d : Board) (bytes : List ℕ) (hk : HasKernel bytes) (alike : IsSilent
       begun_cells =
           put (put (put (put (put (put f 28 m.a) 26 (code_at fn (f 30))) 29 byte') 72 (sum fn)) 74 (delay (f 73))) 25 74
 
+      -- a press of a key that sends something, with scanning on, notes its repeat and goes on to enter its code
       pub press_on : bit (7 - k) (f 31) ≡ true → (code_at fn (f 30) == 0) ≡ false → m.f0 ≡ true
           → Leads d (kernel_in true bytes) x (begin_at d EDGE f ring m board)
           (Ends d x m board ENTER 42 (Just begun_cells ring))
@@ -147,6 +148,7 @@ module _ (d : Board) (bytes : List ℕ) (hk : HasKernel bytes) (alike : IsSilent
       layer_test b is =
           bit_test_back (7 - k) (f 29) (omega arith) ((bytes_of m EDGE f ring safe).cell 29 (omega arith)) ∙ ap not is
 
+      -- a release finds the index of its code in 15 cycles at most, in the layer of the press
       pub finds : (b : Bool) → bit (7 - k) (f 29) ≡ b → bit (7 - k) (f 31) ≡ false
           → Leads d (kernel_in true bytes) x (begin_at d EDGE f ring m board)
           (Ends d x m board AT_INDEX 15 (JustA (sum b) found_cells ring))
@@ -228,6 +230,7 @@ module _ (d : Board) (bytes : List ℕ) (hk : HasKernel bytes) (alike : IsSilent
           xor_test (sum b) (f 72) (index_byte b (f 30) h.place)
           ((bytes_of m AT_INDEX f ring safe).cell 72 (omega arith)) ∙ ap not is
 
+      -- a release with scanning on ends the key's repeat, and goes on to enter the break, if the key has one
       pub release_on : (same only : Bool) → (code_at b (f 30) == 0) ≡ false → m.f0 ≡ true → (f 72 == sum b) ≡ same
           → bit (7 - k) (f 24) ≡ only
           → Leads d (kernel_in true bytes) x (begin_at d AT_INDEX f ring m board)

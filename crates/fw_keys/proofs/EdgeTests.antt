@@ -31,18 +31,22 @@ row_bit bytes hk k l = from_each (λ k. slice_index bytes ((1024 + suc k) % 2048
 pub bit_test_back : (r b : ℕ) → r < 8 → b < 256 → (bit_and b (2 ^ r) == 0) ≡ not (bit r b)
 bit_test_back = pair_tests 8 256 (λ r b. bit_and b (2 ^ r) == 0) (λ r b. not (bit r b)) refl
 
+-- the and of a row's bit and a byte is zero exactly if the byte doesn't have that bit
 pub bit_test : (r b : ℕ) → r < 8 → b < 256 → (bit_and (2 ^ r) b == 0) ≡ not (bit r b)
 bit_test = pair_tests 8 256 (λ r b. bit_and (2 ^ r) b == 0) (λ r b. not (bit r b)) refl
 
+-- the code's turns of the rate's byte give the place of its delay in the kernel's table
 pub delay_place : (b : ℕ) → b < 256
     → (bit_and (128 * digit (bit 0 (b % 16 * 16 + b / 16)) + (b % 16 * 16 + b / 16) / 2) 3 + 206) % 256
     ≡ 206 + b / 32 % 4
 delay_place = by_byte (λ b. (bit_and (128 * digit (bit 0 (b % 16 * 16 + b / 16)) + (b % 16 * 16 + b / 16) / 2)
     3 + 206) % 256) (λ b. 206 + b / 32 % 4) refl
 
+-- the kernel's table has the model's delay at that place
 pub delay_in : (b : ℕ) → b < 256 → byte_in (974 + b / 32 % 4) ≡ delay b
 delay_in = by_byte (λ b. byte_in (974 + b / 32 % 4)) delay refl
 
+-- a read from that place of the image gives the model's delay
 pub delay_read : (bytes : List ℕ) → HasKernel bytes → (b : ℕ) → b < 256 → slice_index bytes (768 + (206 + b / 32 % 4))
     ≡ delay b
 delay_read bytes hk b l =
@@ -51,6 +55,7 @@ delay_read bytes hk b l =
     rw e (hk (974 + b / 32 % 4) (from_each (λ k. is_table (974 + k) ≡ false) 0 4 (refl, (refl, (refl, (refl, tt))))
     (b / 32 % 4) (omega arith) low) ∙ sym (byte_is (974 + b / 32 % 4) (omega (arith, low))) ∙ delay_in b l)
 
+-- the exclusive or of two bytes isn't zero exactly if they differ
 pub xor_test : (a b : ℕ) → a < 256 → b < 256 → not (bit_xor a b == 0) ≡ not (b == a)
 xor_test = pair_tests 256 256 (λ a b. not (bit_xor a b == 0)) (λ a b. not (b == a)) refl
 
@@ -59,14 +64,17 @@ abbrev pub upper : Bool → ℕ
 upper true = 97
 upper false = 0
 
+-- the Fn key's cell chooses the layer: 61 (hexadecimal) with the key down, else 0
 pub fn_upper : (b : Bool) → bit_and (fn_cell b) 97 ≡ upper b
 fn_upper true = refl
 fn_upper false = refl
 
+-- the sum of layer and place is an index without a carry
 pub index_small : (b : Bool) (v p : ℕ) → v ≡ upper b → p < 96 → (v + p) % 256 ≡ upper b + p
 index_small true v p e l = omega (arith, e, l)
 index_small false v p e l = omega (arith, e, l)
 
+-- the index of a place in either layer is a byte
 pub index_byte : (b : Bool) (p : ℕ) → p < 96 → upper b + p < 256
 index_byte true p l = omega (arith, l)
 index_byte false p l = omega (arith, l)
@@ -76,15 +84,18 @@ pub code_read : (bytes : List ℕ) (b : Bool) (p : ℕ) → slice_index bytes (7
 code_read bytes true p = let e : 768 + (97 + p) ≡ 865 + p = omega arith in ap (λ i. slice_index bytes i) e
 code_read bytes false p = let e : 768 + (0 + p) ≡ 768 + p = omega arith in ap (λ i. slice_index bytes i) e
 
+-- if a layout's places are silent in both layers alike, a place sends nothing with Fn exactly if it does without
 pub silent_by : (bytes : List ℕ) → IsSilentAlike bytes → (b : Bool) (p : ℕ) → p < 96
     → (image_code bytes b p == 0) ≡ (image_code bytes false p == 0)
 silent_by bytes alike true p l = alike p l
 silent_by bytes alike false p l = refl
 
+-- so the code may read in either layer whether a place sends anything
 pub silent_read : (bytes : List ℕ) → IsSilentAlike bytes → (b : Bool) (p : ℕ) → p < 96
     → (slice_index bytes (768 + (upper b + p)) == 0) ≡ (image_code bytes false p == 0)
 silent_read bytes alike b p l = ap (λ v. v == 0) (code_read bytes b p) ∙ silent_by bytes alike b p l
 
+-- the code of an index's place in its layer is the image's byte at that index
 pub code_of_index : (bytes : List ℕ) (i : ℕ) (b : Bool) → is_upper i ≡ b
     → image_code bytes (is_upper i) (place_of i) ≡ slice_index bytes (768 + i)
 code_of_index bytes i true e =
@@ -98,6 +109,7 @@ index_test : (b : Bool) (i p : ℕ) → i < 256 → p < 96 → ((place_of i == p
 index_test true = pair_tests 256 96 (λ i p. (place_of i == p) && alike (is_upper i) true) (λ i p. i == 97 + p) refl
 index_test false = pair_tests 256 96 (λ i p. (place_of i == p) && alike (is_upper i) false) (λ i p. i == 0 + p) refl
 
+-- a key stops to repeat exactly if its place and layer are the index that repeats
 pub stops : (count i p : ℕ) (on_fn : Bool) → i < 256 → p < 96 → (b : Bool) → (i == upper on_fn + p) ≡ b → (n : Bool)
     → (count == 0) ≡ n
     → ended_in p on_fn (repeat_of count i) ≡ (if b then None else repeat_of count i)
@@ -142,8 +154,10 @@ abbrev pub turned : ℕ → ℕ → ℕ
 turned zero c = c
 turned (suc r) c = 128 * digit (bit 0 (turned r c)) + turned r c / 2
 
+-- the bit of row r comes to the top after r + 1 turns right
 pub bit_turned : (r c : ℕ) → r < 8 → c < 256 → bit 7 (turned (suc r) c) ≡ bit r c
 bit_turned = pair_tests 8 256 (λ r c. bit 7 (turned (suc r) c)) (λ r c. bit r c) refl
 
+-- a number that equals one above zero isn't zero
 pub not_none : (n k : ℕ) → n ≡ k → 0 < k → not (n == 0) ≡ true
 not_none n k e l = let g : 0 < n = omega (arith, e, l) in grind (arith, nat_tests, g)

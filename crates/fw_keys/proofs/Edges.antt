@@ -145,6 +145,7 @@ ended_pressed keys place l (Some r) is = by (r.place == place)
     by true = tt
     by false = is
 
+-- after an edge what repeats is still a key pressed in its layer
 pub edge_pressed : (keys : Keys) (place : ℕ) (down : Bool) (l : Layers) (k : Keyboard) → place < 96 → IsWide l
     → IsPressed keys l k.repeats
     → IsPressed keys (layers_after keys.is_fn (place, down) l)
@@ -232,6 +233,7 @@ pub record ScannedIs (keys : Keys) (inhibited : Bool) (changed down : ℕ → �
   pub pressed : IsPressed keys (all_layers_after keys.is_fn (tick_edges changed down) l)
       (scanned keys inhibited (layered keys.is_fn (tick_edges changed down) l) k).repeats
 
+-- steps 4 and 5 of the model are those of the code, with the held keys turned by the tick's edges
 pub scanned_is : (keys : Keys) (inhibited : Bool) (changed down : ℕ → ℕ) (l : Layers) (k : Keyboard) → IsWide l
     → IsPressed keys l k.repeats → ScannedIs keys inhibited changed down l k
 scanned_is keys inhibited changed down l k w is =

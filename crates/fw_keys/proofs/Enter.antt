@@ -30,9 +30,11 @@ pub record Entered (code : List ℕ) (f : ℕ → ℕ) (ring : List ℕ) (g : �
   pub most : count % 128 ≤ 16
   pub more : f 66 % 128 ≤ count % 128
 
+-- the code's or and the wrap at 80 (hexadecimal) give the place in the ring, within its 16 bytes
 pub ring_place : (z : ℕ) → z < 256 → bit_or z 112 % 128 ≡ (112 + z % 16) % 128
 ring_place = by_byte (λ z. bit_or z 112 % 128) (λ z. (112 + z % 16) % 128) refl
 
+-- the place one further is the next in the ring, and after the last one the first
 pub next_place : (z : ℕ) → z < 256 → bit_or ((bit_or z 112 + 1) % 256) 112 % 128 ≡ (112 + (z + 1) % 16) % 128
 next_place = by_byte (λ z. bit_or ((bit_or z 112 + 1) % 256) 112 % 128) (λ z. (112 + (z + 1) % 16) % 128) refl
 
@@ -43,9 +45,11 @@ in_ring g ring z n b l j =
     ap (λ p. slice_set (memory g ring) p b) (ring_place z l ∙ ap (λ k. (112 + k) % 128) j)
     ∙ ring-set g ring (n % 16) b (omega arith)
 
+-- an or with 80 (hexadecimal) sets the overrun
 pub marked : (c : ℕ) → c < 256 → bit 7 (bit_or c 128) ≡ true
 marked = tests_by 256 (λ c. bit 7 (bit_or c 128)) (λ c. true) refl
 
+-- the overrun changes nothing about the queue's length
 pub length_kept : (c : ℕ) → c < 256 → bit_or c 128 % 128 ≡ c % 128
 length_kept = by_byte (λ c. bit_or c 128 % 128) (λ c. c % 128) refl
 
@@ -53,9 +57,11 @@ length_kept = by_byte (λ c. bit_or c 128 % 128) (λ c. c % 128) refl
 pub over_one : (c : ℕ) → c < 256 → nat_le 256 (c + 240) ≡ (bit 7 c || nat_lt 16 (c % 128 + 1))
 over_one = tests_by 256 (λ c. nat_le 256 (c + 240)) (λ c. bit 7 c || nat_lt 16 (c % 128 + 1)) refl
 
+-- the count with F1 (hexadecimal) carries exactly if there was an overrun or there is no room for two bytes
 pub over_two : (c : ℕ) → c < 256 → nat_le 256 (c + 241) ≡ (bit 7 c || nat_lt 16 (c % 128 + 2))
 over_two = tests_by 256 (λ c. nat_le 256 (c + 241)) (λ c. bit 7 c || nat_lt 16 (c % 128 + 2)) refl
 
+-- a count below 16 has no overrun
 pub small_count : (c : ℕ) → c < 16 → bit 7 c ≡ false
 small_count = tests_by 16 (λ c. bit 7 c) (λ c. false) refl
 
@@ -140,6 +146,7 @@ entered_two b f ring v size below =
     by_next : (c : ℕ) → c < 15 → bit 7 (suc (suc c)) ≡ false
     by_next = tests_by 15 (λ c. bit 7 (suc (suc c))) (λ c. false) refl
 
+-- a sum that doesn't carry is a byte
 pub not_over : (c k : ℕ) → nat_le 256 (c + k) ≡ false → c + k < 256
 not_over c k h = grind (arith, nat_tests, h)
 
@@ -170,6 +177,7 @@ module _ (d : Board) (bytes : List ℕ) (hk : HasKernel bytes) (small : All IsBy
       (λ a. entered_one (f 26) f ring (bit_or z 112) h.size below)
       (is, (in_ring g ring z (f 67 + f 66) (f 26) (omega arith) j, (refl, refl, refl)))
 
+  -- a make enters the queue as in the model, in 17 cycles at most
   pub enters : Safe m ENTER f ring → f 66 % 128 ≤ 16
       → Leads d (kernel_in true bytes) x (begin_at d ENTER f ring m board)
       (Ends d x m board ENTERED 17 (λ a. Entered (f 26 ∷ []) f ring))

@@ -60,6 +60,7 @@ module _ (d : Board) (bytes : List ℕ) (hk : HasKernel bytes) (small : All IsBy
         ),
       )
 
+  -- the two bytes of a break enter the queue as in the model, in 23 cycles at most
   pub enters_two : Safe m ENTER2 f ring → f 66 % 128 ≤ 16
       → Leads d (kernel_in true bytes) x (begin_at d ENTER2 f ring m board)
       (Ends d x m board ENTERED 23 (λ a. Entered (240 ∷ f 26 ∷ []) f ring))
@@ -89,6 +90,7 @@ module _ (d : Board) (bytes : List ℕ) (hk : HasKernel bytes) (small : All IsBy
       (λ a. entered_one (f 26) f ring (bit_or z 112) h.size below)
       (is, (in_ring g ring z (f 67 + f 66) (f 26) (omega arith) j, (refl, refl, refl)))
 
+  -- the code of the key that repeats enters the queue as in the model, in 17 cycles at most
   pub again : Safe m AGAIN f ring → f 66 % 128 ≤ 16 → Leads d (kernel_in true bytes) x (begin_at d AGAIN f ring m board)
       (Ends d x m board SETTLE 17 (λ a. Entered (f 26 ∷ []) f ring))
   again = again_by (nat_le 256 (f 66 + 240)) refl

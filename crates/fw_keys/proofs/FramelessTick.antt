@@ -154,9 +154,11 @@ module _ (d : Board) (bytes : List ℕ) (hk : HasKernel bytes) (alike : IsSilent
   is : m ≡ entering timer f ring m
   is = start_entering m s
 
+  -- at a tick start all parts of the processor are in their ranges
   pub fine : IsFine (entering timer f ring m)
   fine = subst (λ c. IsFine c) is s.fine
 
+  -- at a tick start the cells are as they are between blocks
   pub inv : Inv (stacked f)
   inv = still (refl, refl, refl, refl, refl) s.inv
 
@@ -178,6 +180,7 @@ module _ (d : Board) (bytes : List ℕ) (hk : HasKernel bytes) (alike : IsSilent
   abbrev shone : d.State
   shone = after_cycles 2 229 (λ o. new (w.cycle + 3 + o)) (after_cycles 229 0 (λ o. old (w.cycle + 3 + o)) board3)
 
+  -- the board at the head's end is that after the lights are put, by the cycle
   pub shone_is : shone ≡ after_cycles 2 (w.cycle + 232) new (in_tick d w 232)
   shone_is =
       let x = w.cycle in
@@ -197,6 +200,7 @@ module _ (d : Board) (bytes : List ℕ) (hk : HasKernel bytes) (alike : IsSilent
       ∙ joined 2 n (x + 232) (x + 3 + 231) new (in_tick d w 232) (omega arith))
       ∙ ap (λ c. d.pins 44 (latch_now d w) c (after_cycles (2 + n) (x + 232) new (in_tick d w 232))) a
 
+  -- a tick without a frame does the model's work, whatever its meeting is
   pub works : (meeting : Meeting) → IsFrameless d w meeting
       → (max : ℕ) × (max ≤ 56) × ((l : TimerState) → IsInRange l → Work d bytes hk alike small low w.cycle timer f ring m
       w.board l meeting (231 + (max + (56 + (2 + edges_most bytes changed_in)))) (IsAtHead l))
@@ -345,6 +349,7 @@ module _ (d : Board) (bytes : List ℕ) (hk : HasKernel bytes) (alike : IsSilent
             ∙ ap (λ c. after_cycles (g.n + n.waited) c step g.from.board) at;
       }
 
+  -- if a tick does the model's work, it leads to the next start, with the model's keyboard in memory
   pub any_tick : (meeting : Meeting) (last_off : ℕ) → IsPressedAt keys meeting (layers_by m.ram) (shown_by m.ram)
       → (G : TimerState → Stage d.State → Type 0)
       → ((l : TimerState) → IsInRange l
@@ -368,6 +373,7 @@ module _ (d : Board) (bytes : List ℕ) (hk : HasKernel bytes) (alike : IsSilent
       } in
       subst (λ u. Tick d TICK bytes u (Came meeting last_off G)) same done
 
+  -- a tick without a frame goes on as the model's, with four edges at most to the next start in time
   pub frameless_tick : IsStarted m → length (edges_now bytes d w) ≤ 4 → IsRepeating bytes m.ram → (meeting : Meeting)
       → IsFrameless d w meeting → Tick d TICK bytes w (GoesOn d bytes meeting w)
   frameless_tick started few repeats meeting q =

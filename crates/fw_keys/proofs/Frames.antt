@@ -206,6 +206,7 @@ module _ (d : Board) (bytes : List ℕ) (hk : HasKernel bytes) (alike : IsSilent
           board_now = b.board_now ∙ ap (λ c. after_cycles e2.off c (d.cycle e.cpu.p2) e.board) at;
         }) tail
 
+    -- a tick whose frame and step are as they should be does the model's work
     pub framed : Safe m 10 f ring → Works d bytes hk alike small low held y m board f ring meeting last_off F
     framed safe =
         let h = bytes_of m 10 f ring safe in

@@ -40,6 +40,7 @@ headed look f r4 r5 i =
     if nat_le 48 i && nat_lt i 60 then bit_xor (f (i - 16)) (look (i - 48)) else
     put (put (put (put (put f 24 44) 25 LIGHTS) 27 0) 28 r4) 29 r5 i
 
+-- after the head of a tick a column's changes are what was held against what was read
 pub head_changes : (look f : ℕ → ℕ) (r4 r5 i : ℕ) → i < 12
     → headed look f r4 r5 (48 + i) ≡ bit_xor (f (32 + i)) (look i)
 head_changes look f r4 r5 i l =
@@ -51,6 +52,7 @@ head_changes look f r4 r5 i l =
     let v : 48 + i - 48 ≡ i = omega arith in
     rw (b0, a, b, c, u, v) refl
 
+-- after the head of a tick a column's held keys are those that were read
 pub head_helds : (look f : ℕ → ℕ) (r4 r5 i : ℕ) → i < 12 → headed look f r4 r5 (32 + i) ≡ look i
 head_helds look f r4 r5 i l =
     let a : nat_le 32 (32 + i) ≡ true = grind (arith, nat_tests) in
@@ -161,6 +163,7 @@ module _ (d : Board) (bytes : List ℕ) (hk : HasKernel bytes) (small : All IsBy
           ),
         )
 
+    -- the head of a tick reads the columns, finds what is offered and puts the lights, in 231 cycles
     pub head_law : Bytes f ring → IsFree m → Leads d (kernel_in true bytes) y started Headed
     head_law h = head_by (f 64 == 0) (f 65 == 0) (f 66 % 128 == 0) refl refl refl (h.cell 64 (omega arith))
         (h.cell 65 (omega arith)) (h.cell 66 (omega arith)) (h.cell 67 (omega arith)) (f 66 % 128) refl

@@ -53,6 +53,7 @@ pub pressed_by : (keys : Keys) (l : Layers) (fn : Bool) (o : Option Repeat) → 
 pressed_by keys l fn None h = tt
 pressed_by keys l fn (Some r) h = h
 
+-- what repeats is pressed in the healed layers too
 pub pressed_healed : (bytes : List ℕ) (meeting : Meeting) (l : Layers) (k : Keyboard)
     → IsPressedAt (image_keys bytes) meeting l k → IsPressedAt (image_keys bytes) meeting (healed bytes meeting k l) k
 pressed_healed bytes meeting l k h =
@@ -70,6 +71,7 @@ no_flag g zero p l = refl
 no_flag g (suc n) zero l = absurd (omega (arith, l))
 no_flag g (suc n) (suc p) l = no_flag (λ i. g (suc i)) n p (omega (arith, l))
 
+-- the model's test whether a place is held is the bit of its column's byte
 pub held_at : (g : ℕ → ℕ) (p : ℕ) (b : Bool) → nat_lt p 96 ≡ b
     → (if b then down_at g p else false) ≡ slice_index_or (held_by g) p false
 held_at g p true e = sym (flag_at (down_at g) 96 p (grind (arith, nat_tests, e)))
@@ -82,6 +84,7 @@ resets_by due byte true e =
     ap (λ v. is_reset_due (reply_of v byte)) z ∙ sym (ap (λ v. bit 1 v) z)
 resets_by due byte false e = rw e refl
 
+-- the cell of a due reply says in bit 1 whether the reply is that of a reset
 pub resets_is : (due byte : ℕ) → is_reset_due (reply_of due byte) ≡ bit 1 due
 resets_is due byte = resets_by due byte (due == 0) refl
 
@@ -89,14 +92,17 @@ resets_is due byte = resets_by due byte (due == 0) refl
 abbrev pub lifted : List ℕ → (ℕ → ℕ) → ℕ → ℕ
 lifted bytes f = put f 78 (if bit 1 (f 64) then fn_cell (was_held bytes f) else f 78)
 
+-- the healing of the Fn key's cell changes no cell before it
 pub lifted_below : (bytes : List ℕ) (f : ℕ → ℕ) (i : ℕ) → i < 78 → lifted bytes f i ≡ f i
 lifted_below bytes f i l =
     let e : (i == 78) ≡ false = grind (arith, nat_tests, l) in rw e refl
 
+-- the healing of the Fn key's cell changes no cell after it
 pub lifted_above : (bytes : List ℕ) (f : ℕ → ℕ) (i : ℕ) → 79 ≤ i → lifted bytes f i ≡ f i
 lifted_above bytes f i l =
     let e : (i == 78) ≡ false = grind (arith, nat_tests, l) in rw e refl
 
+-- without a reset's reply nothing is healed
 pub not_lifted : (bytes : List ℕ) (f : ℕ → ℕ) → bit 1 (f 64) ≡ false → (i : ℕ) → lifted bytes f i ≡ f i
 not_lifted bytes f none i =
     ap (λ b. put f 78 (if b then fn_cell (was_held bytes f) else f 78) i) none ∙ by (i == 78) refl
@@ -105,6 +111,7 @@ not_lifted bytes f none i =
     by true e = let same : i ≡ 78 = grind (arith, nat_tests, e) in rw e (ap f (sym same))
     by false e = rw e refl
 
+-- the Fn key's cell shows whether the key is down
 pub cell_shows : (b : Bool) → not (fn_cell b == 0) ≡ b
 cell_shows true = refl
 cell_shows false = refl

@@ -9,6 +9,7 @@ use Rattle.bits.specs.Bits.{bit}
 use Rattle.fw_keys.specs.Edges.{row_edges, column_edges, tick_edges}
 use Rattle.fw_keys.specs.State.{flags, down_at, held_by, layers_of}
 
+-- columns with the same bits give the same list of keys
 pub flags_same : (g h : ℕ → Bool) (n : ℕ) → ((i : ℕ) → i < n → g i ≡ h i) → flags g n ≡ flags h n
 flags_same g h zero e = refl
 flags_same g h (suc n) e =
@@ -25,6 +26,7 @@ both_more : (i q : ℕ) (b : Bool) → (i == q) ≡ b → (suc i == suc q) ≡ b
 both_more i q true e = let s : i ≡ q = grind (arith, nat_tests, e) in rw s (grind (arith, nat_tests))
 both_more i q false e = grind (arith, nat_tests, e)
 
+-- to set one key in the list is to set one bit of the columns
 pub flags_set : (g : ℕ → Bool) (n q : ℕ) (v : Bool) → slice_set (flags g n) q v ≡ flags (set_at g q v) n
 flags_set g zero q v = refl
 flags_set g (suc n) zero v =
@@ -144,6 +146,7 @@ module _ (old new : ℕ → ℕ) where
     all_new : (i : ℕ) → i < 96 → part 96 i ≡ down_at new i
     all_new i l = let e : nat_lt i 96 ≡ true = grind (arith, nat_tests, l) in rw e refl
 
+    -- the edges that the bytes of changes show turn what was held into what is
     pub held_turns : ((i : ℕ) → i < 12 → bit_xor (old i) (new i) ≡ ch i) → turned_all (tick_edges ch new) (held_by old)
         ≡ held_by new
     held_turns is = columns_turn 0 12 refl is ∙ flags_same (part 96) (down_at new) 96 all_new

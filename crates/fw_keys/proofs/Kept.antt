@@ -29,6 +29,7 @@ pub record Sound (keys : Keys) (l : Layers) (k : Keyboard) : Type 0 where
 abbrev pub NoPrefix : Keys → Type 0
 NoPrefix keys = (on_fn : Bool) (p : ℕ) → p < 96 → (keys.code on_fn p == 240) ≡ false
 
+-- what repeats is at a place of the matrix
 pub pressed_low : (keys : Keys) (l : Layers) (r : Option Repeat) → IsPressed keys l r → low_repeat r
 pressed_low keys l None is = tt
 pressed_low keys l (Some r) is = is.0
@@ -134,6 +135,7 @@ module _ (keys : Keys) (codes : NoPrefix keys) where
     obeys byte true k s = obeys_in k.mode byte k s
     obeys byte false k s = record { codes = s.codes; place = s.place }
 
+    -- a meeting keeps whole codes in the queue, and that what repeats is pressed
     pub met_sound : (meeting : Meeting) (k : Keyboard) → Sound keys l k → Sound keys l (met meeting keys k)
     met_sound Sent k s = sends (offer k) k s
     met_sound (Got byte good) k s = obeys byte good k s
@@ -141,6 +143,7 @@ module _ (keys : Keys) (codes : NoPrefix keys) where
     met_sound Idle k s = s
     met_sound Cut k s = s
 
+    -- so does a tick of the self-test
     pub tested_sound : (b : Bool) (k : Keyboard) → Sound keys l k → Sound keys l (tested_if b k)
     tested_sound true k s = record { codes = s.codes; place = s.place }
     tested_sound false k s = s

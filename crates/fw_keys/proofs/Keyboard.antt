@@ -16,6 +16,7 @@ use Rattle.fw_keys.proofs.KeyedTick.{keyed_tick}
 use Rattle.fw_keys.proofs.Edges.{ticked_is}
 use Rattle.fw_keys.proofs.Held.{held_turns, held_same}
 
+-- the list of n keys has n keys
 pub flags_long : (g : ℕ → Bool) (n : ℕ) → length (flags g n) ≡ n
 flags_long g zero = refl
 flags_long g (suc n) = ap suc (flags_long (λ i. g (suc i)) n)
@@ -31,6 +32,7 @@ pub record Gone (keys : Keys) (meeting : Meeting) (changed down : ℕ → ℕ) (
 abbrev pub IsPressedAt : Keys → Meeting → Layers → Keyboard → Type 0
 IsPressedAt keys meeting l k = IsPressed keys l (tested_if (not (k.test == 0)) (met meeting keys k)).repeats
 
+-- a tick of the self-test keeps that what repeats is pressed
 pub tested_pressed : (keys : Keys) (l : Layers) (k : Keyboard) (b : Bool) → IsPressed keys l k.repeats
     → IsPressed keys l (tested_if b k).repeats
 tested_pressed keys l k true h = h
@@ -48,6 +50,8 @@ frameless_pressed d w keys (Got byte good) q h = elim q [ ]
 frameless_pressed d w keys Sent q h = elim q [ ]
 frameless_pressed d w keys Cut q h = elim q [ ]
 
+-- a tick that does the keys' steps right on all but the held keys, and leaves the held keys' bytes as read, is a tick
+-- of the model
 pub keyboard_goes : (keys : Keys) (meeting : Meeting) (from : Layers) (s : ℕ → ℕ) (ring : List ℕ) (now : ℕ → ℕ)
     (last : List ℕ) (changed down : ℕ → ℕ)
     → length from.pressed_in ≡ 96

@@ -21,8 +21,10 @@ abbrev pub keyed_tick : Keys → Meeting → (ℕ → ℕ) → (ℕ → ℕ) →
 keyed_tick keys meeting changed down l k =
     keyed keys (is_inhibited meeting) changed down l (tested_if (not (k.test == 0)) (met meeting keys k))
 
+-- the registers that are set for a look are none of the cells
 pub below_cells : (f : ℕ → ℕ) (i : ℕ) → 32 ≤ i → readied f i ≡ f i
 below_cells f i l = grind (arith, nat_tests, l)
 
+-- nor is the count of bits that is set with them
 pub counted_cells : (f : ℕ → ℕ) (n i : ℕ) → 32 ≤ i → put (readied f) 27 n i ≡ f i
 counted_cells f n i l = grind (arith, nat_tests, l)

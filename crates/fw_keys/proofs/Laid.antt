@@ -8,15 +8,18 @@ use Rattle.fw_logic.proofs.Block.{before, memory, put}
 abbrev pub laid : (ℕ → ℕ) → (ℕ → ℕ) → ℕ → ℕ
 laid f bytes i = if nat_lt i 80 then f i else if nat_lt i 92 then bytes (i - 80) else f i
 
+-- the columns' layers change no cell before them
 pub laid_low : (f bytes : ℕ → ℕ) (i : ℕ) → i < 80 → laid f bytes i ≡ f i
 laid_low f bytes i l = let e : nat_lt i 80 ≡ true = grind (arith, nat_tests, l) in rw e refl
 
+-- the columns' layers change no cell after them
 pub laid_high : (f bytes : ℕ → ℕ) (i : ℕ) → 92 ≤ i → laid f bytes i ≡ f i
 laid_high f bytes i l =
     let a : nat_lt i 80 ≡ false = grind (arith, nat_tests, l) in
     let b : nat_lt i 92 ≡ false = grind (arith, nat_tests, l) in
     rw (a, b) refl
 
+-- the cell of a column's layers has the column's byte
 pub laid_at : (f bytes : ℕ → ℕ) (c : ℕ) → c < 12 → laid f bytes (80 + c) ≡ bytes c
 laid_at f bytes c l =
     let a : nat_lt (80 + c) 80 ≡ false = (let n : 80 ≤ 80 + c = omega arith in grind (arith, nat_tests, n)) in
@@ -90,6 +93,7 @@ laid_same f bytes c v i false true ea eb l = by (i == 80 + c) refl
         let at : (i - 80 == c) ≡ false = (let n : (i == 80 + c) ≡ false = e in grind (arith, nat_tests, n, low)) in
         rw (e, ea, eb, at) refl
 
+-- a write to the cell of a column's layers is a write to that column's byte
 pub laid_set : (f bytes : ℕ → ℕ) (ring : List ℕ) (c v : ℕ) → c < 12
     → memory (put (laid f bytes) (80 + c) v) ring ≡ memory (laid f (put bytes c v)) ring
 laid_set f bytes ring c v l =

@@ -26,17 +26,20 @@ abbrev pub each : Keys → Bool → List TickEdge → Keyboard → Keyboard
 each keys on [] k = k
 each keys on (e ∷ es) k = each keys on es (one keys on e k)
 
+-- the edges of two lists, one list after the other, change the keyboard as both lists joined
 pub each_more : (keys : Keys) (on : Bool) (xs ys : List TickEdge) (k : Keyboard)
     → each keys on (xs ++ ys) k ≡ each keys on ys (each keys on xs k)
 each_more keys on [] ys k = refl
 each_more keys on (x ∷ xs) ys k = each_more keys on xs ys (one keys on x k)
 
+-- the layers of joined edges are those of the first list, then those of the second after it
 pub layered_more : (is_fn : ℕ → Bool) (xs ys : List (ℕ × Bool)) (l : Layers)
     → layered is_fn (xs ++ ys) l ≡ layered is_fn xs l ++ layered is_fn ys (all_layers_after is_fn xs l)
 layered_more is_fn [] ys l = refl
 layered_more is_fn (x ∷ xs) ys l =
     ap (λ t. in_layer l x ∷ t) (layered_more is_fn xs ys (layers_after is_fn x l))
 
+-- the layers after two lists are those after both lists joined
 pub after_more : (is_fn : ℕ → Bool) (xs ys : List (ℕ × Bool)) (l : Layers)
     → all_layers_after is_fn (xs ++ ys) l ≡ all_layers_after is_fn ys (all_layers_after is_fn xs l)
 after_more is_fn [] ys l = refl
@@ -236,6 +239,7 @@ module _ (keys : Keys) (on : Bool) where
       subst (λ t. Runs keys on (row_edges (8 * c) 0 8 ch dn) t s.keyboard (layers_by (column e c ch dn s).fn
       (column e c ch dn s).bytes) (column e c ch dn s).keyboard) own h
 
+  -- the columns one after another do to keyboard and layers what the list of their edges does
   pub columns_run : (c n : ℕ) (ch dn : ℕ → ℕ) → c + n ≡ 12 → (s : Decks)
       → Runs keys on (column_edges c n ch dn) (layers_by s.fn s.bytes) s.keyboard
       (layers_by (columns e c n ch dn s).fn (columns e c n ch dn s).bytes) (columns e c n ch dn s).keyboard

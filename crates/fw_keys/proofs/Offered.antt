@@ -29,6 +29,7 @@ is_first held f ring b n is e64 e65 en =
     ap the (sym is) ∙ ap the queued
     ∙ ap (λ c. the (first_of (made (λ i. slice_index ring ((f 67 + i) % 16)) c) (bit 7 (f 66)))) en
 
+-- with neither a reply nor AA due, the byte that is offered is the queue's first
 pub first_of_law : (held : List Bool) (f : ℕ → ℕ) (ring : List ℕ) (b : ℕ) → offer (kbd_of held f ring) ≡ Some b
     → (f 64 == 0) ≡ true → (f 65 == 0) ≡ true → 0 < f 66 % 128 → b ≡ slice_index ring ((f 67 + 0) % 16)
 first_of_law held f ring b is e64 e65 some = by (f 66 % 128) refl some

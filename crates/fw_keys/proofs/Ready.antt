@@ -285,6 +285,7 @@ module _ (d : Board) (bytes : List ℕ) (hk : HasKernel bytes) (small : All IsBy
       })
       (t0, (t1, (t2, (t3, (t4, (t5, (t6, (t7, (t8, (refl, refl, refl))))))))))
 
+  -- a command in mode Ready is obeyed as the model says, in 43 cycles at most
   pub ready_law : Safe m READY (based v f) ring → Obeys
   ready_law = ready_by (nat_lt (f 28) 237) (f 28 == 237) (f 28 == 238) (f 28 == 243) (f 28 == 244) (f 28 == 245)
       (f 28 == 246) (f 28 == 254) (f 28 == 255) refl refl refl refl refl refl refl refl refl

@@ -43,6 +43,7 @@ was_same bytes g f e = by (slice_index bytes fn_place_at) (nat_lt (slice_index b
         rw (is, a, b) refl
     by p false is = rw is refl
 
+-- two memories with the same cells have the same cells after the healing
 pub lifted_same : (bytes : List ℕ) (g f : ℕ → ℕ) → ((i : ℕ) → 32 ≤ i → i < 60 → g i ≡ f i) → g 64 ≡ f 64
     → (i : ℕ) → g i ≡ f i → g 78 ≡ f 78 → lifted bytes g i ≡ lifted bytes f i
 lifted_same bytes g f e due i is fn =
@@ -121,6 +122,7 @@ module _ (bytes : List ℕ) (held : List Bool) (f : ℕ → ℕ) (byte : f 68 < 
         queue = queue_by started head started ring;
       }
 
+  -- the cells after a reset show the keyboard as after a reset, and the Fn key as it is held
   pub renewed : (a : ℕ) → Renewed bytes held f ring a (as_new bytes g) ring
   renewed a =
       let bit_is : g 68 ≡ f 68 % 2 = h.started ∙ one_bit (f 68) byte in
@@ -189,6 +191,7 @@ module _ (d : Board) (bytes : List ℕ) (hk : HasKernel bytes) (small : All IsBy
         ap g same ∙ h.fn ∙ sym (rw (e, both) refl)
     lifts both g r a h i l false e = h.layers i l e ∙ sym (rw e refl)
 
+    -- if the reply to a reset goes, memory shows the model's reset, in 98 cycles at most
     pub resets : Safe m DROP f ring → bit 1 (f 64) ≡ true
         → Leads d (kernel_in true bytes) x (begin_at d DROP f ring m board)
         (Ends d x m board SCAN 98 (Keeps held Step (lifted bytes f) ring))

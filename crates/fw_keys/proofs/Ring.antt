@@ -5,26 +5,31 @@ use Rattle.std.proofs.lemmas.List.{get_or-set_same, get_or-set_other}
 use Rattle.fw_logic.proofs.Block.{before, memory}
 use Rattle.fw_keys.specs.State.{made}
 
+-- a write to the ring changes none of the cells before it
 pub set-afterwards : (f : ℕ → ℕ) (from n : ℕ) (ring : List ℕ) (j v : ℕ) → slice_set (before f from n ring) (n + j) v
     ≡ before f from n (slice_set ring j v)
 set-afterwards f from zero ring j v = rw zero-add refl
 set-afterwards f from (suc n) ring j v = let e : suc n + j ≡ suc (n + j) = omega arith in
     rw e (ap (λ t. f from ∷ t) (set-afterwards f (from + 1) n ring j v))
 
+-- a write to data memory at the ring's j-th place changes the ring's j-th byte
 pub ring-set : (f : ℕ → ℕ) (ring : List ℕ) (j v : ℕ) → j < 16 → slice_set (memory f ring) ((112 + j) % 128) v
     ≡ memory f (slice_set ring j v)
 ring-set f ring j v l = let e : (112 + j) % 128 ≡ 112 + j = omega arith in rw e (set-afterwards f 0 112 ring j v)
 
+-- functions with the same first values give the same list
 pub made-same : (g h : ℕ → ℕ) (n : ℕ) → ((i : ℕ) → i < n → g i ≡ h i) → made g n ≡ made h n
 made-same g h zero e = refl
 made-same g h (suc n) e =
     let a : g 0 ≡ h 0 = e 0 (omega arith) in
     let rest = made-same (λ i. g (suc i)) (λ i. h (suc i)) n (λ i l. e (suc i) (omega (arith, l))) in rw (a, rest) refl
 
+-- one more value is added at the end
 pub made-more : (g : ℕ → ℕ) (n : ℕ) → made g (suc n) ≡ made g n ++ (g n ∷ [])
 made-more g zero = refl
 made-more g (suc n) = ap (λ t. g 0 ∷ t) (made-more (λ i. g (suc i)) n)
 
+-- the list of the first n values has n values
 pub made-length : (g : ℕ → ℕ) (n : ℕ) → length (made g n) ≡ n
 made-length g zero = refl
 made-length g (suc n) = ap suc (made-length (λ i. g (suc i)) n)

@@ -284,6 +284,7 @@ module _ (d : Board) (bytes : List ℕ) (hk : HasKernel bytes) (alike : IsSilent
   by_bit k ih r x m board f ring row safe true is = changes k r x m board f ring ih row safe is
   by_bit k ih r x m board f ring row safe false is = skips k r x m board f ring ih row safe is
 
+  -- the rows that are left in a column take their edges as in the model
   pub rows_law : (n : ℕ) → RowsLaw n
   rows_law zero r x m board f ring row safe =
       recast d (kernel_in true bytes) (has_rows true bytes hk) small low x m board FOOT 0 (rows_time r 0 c)

@@ -25,6 +25,7 @@ same_cells held g f ring e =
     let r : g 77 ≡ f 77 = e 77 (omega arith) (omega arith) in
     rw (a, b, c, h, i, j, k, l, m, n, o, p, q, r) refl
 
+-- what holds of the cells between blocks depends on the cells 40 to 4E (hexadecimal) alone
 pub same_inv : (g f : ℕ → ℕ) → ((i : ℕ) → 64 ≤ i → i < 79 → g i ≡ f i) → Inv f → Inv g
 same_inv g f e inv =
     let c : g 66 ≡ f 66 = e 66 (omega arith) (omega arith) in
@@ -41,6 +42,7 @@ same_inv g f e inv =
       fn = rw v inv.fn;
     }
 
+-- the head of a tick changes none of the cells after the columns' changes
 pub head_keeps : (look f : ℕ → ℕ) (r4 r5 i : ℕ) → 60 ≤ i → headed look f r4 r5 i ≡ f i
 head_keeps look f r4 r5 i l =
     let a : nat_le 32 i ≡ true = (let u : 32 ≤ i = omega (arith, l) in grind (arith, nat_tests, u)) in

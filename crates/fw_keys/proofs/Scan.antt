@@ -47,9 +47,11 @@ over_layers f p i l u = grind (arith, nat_tests, l, u)
 pub changes_same : (b : Bool) (p q x y : ℕ) → p ≡ q → x ≡ y → changes_by b p x ≡ changes_by b q y
 changes_same b p q x y e f = ap (λ v. changes_by b v x) e ∙ ap (λ v. changes_by b q v) f
 
+-- the same readings leave the same keys pending
 pub pends_same : (b : Bool) (p q x y : ℕ) → p ≡ q → x ≡ y → pends_by b p x ≡ pends_by b q y
 pends_same b p q x y e f = ap (λ v. pends_by b v x) e ∙ ap (λ v. pends_by b q v) f
 
+-- the same readings leave the same keys held
 pub holds_same : (b : Bool) (p q x y r t : ℕ) → p ≡ q → x ≡ y → r ≡ t → holds_by b p x r ≡ holds_by b q y t
 holds_same b p q x y r t e f g =
     ap (λ v. holds_by b v x r) e ∙ ap (λ v. holds_by b q v r) f ∙ ap (λ v. holds_by b q y v) g
@@ -96,6 +98,7 @@ module _ (d : Board) (bytes : List ℕ) (hk : HasKernel bytes) (alike : IsSilent
     pub others : (h 68 ≡ f 68) × (h 70 ≡ f 70) × (h 77 ≡ f 77)
     pub stack : (h 8 ≡ f 8) × (h 9 ≡ f 9)
 
+  -- the keys settle, what repeats is entered, and the edges are taken, as in steps 4 and 5 of the model
   pub scan_law : (ch hd pd : ℕ → ℕ) (x : ℕ) (m : Cpu) (board : d.State) (f : ℕ → ℕ) (ring : List ℕ) → f 66 % 128 ≤ 16
       → IsFnCell (f 78) → Safe m SCAN f ring
       → ((i : ℕ) → i < 12 → changes_by (debounces bytes) (f (96 + i)) (f (48 + i)) ≡ ch i)

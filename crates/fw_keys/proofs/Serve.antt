@@ -110,18 +110,21 @@ edges_by ch = by (changed_columns ch 0 12) (all_edges ch 0 12) (columns_all ch 0
     by : (m e : ℕ) → m ≤ 12 → 9 * 12 + 93 * m + 62 * e ≤ 1224 + 62 * e
     by m e h = omega (arith, h)
 
+-- with at most four edges in a tick, the columns take 728 cycles at most
 pub four_edges : (ch : ℕ → ℕ) → ((i : ℕ) → i < 12 → ch i < 256) → all_edges ch 0 12 ≤ 4 → columns_most ch ≤ 728
 four_edges ch l few = sum (changed_columns ch 0 12) (all_edges ch 0 12) (columns_few ch 0 12 refl l) few
   where
     sum : (m e : ℕ) → m ≤ e → e ≤ 4 → 9 * 12 + 93 * m + 62 * e ≤ 728
     sum m e h g = omega (arith, h, g)
 
+-- the way back on the stack is no part of the held keys
 pub kept_on : (f : ℕ → ℕ) (c : ℕ) → stacked f (32 + c) ≡ f (32 + c)
 kept_on f c =
     let a : (32 + c == 9) ≡ false = grind (arith, nat_tests) in
     let b : (32 + c == 8) ≡ false = grind (arith, nat_tests) in
     put_other (put f 8 252) 9 16 (32 + c) a ∙ put_other f 8 252 (32 + c) b
 
+-- the way back on the stack is no part of the cells from the Fn key's on
 pub stacked_at : (f : ℕ → ℕ) (i : ℕ) → 78 ≤ i → stacked f i ≡ f i
 stacked_at f i l =
     let a : (i == 9) ≡ false = grind (arith, nat_tests, l) in
@@ -260,8 +263,10 @@ module _ (d : Board) (bytes : List ℕ) (hk : HasKernel bytes) (alike : IsSilent
     abbrev in_range : IsInRange b
     in_range = record { t = fine.t; pre = fine.pre }
 
+    -- a whole tick leads to the next one, and memory shows the model's keyboard a tick later
     pub tick : Tick d TICK bytes start (Next d x b (3 + last_off) (Goes meeting F))
     tick = serves d bytes hk x b in_range f ring m board (3 + last_off) (Goes meeting F) over
 
+    -- the tick has its way through the service to the next start
     pub tick_passes : Passes d bytes start
     tick_passes = passes d bytes hk x b in_range f ring m board (3 + last_off) (Goes meeting F) over

@@ -49,6 +49,7 @@ abbrev pub settle_cycles : Bool → ℕ
 settle_cycles false = 8
 settle_cycles true = 322
 
+-- to settle the keys takes 322 cycles at most
 pub settle_short : (b : Bool) → settle_cycles b ≤ 322
 settle_short false = omega arith
 settle_short true = omega arith

@@ -43,6 +43,7 @@ changes_is false pending differing l m = refl
 changes_is true pending differing l m =
     pair_by 256 256 (λ x p. bit_xor (bit_and x (255 - p)) x) (λ x p. bit_and x p) refl differing pending m l
 
+-- what changed in a column is a byte
 pub changed_small : (b : Bool) (pending differing : ℕ) → differing < 256 → changed_by b pending differing < 256
 changed_small false pending differing m = m
 changed_small true pending differing m = let l = and_le_l differing pending in omega (arith, l, m)

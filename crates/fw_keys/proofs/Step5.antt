@@ -43,6 +43,7 @@ sum_most : (a one k rest n m e : ℕ) → a ≤ 93 * one + 62 * k → rest ≤ 9
     → 4 + a + 5 + rest ≤ 9 * suc n + 93 * (one + m) + 62 * (k + e)
 sum_most a one k rest n m e h g = omega (arith, h, g)
 
+-- the time of the columns is at most 9 cycles each, 93 for each that changed and 62 for each edge
 pub time_most : (ch : ℕ → ℕ) (c n : ℕ) → columns_time ch c n ≤ 9 * n + 93 * changed_columns ch c n + 62 * all_edges ch c
     n
 time_most ch c zero = omega arith

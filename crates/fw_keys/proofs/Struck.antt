@@ -260,5 +260,6 @@ module _ (d : Board) (bytes : List ℕ) (hk : HasKernel bytes) (alike : IsSilent
       (λ x' m' board' same a safe'. release_by (code L == 0) on (f 72 == index L) (bit (7 - k) (f 24)) x' m' board' a
       safe' refl (ap (λ k. k.f0) same ∙ flag) refl refl)
 
+  -- an edge of a row does a step of the model, in 61 cycles at most
   pub edge_law : EdgeLaw m.f0 (bit (7 - k) (f 31))
   edge_law = by_down m.f0 (bit (7 - k) (f 31)) refl refl

@@ -72,6 +72,7 @@ module _ (d : Board) (bytes : List ℕ) (hk : HasKernel bytes) (small : All IsBy
       })
       (ap not runs, (refl, (refl, refl, refl, λ e0. (refl, (refl, refl, refl, λ e1. (none, (refl, refl, refl)))))))
 
+  -- a tick of the self-test counts it down as in the model, in 36 cycles at most
   pub testing_law : (f 69 == 0) ≡ false → Safe m TESTED f ring
       → Leads d (kernel_in true bytes) x (begin_at d TESTED f ring m board)
       (Ends d x (record m { f1 = false }) board SCAN 36 (Keeps held (tested_if true) f ring))

@@ -173,6 +173,7 @@ module _ (d : Board) (bytes : List ℕ) (hk : HasKernel bytes) (alike : IsSilent
             → g (48 + i) ≡ differing i
         differs g e i l = e (48 + i) (omega arith) (omega (arith, l)) ∙ head_changes reads f r4 r5 i l
 
+    -- a tick whose meeting does a step of the model does that step and then the keys' steps
     pub tick_by : (inhibited : Bool) (max : ℕ) (step : Keyboard → Keyboard) → Way inhibited max step → Safe m 10 f ring
         → Leads d (kernel_in true bytes) y begun (Ticked inhibited max step)
     tick_by inhibited max step way safe =
@@ -341,6 +342,7 @@ module _ (d : Board) (bytes : List ℕ) (hk : HasKernel bytes) (alike : IsSilent
         weaken d (kernel_in true bytes) (has_rows true bytes hk) y (Ticked inhibited max step)
         (λ e. Ticked inhibited max step e × IsTick meeting inhibited step) begun (λ e a. (a, same)) h
 
+    -- with nothing offered and both wires high a tick is the model's idle one
     pub idle_tick : Inv f → (f 69 == 0) ≡ true → offer (kbd_of held f ring) ≡ None → IsFreeAt → Safe m 10 f ring
         → TickLaw Idle false 31 same_kbd
     idle_tick inv no_test nothing wires safe =
@@ -349,6 +351,7 @@ module _ (d : Board) (bytes : List ℕ) (hk : HasKernel bytes) (alike : IsSilent
         (tested_if (not b) (kbd_of held f ring))) no_test))
         (tick_by false 31 same_kbd (idle_way inv no_test nothing wires.0 wires.1) safe)
 
+    -- if data is low at the first look alone, a tick is the model's idle one
     pub glitch_tick : Inv f → (f 69 == 0) ≡ true → IsGlitchAt → Safe m 10 f ring → TickLaw Idle false 56 same_kbd
     glitch_tick inv no_test levels safe =
         with_model Idle false 56 same_kbd
@@ -356,6 +359,7 @@ module _ (d : Board) (bytes : List ℕ) (hk : HasKernel bytes) (alike : IsSilent
         (tested_if (not b) (kbd_of held f ring))) no_test))
         (tick_by false 56 same_kbd (glitch_way inv no_test levels) safe)
 
+    -- if the clock is low at its look, a tick is the model's inhibited one
     pub inhibited_tick : Inv f → (f 69 == 0) ≡ true
         → (d.pins 44 (255 - f LIGHTS) (y + 231 + 22) (after_cycles 22 0 (λ o. d.cycle (255 - f LIGHTS) (y + 231 + o)) shining)).t0
         ≡ false → Safe m 10 f ring → TickLaw Inhibited true 31 same_kbd
@@ -365,6 +369,7 @@ module _ (d : Board) (bytes : List ℕ) (hk : HasKernel bytes) (alike : IsSilent
         (tested_if (not b) (kbd_of held f ring))) no_test))
         (tick_by true 31 same_kbd (inhibited_way inv no_test low_clock) safe)
 
+    -- in the self-test a tick is the model's idle one
     pub test_tick : Inv f → (f 69 == 0) ≡ false → Safe m 10 f ring → TickLaw Idle false 36 (tested_if true)
     test_tick inv runs safe =
         with_model Idle false 36 (tested_if true)

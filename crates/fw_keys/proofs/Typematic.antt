@@ -65,6 +65,7 @@ period_in = by_byte (λ b. byte_in (978 + b % 32)) period refl
 no_table : (b : ℕ) → b < 256 → is_table (978 + b % 32) ≡ false
 no_table = tests_by 256 (λ b. is_table (978 + b % 32)) (λ b. false) refl
 
+-- a read from the kernel's table of periods gives the model's period
 pub period_read : (bytes : List ℕ) → HasKernel bytes → (b : ℕ) → b < 256 → slice_index bytes (768 + (210 + b % 32))
     ≡ period b
 period_read bytes hk b l = let e : 768 + (210 + b % 32) ≡ 978 + b % 32 = omega arith in
@@ -221,6 +222,7 @@ module _ (d : Board) (bytes : List ℕ) (hk : HasKernel bytes) (small : All IsBy
       })
       (again d bytes hk small low held x1 m1 board1 g1 ring safe1 most))
 
+  -- step 4 finds whether scanning is on, and does with the key that repeats what the model does
   pub step4_law : (b : Bool) (x : ℕ) (m : Cpu) (board : d.State) (f : ℕ → ℕ) (ring : List ℕ) → f 66 % 128 ≤ 16
       → Safe m SCAN f ring → is_scanning (kbd_of held f ring) ≡ b
       → Leads d (kernel_in true bytes) x (begin_at d SCAN f ring m board)

@@ -76,6 +76,7 @@ module _ (edges : List Edge) (events : List HostEvent) (d : Board) (to : d.State
   unfolding joint_pins
   clock_is p1 p2 cycle s = ap (λ (l : Pins). l.t0) (over.pins p1 p2 cycle s)
 
+  -- the data wire is high exactly if both the keyboard and the controller let it go
   pub data_is : (p1 p2 cycle : ℕ) (s : d.State)
       → (d.pins p1 p2 cycle s).t1 ≡ ((latch_of p2).dat && (drive (to s).pc.side.port.link).dat)
   unfolding joint_pins

@@ -45,6 +45,7 @@ board_at_look d y w m board = after_cycles 2 16 (λ o. d.cycle w (y + o))
 pub one_less : (c n : ℕ) → c ≡ suc n → n < 255 → (c + 255) % 256 ≡ n
 one_less c n count few = omega (arith, count, few)
 
+-- the count of cells, less one, isn't zero exactly if a cell is left
 pub asks : (c n : ℕ) → (c + 255) % 256 ≡ n → (more : Bool) → not (n == 0) ≡ more → not ((c + 255) % 256 == 0) ≡ more
 asks c n less more left = ap (λ k. not (k == 0)) less ∙ left
 
@@ -80,6 +81,7 @@ module _ (d : Board) (bytes : List ℕ) (has : HasKernel bytes) (y : ℕ) (m : C
   abbrev pub half_turned : ℕ → ℕ → ℕ
   half_turned v = put (put f 30 (128 * digit m.c + f 30 / 2)) 25 v
 
+  -- if the clock is low at a cell's first look, the kernel lets both wires go and leaves the frame
   pub cut : (b : Bool) (v : ℕ) → IsFree m → bit 0 (f 30) ≡ b → bit_or (2 * digit b) (f 26) ≡ v → clock_seen ≡ false
       → Leads d (kernel_in true bytes) y (begin_at d S_CELL f ring m board)
       (At d (record m { p2 = bit_or (f 25) 3 }) SCAN (half_turned v) ring 24 board_cut)
@@ -114,6 +116,8 @@ module _ (d : Board) (bytes : List ℕ) (has : HasKernel bytes) (y : ℕ) (m : C
         ),
       )
 
+  -- if the clock is high at a cell's looks, the kernel goes on with the next cell, or with the stop bit's fall after
+  -- the last one
   pub cell : (b : Bool) (v n : ℕ) → IsFree m → f 27 ≡ suc n → n < 255 → bit 0 (f 30) ≡ b
       → bit_or (2 * digit b) (f 26) ≡ v → clock_seen ≡ true → (more : Bool) → not (n == 0) ≡ more
       → (more ≡ true → clock_again v ≡ true)

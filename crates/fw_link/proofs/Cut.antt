@@ -28,6 +28,7 @@ use Rattle.joint_run.specs.Run.{Board, after_cycles}
 pub as_sent : (v byte look o : ℕ) → o < look + 2 → cut_latch v byte look o ≡ sent_latch v byte o
 as_sent v byte look o l = let a : nat_lt o (look + 2) ≡ true = grind (arith, nat_tests, l) in rw a refl
 
+-- two cycles after the look that cuts a frame both wires are let go, and stay so
 pub as_cut : (v byte look i : ℕ) → cut_latch v byte look (look + 2 + i) ≡ v
 as_cut v byte look i = let a : nat_lt (look + 2 + i) (look + 2) ≡ false = grind (arith, nat_tests) in rw a refl
 

@@ -31,6 +31,7 @@ in_quarters b = bit_xor (rotated (rotated (in_halves b))) (in_halves b)
 abbrev pub in_eighths : ℕ → ℕ
 in_eighths b = bit_xor (rotated (in_quarters b)) (in_quarters b)
 
+-- a byte folded upon itself three times gives its odd parity
 pub parity_is : (b : ℕ) → b < 256 → 255 - in_eighths b ≡ 255 * digit (parity_of b)
 parity_is = by_byte (λ b. 255 - in_eighths b) (λ b. 255 * digit (parity_of b)) refl
 
@@ -112,6 +113,7 @@ module _ (d : Board) (bytes : List ℕ) (has : HasKernel bytes) (y : ℕ) (m : C
       after_cycles 4 16 (λ o. d.cycle (bit_or (bit_and m.p2 254) 1) (y + o))
       (after_cycles 16 0 (λ o. d.cycle (bit_and m.p2 254) (y + o)) board)
 
+  -- the eleventh fall of a sent frame holds the clock low for 16 cycles, and then the frame is sent
   pub stops : IsFree m
       → Leads d (kernel_in true bytes) y (begin_at d S_STOP f ring m board)
       (At d (record m { p2 = bit_or (bit_and m.p2 254) 1 }) SENT (put f 24 0) ring 20 board_stopped)

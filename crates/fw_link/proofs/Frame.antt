@@ -36,6 +36,7 @@ start_put v byte i l =
 abbrev first : ℕ → ℕ → ℕ → (ℕ → ℕ) → ℕ → ℕ
 first r2 r6 b f = put (put (put (put (put f 26 r2) 30 r6) 24 (in_quarters b)) 25 r2) 27 10
 
+-- at its first cell a sent frame has the byte, the latch and the ten cells that are left in its registers
 pub first_cells : (f : ℕ → ℕ) (ring : List ℕ) (v byte : ℕ) → f 26 ≡ bit_and v 253 → f 30 ≡ byte → f 28 ≡ byte
     → memory (first (f 26) (f 30) (f 28) f) ring ≡ memory (sending f v byte 0 10 (in_quarters byte)) ring
 first_cells f ring v byte low whole is =
@@ -58,6 +59,7 @@ module _ (d : Board) (bytes : List ℕ) (has : HasKernel bytes) (x : ℕ) (m : C
   pub to_start : m.p2 ≡ v → after_cycles 10 0 (λ o. d.cycle m.p2 (x + o)) board ≡ at_offset 10
   to_start out = spans d x (sent_latch v byte) 10 0 x 0 m.p2 board board refl (λ i l. before_start v byte i l ∙ sym out) refl
 
+  -- the board up to the first cell is the board under the latch of a sent frame
   pub from_start : m.p2 ≡ v → f 26 ≡ bit_and v 253 → (n : ℕ) → n ≤ 18
       → after_cycles n 10 (λ o. d.cycle (f 26) (x + o)) (after_cycles 10 0 (λ o. d.cycle m.p2 (x + o)) board)
       ≡ at_offset (10 + n)
@@ -75,6 +77,7 @@ module _ (d : Board) (bytes : List ℕ) (has : HasKernel bytes) (x : ℕ) (m : C
       let put : m.p2 ≡ sent_latch v byte 8 = out ∙ sym (before_start v byte 8 (omega arith)) in
       ap (λ t. (d.pins m.p1 m.p2 (x + 8) t).t0) at ∙ ap (λ q. (d.pins m.p1 q (x + 8) (at_offset 8)).t0) put
 
+  -- the second look before the first fall finds the clock at offset 26 of the frame
   pub second_is : m.p2 ≡ v → f 26 ≡ bit_and v 253 → clock_second d bytes has x m board f ring ≡ is_high 26
   second_is out low =
       let put : f 26 ≡ sent_latch v byte 26 = low ∙ sym (start_put v byte 16 (omega arith)) in

@@ -124,6 +124,7 @@ module _ (bytes : List ℕ) (has : HasKernel bytes) (edges : List Edge) (events 
     abbrev released : IsReleased m.p2
     released = released_of start byte u h
 
+    -- on any board above the joint one the kernel sends a whole frame if the controller leaves the clock alone
     pub sent_over : ((o : ℕ) → o < 368 → lines (260 + start + o) ≡ latch_of (sent_latch m.p2 byte o))
         → ((look : ℕ) → IsLook look → is_let events lines u look ≡ true)
         → Comes d TICK bytes w (Goes is_sending SENT 368 (sent_latch m.p2 byte))
@@ -145,6 +146,7 @@ module _ (bytes : List ℕ) (has : HasKernel bytes) (edges : List Edge) (events 
           board,
         ))
 
+    -- on any board above the joint one the kernel leaves a frame at the first look that finds the clock low
     pub cut_over : (look : ℕ) → IsLook look
         → ((o : ℕ) → o < cut_after look → lines (260 + start + o) ≡ latch_of (cut_latch m.p2 byte look o))
         → ((earlier : ℕ) → IsLook earlier → earlier < look → is_let events lines u earlier ≡ true)
@@ -172,6 +174,7 @@ module _ (bytes : List ℕ) (has : HasKernel bytes) (edges : List Edge) (events 
           board,
         ))
 
+  -- on any board above the joint one the kernel reads the byte that the controller requests to send
   pub got_over : Awaits start u → byte < 256
       → ((o : ℕ) → o < 366 → lines (260 + start + o) ≡ latch_of (received_latch m.p2 o))
       → (at_again events lines u).side.port.link ≡ Request byte
@@ -235,6 +238,7 @@ module _ (edges : List Edge) (events : List HostEvent) (w : World Beside) (latch
       ))
       come
 
+-- while the controller leaves the clock alone, the kernel sends the byte that is offered as a whole frame
 pub sent_law : SentLaw
 sent_law bytes has edges events start byte w h lines drives high =
     let latch : ℕ → ℕ = sent_latch w.cpu.p2 byte in
@@ -242,6 +246,7 @@ sent_law bytes has edges events start byte w h lines drives high =
     (sent_over bytes has edges events (watch edges events w latch) (beneath edges events w latch)
     (watch_over edges events w latch) start byte (watched w) lines h drives high)
 
+-- at the first look that finds the clock low, the kernel lets both wires go, and the frame is cut
 pub cut_law : CutLaw
 cut_law bytes has edges events start byte look w h is lines drives high low =
     let latch : ℕ → ℕ = cut_latch w.cpu.p2 byte look in
@@ -249,6 +254,7 @@ cut_law bytes has edges events start byte look w h is lines drives high low =
     (cut_over bytes has edges events (watch edges events w latch) (beneath edges events w latch)
     (watch_over edges events w latch) start byte (watched w) lines h look is drives high low)
 
+-- the kernel reads the byte that the controller sends, with its parity
 pub got_law : GotLaw
 got_law bytes has edges events start byte w h small lines drives asks link clock =
     let latch : ℕ → ℕ = received_latch w.cpu.p2 in
@@ -264,6 +270,7 @@ look_from_edge events lines start w at =
     ∙ from_edge events lines start w.board.pc 0
     ∙ ap (λ c. lets_from events lines start (board_cycles events lines 28 c w.board.pc) 0) (sym at)
 
+-- a pull that begins after the look at the clock is found at the latest by the look in the first cell
 pub pulled_law : PulledLaw
 pulled_law events start w at lines since from pulls =
     look_from_edge events lines start w at ∙ pulled_lets events lines start (at_edge events lines w) since from pulls

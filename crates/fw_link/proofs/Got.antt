@@ -47,9 +47,11 @@ bits_alike f g h =
     let e7 : f 7 ≡ g 7 = h 7 (omega arith) in
     rw (e0, e1, e2, e3, e4, e5, e6, e7) refl
 
+-- the eight bits after the start bit of a byte's frame make the byte again
 pub frame_value : (byte : ℕ) → byte < 256 → value (read_bits (λ k. frame_bit byte (k + 1))) ≡ byte
 frame_value = by_byte (λ b. value (read_bits (λ k. frame_bit b (k + 1)))) (λ b. b) refl
 
+-- the ninth bit after the start bit of a byte's frame is the byte's right parity
 pub frame_parity : (byte : ℕ) → byte < 256 → is_parity (frame_bit byte 9) byte ≡ true
 frame_parity = tests_by 256 (λ b. is_parity (frame_bit b 9) b) (λ b. true) refl
 
@@ -66,6 +68,7 @@ module _ (edges : List Edge) (events : List HostEvent) (d : Board) (to : d.State
   abbrev got_board : ℕ → d.State
   got_board n = driven d (260 + start) (received_latch m.p2) n 0 s
 
+  -- after so many cycles of a received frame the PC's side is as the frame's lines leave it
   pub at_offset : (n : ℕ) → n ≤ 366 → to (got_board n) ≡ record { pc = pc_in n; shown = (to s).shown }
   at_offset n l =
       over_wires edges events d to over (260 + start) (received_latch m.p2) lines n s

@@ -66,6 +66,8 @@ module _ (events : List HostEvent) (lines : ℕ → Lines) (start : ℕ) where
       (cycles_more events lines 28 (32 * k + 18) (28 + 32 * k + 18) (260 + start) b (omega arith)
       ∙ ap (λ c. board_cycles events lines (32 * k + 18) c (board_cycles events lines 28 (260 + start) b)) p)
 
+  -- whether the controller leaves the clock alone at a cell's look is the same from the look at the clock and from
+  -- that at data
   pub from_look : (b : Pc) (k : ℕ)
       → lets_after (board_cycles events lines 4 (256 + start) b) k ≡ leaves_clock events lines start b k
   from_look b k =

@@ -76,6 +76,7 @@ module _ (latch : ℕ → ℕ) (v start length : ℕ) where
   pub before_frame : (o : ℕ) → o < 260 + start → in_tick latch v start length o ≡ v
   before_frame o l = let a : nat_lt o (260 + start) ≡ true = grind (arith, nat_tests, l) in rw a refl
 
+  -- within a frame the latch of a tick is the frame's
   pub in_frame : (o : ℕ) → o < length → in_tick latch v start length (260 + start + o) ≡ latch o
   in_frame o l =
       let a : nat_lt (260 + start + o) (260 + start) ≡ false = grind (arith, nat_tests) in
@@ -83,6 +84,7 @@ module _ (latch : ℕ → ℕ) (v start length : ℕ) where
       let i : 260 + start + o - (260 + start) ≡ o = omega arith in
       rw (a, b, i) refl
 
+  -- after a frame the latch of a tick pulls neither wire
   pub after_frame : (o : ℕ) → 260 + start + length ≤ o → in_tick latch v start length o ≡ v
   after_frame o l =
       let a : nat_lt o (260 + start) ≡ false = grind (arith, nat_tests, l) in
@@ -125,6 +127,7 @@ module _ (v start : ℕ) (released : IsReleased v) where
           ap (λ q. (latch_of q).clk) (before_frame latch v start length o l) ∙ released.clock
       by_case false e = up o (grind (arith, nat_tests, e)) b
 
+  -- the lines of a tick drive the frame in its cycles
   pub drives_frame : (latch : ℕ → ℕ) (length : ℕ) → Drives (lines_of latch length) (260 + start) latch length
   drives_frame latch length o l = ap latch_of (in_frame latch v start length o l)
 

@@ -30,6 +30,7 @@ module _ (edges : List Edge) (events : List HostEvent) (d : Board) (to : d.State
       driven_over x latch n (from + 1) (d.cycle (latch from) (x + from) s)
       ∙ ap (λ b. driven (joint_board edges events) x latch n (from + 1) b) (over.cycle (latch from) (x + from) s)
 
+  -- cycles of a board above the joint one are cycles of the joint one beneath it
   pub ticks_over : (n y v : ℕ) (s : d.State)
       → to (after_cycles n y (d.cycle v) s) ≡ after_cycles n y ((joint_board edges events).cycle v) (to s)
   ticks_over zero y v s = refl

@@ -18,6 +18,7 @@ use Rattle.joint_run.specs.Run.{Board, World, after_cycles}
 use Rattle.joint_run.specs.Starts.{Comes}
 use Rattle.mcs48_core.specs.Cpu.{Cpu}
 
+-- on any board the kernel reads a byte off the data wire at its looks, once the wire is found low again
 pub reads : (d : Board) (bytes : List ℕ) → HasKernel bytes → (w : World d.State) → IsAt GOT w.cpu → w.cpu.a < 256
     → IsReleased w.cpu.p2 → data_again d w ≡ false → Comes d TICK bytes w (Reads d w)
 reads d bytes has w at acc released still =
@@ -36,6 +37,7 @@ reads d bytes has w at acc released still =
       p2 = ap (λ (c : Cpu). c.p2) cpu;
     })
 
+-- so it is for any levels at the pins
 pub reads_law : ReadsLaw
 reads_law bytes has pins tick w at acc small clock data_wire still =
     reads (numbered pins tick) bytes has w at acc (record { byte = small; clock = clock; data_wire = data_wire }) still
@@ -58,5 +60,6 @@ dropped d bytes has w at high =
       board = board;
     })
 
+-- if the data wire is found high at the second look, the kernel reads no byte
 pub drops_law : DropsLaw
 drops_law bytes has pins tick w at high = dropped (numbered pins tick) bytes has w at high

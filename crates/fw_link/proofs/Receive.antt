@@ -67,6 +67,7 @@ module _ (d : Board) (bytes : List ℕ) (has : HasKernel bytes) (y : ℕ) (m : C
       (e.cpu ≡ scratched m R_CELL (memory (put (put f 27 8) 24 0) ring) e.cpu) × (e.cpu.a ≡ m.a) × (e.off ≡ 28)
       × (e.board ≡ after_cycles 28 0 (λ o. d.cycle m.p2 (y + o)) board)
 
+  -- if data is still low before the first cell, the kernel waits for the first bit
   pub awaits : IsFree m → seen_again ≡ false → Leads d (kernel_in true bytes) y (begin_at d GOT f ring m board) Awaits
   awaits free low =
       sound d (kernel_in true bytes) (has_rows true bytes has) y (Until 260 ∷ Go false ∷ []) Awaits
@@ -88,6 +89,7 @@ module _ (d : Board) (bytes : List ℕ) (has : HasKernel bytes) (y : ℕ) (m : C
       (e.cpu ≡ scratched (record m { p2 = (risen m) }) place (memory (put (put f 24 0) 27 n) ring) e.cpu)
       × (e.cpu.a ≡ m.a / 2 + 128 * digit bit_seen) × (e.off ≡ 32) × (e.board ≡ board_after_bit)
 
+  -- in a cell of a data bit the kernel reads the bit into A, and goes on with the next one, or with the parity
   pub takes_bit : (n : ℕ) → IsFree m → m.a < 256 → f 27 ≡ suc n → n < 255 → (more : Bool) → not (n == 0) ≡ more
       → Leads d (kernel_in true bytes) y (begin_at d R_CELL f ring m board)
       (TakesBit n (if more then R_CELL else R_PARITY))
@@ -139,6 +141,7 @@ module _ (d : Board) (bytes : List ℕ) (has : HasKernel bytes) (y : ℕ) (m : C
   abbrev pub with_parity : ℕ → ℕ
   with_parity = put (put (put (put f 28 m.a) 25 (in_quarters m.a)) 24 0) 29 (255 * digit (is_parity bit_seen m.a))
 
+  -- in the parity's cell the kernel keeps the byte, and whether its parity was right
   pub takes_parity : IsFree m → m.a < 256
       → Leads d (kernel_in true bytes) y (begin_at d R_PARITY f ring m board)
       (At d (record m { p2 = (risen m) }) R_STOP with_parity ring 32 board_after_bit)
@@ -155,6 +158,7 @@ module _ (d : Board) (bytes : List ℕ) (has : HasKernel bytes) (y : ℕ) (m : C
       after_cycles 12 20 (λ o. d.cycle (bit_and (risen m) 253) (y + o))
       (after_cycles 4 16 (λ o. d.cycle (risen m) (y + o)) (after_cycles 16 0 (λ o. d.cycle (fallen m) (y + o)) board))
 
+  -- in the stop bit's cell the kernel reads it without an effect, and then pulls data
   pub takes_stop : IsFree m
       → Leads d (kernel_in true bytes) y (begin_at d R_STOP f ring m board)
       (At d (record m { p2 = bit_and (risen m) 253 }) R_ACK (put f 24 0) ring 32 board_pulled)
@@ -170,6 +174,7 @@ module _ (d : Board) (bytes : List ℕ) (has : HasKernel bytes) (y : ℕ) (m : C
       after_cycles 2 16 (λ o. d.cycle (bit_or (fallen m) 3) (y + o))
       (after_cycles 16 0 (λ o. d.cycle (fallen m) (y + o)) board)
 
+  -- with the eleventh fall the kernel holds the clock low for 16 cycles and then lets both wires go
   pub acks : IsFree m
       → Leads d (kernel_in true bytes) y (begin_at d R_ACK f ring m board)
       (At d (record m { p2 = bit_or (fallen m) 3 }) COMMAND (put f 24 0) ring 18 board_acked)

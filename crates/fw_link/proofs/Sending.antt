@@ -73,6 +73,7 @@ module _ (d : Board) (bytes : List ℕ) (has : HasKernel bytes) (x : ℕ) (m : C
       (λ i l. cell_low v byte k i l ∙ sym (falls (frame_bit byte k) v released.byte) ∙ ap (λ q. bit_and q 254) (sym is))
       b
 
+  -- the clock that rises in a cell leaves the cell's bit on data
   pub risen_is : (k w : ℕ) → w ≡ wired v true (frame_bit byte k)
       → bit_or (bit_and w 254) 1 ≡ wired v true (frame_bit byte k)
   risen_is k w is =
@@ -133,6 +134,7 @@ module _ (d : Board) (bytes : List ℕ) (has : HasKernel bytes) (x : ℕ) (m : C
       ∙ ap (λ q. (d.pins m.p1 q (y + 18) (board_in (46 + 32 * k))).t0) put
       ∙ ap (λ q. (d.pins m.p1 (latch (46 + 32 * k)) q (board_in (46 + 32 * k))).t0) c
 
+  -- the second look of a cell finds the clock at its offset of the frame
   pub again_is : (k y w r u p1 : ℕ) (s : d.State) → p1 ≡ m.p1 → y ≡ x + (28 + 32 * k)
       → w ≡ wired v true (frame_bit byte k) → r ≡ wired v true (frame_bit byte k) → u ≡ wired v true (frame_bit byte (suc k))
       → s ≡ board_in (28 + 32 * k)

@@ -63,6 +63,7 @@ module _ (edges : List Edge) (events : List HostEvent) (d : Board) (to : d.State
       ∙ ap (λ (z : Beside). (drive z.pc.side.port.link).clk) is
 
   module _ (drives : Drives lines (260 + start) (sent_latch v byte) 368) where
+    -- after so many cycles of a sent frame the PC's side is as the frame's lines leave it
     pub at_offset : (n : ℕ) → n ≤ 368 → to (sent_board n) ≡ there n
     at_offset n l =
         over_wires edges events d to over (260 + start) (sent_latch v byte) lines n s
@@ -78,6 +79,7 @@ module _ (edges : List Edge) (events : List HostEvent) (d : Board) (to : d.State
 
   -- it pulls the clock at a look, and at none before: the frame is cut there
   module _ (cut : ℕ) (is : IsLook cut) (drives : Drives lines (260 + start) (cut_latch v byte cut) (cut_after cut)) where
+    -- so it is of a frame that is cut, up to its end
     pub at_cut : (n : ℕ) → n ≤ cut_after cut → to (cut_board cut n) ≡ there n
     at_cut n l =
         over_wires edges events d to over (260 + start) (cut_latch v byte cut) lines n s
@@ -92,6 +94,7 @@ module _ (edges : List Edge) (events : List HostEvent) (d : Board) (to : d.State
         ap (λ w. d.cycle w (260 + start + (0 + i)) t) (sym (as_sent v byte cut (0 + i) k))))
         ∙ at_cut n (omega (arith, l))
 
+    -- if the controller pulls the clock at a look, and at none before it, the frame is cut there
     pub sent_cut : ((o : ℕ) → IsLook o → o < cut → lets o ≡ true) → lets cut ≡ false → IsFree m
         → Leads d (kernel_in true bytes) (260 + start) (begin_at d SEND f ring m s)
         (Cut d bytes has (260 + start) m s f ring v byte released small cut (left_at_cut f byte cut is))

@@ -82,9 +82,11 @@ in_cell v k i l =
     let r : (28 + 32 * k + i - 28) % 32 ≡ i = omega (arith, l) in
     rw (b, q, r) refl
 
+-- before its first cell a received frame pulls neither wire
 pub before_cells : (v i : ℕ) → i < 28 → received_latch v (0 + i) ≡ v
 before_cells v i l = let a : nat_lt (0 + i) 28 ≡ true = grind (arith, nat_tests, l) in rw a refl
 
+-- in the first 16 cycles of each of its ten cells a received frame pulls the clock alone
 pub cell_low : (v k i : ℕ) → k < 10 → i < 16 → received_latch v (28 + 32 * k + i) ≡ wired v false true
 cell_low v k i few l =
     let m : i < 32 = omega (arith, l) in
@@ -98,6 +100,7 @@ also : (a b : Bool) → b ≡ true → (a || b) ≡ true
 also true b e = refl
 also false b e = e
 
+-- in the last 16 cycles of each of its first nine cells a received frame pulls neither wire
 pub cell_high : (v k i : ℕ) → k < 9 → i < 16 → received_latch v (28 + 32 * k + 16 + i) ≡ wired v true true
 cell_high v k i few l =
     let m : 16 + i < 32 = omega (arith, l) in
@@ -137,6 +140,7 @@ module _ (d : Board) (bytes : List ℕ) (has : HasKernel bytes) (x : ℕ) (m : C
   abbrev pub bit_read : ℕ → Bool
   bit_read k = (d.pins m.p1 m.p2 (x + (28 + 32 * k + 18)) (board_in (28 + 32 * k + 18))).t1
 
+  -- the clock that rises in a cell of a received frame lets both wires go again
   pub risen_is : (w : ℕ) → w ≡ m.p2 → bit_or (bit_and w 254) 1 ≡ m.p2
   risen_is w is = ap (λ q. bit_or (bit_and q 254) 1) is ∙ rises true m.p2 released ∙ both_high m.p2 released
 
@@ -150,6 +154,7 @@ module _ (d : Board) (bytes : List ℕ) (has : HasKernel bytes) (x : ℕ) (m : C
   abbrev IsHigh : ℕ → ℕ → Type 0
   IsHigh n k = (i : ℕ) → i < n → received_latch m.p2 (28 + 32 * k + 16 + i) ≡ wired m.p2 true true
 
+  -- the board in a cell after the rise of its clock is that of the frame at this offset
   pub high_span : (n k y w : ℕ) (s : d.State) → IsHigh n k → k < 10 → y ≡ x + (28 + 32 * k) → w ≡ m.p2
       → s ≡ board_in (28 + 32 * k)
       → after_cycles n 16 (λ o. d.cycle (bit_or (bit_and w 254) 1) (y + o)) (after_cycles 16 0 (λ o. d.cycle (bit_and w 254) (y + o)) s)
@@ -160,6 +165,7 @@ module _ (d : Board) (bytes : List ℕ) (has : HasKernel bytes) (x : ℕ) (m : C
       (omega (arith, e))
       (λ i l. high i l ∙ both_high m.p2 released ∙ sym (risen_is w is)) (low_span k y w s few e is b)
 
+  -- the board at a cell's end is that of the frame at the next cell's begin
   pub cell_span : (k y w : ℕ) (s : d.State) → k < 9 → y ≡ x + (28 + 32 * k) → w ≡ m.p2 → s ≡ board_in (28 + 32 * k)
       → after_cycles 16 16 (λ o. d.cycle (bit_or (bit_and w 254) 1) (y + o))
       (after_cycles 16 0 (λ o. d.cycle (bit_and w 254) (y + o)) s)

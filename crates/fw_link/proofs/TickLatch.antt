@@ -118,6 +118,7 @@ lines_by (CutFrame byte look) v start released o =
     lines_of v start released (frame_latch (CutFrame byte look) v) (cut_after look) o
 lines_by ReceivedFrame v start released o = lines_of v start released (frame_latch ReceivedFrame v) 366 o
 
+-- the lines of a tick by its frame are those of the latch of port 2 in that tick, from offset 232 on
 pub lines_are : (frame : Frame) (old v start : ℕ) (released : IsReleased v) (o : ℕ) → 232 ≤ o
     → lines_by frame v start released (start + o) ≡ latch_of (tick_latch old v frame o)
 lines_are NoFrame old v start released o l = ap latch_of (sym (without_frame old v o l))

@@ -30,6 +30,7 @@ watched w = record { cpu = w.cpu; board = record { under = w.board; good = true 
 abbrev pub bare : {S : Type 0} → World (Watched S) → World S
 bare w = record { cpu = w.cpu; board = w.board.under; cycle = w.cycle }
 
+-- the test finds equal numbers equal
 pub same_number : (a b : ℕ) → a ≡ b → (a == b) ≡ true
 same_number a b e = grind (arith, nat_tests, e)
 

@@ -41,25 +41,31 @@ by_released F G each v h =
     ∙ by_byte (λ v. if bit 0 v && bit 1 v then F v else 0) (λ v. if bit 0 v && bit 1 v then G v else 0) each v h.byte
     ∙ ap (λ c. if c then G v else 0) both
 
+-- a latch that pulls neither wire stays as it is if both are let go
 pub both_high : (v : ℕ) → IsReleased v → wired v true true ≡ v
 both_high = by_released (λ v. wired v true true) (λ v. v) refl
 
+-- an and with FE (hexadecimal) pulls the clock, and leaves data
 pub falls : (b : Bool) (v : ℕ) → v < 256 → bit_and (wired v true b) 254 ≡ wired v false b
 falls true = by_byte (λ v. bit_and (bit_and v 255) 254) (λ v. bit_and v 254) refl
 falls false = by_byte (λ v. bit_and (bit_and v 253) 254) (λ v. bit_and v 252) refl
 
+-- an or with 01 lets the clock go, and leaves data
 pub rises : (b : Bool) (v : ℕ) → IsReleased v → bit_or (wired v false b) 1 ≡ wired v true b
 rises true = by_released (λ v. bit_or (wired v false true) 1) (λ v. wired v true true) refl
 rises false = by_released (λ v. bit_or (wired v false false) 1) (λ v. wired v true false) refl
 
+-- an and with FD (hexadecimal) and an or with the bit put the bit on data
 pub puts : (b : Bool) (v : ℕ) → IsReleased v → bit_or (2 * digit b) (bit_and v 253) ≡ wired v true b
 puts true = by_released (λ v. bit_or 2 (bit_and v 253)) (λ v. wired v true true) refl
 puts false = by_released (λ v. bit_or 0 (bit_and v 253)) (λ v. wired v true false) refl
 
+-- an or with 03 lets both wires go
 pub releases : (b : Bool) (v : ℕ) → IsReleased v → bit_or (wired v true b) 3 ≡ v
 releases true = by_released (λ v. bit_or (wired v true true) 3) (λ v. v) refl
 releases false = by_released (λ v. bit_or (wired v true false) 3) (λ v. v) refl
 
+-- to pull both wires and then let both go gives the latch as it was
 pub restores : (v : ℕ) → IsReleased v → bit_or (bit_and v 252) 3 ≡ v
 restores = by_released (λ v. bit_or (bit_and v 252) 3) (λ v. v) refl
 
@@ -127,6 +133,7 @@ in_cell v byte k i l =
     let r : (28 + 32 * k + i - 28) % 32 ≡ i = omega (arith, l) in
     rw (a, b, q, r) refl
 
+-- in the first 16 cycles of a cell of a sent frame the clock is pulled, with the cell's bit on data
 pub cell_low : (v byte k i : ℕ) → i < 16 → sent_latch v byte (28 + 32 * k + i) ≡ wired v false (frame_bit byte k)
 cell_low v byte k i l =
     let m : i < 32 = omega (arith, l) in
@@ -134,6 +141,7 @@ cell_low v byte k i l =
     let b : nat_lt i 21 ≡ true = grind (arith, nat_tests, l) in
     in_cell v byte k i m ∙ rw (a, b) refl
 
+-- in the next 5 cycles the clock is let go, with the cell's bit still on data
 pub cell_high : (v byte k i : ℕ) → i < 5 → sent_latch v byte (28 + 32 * k + 16 + i) ≡ wired v true (frame_bit byte k)
 cell_high v byte k i l =
     let m : 16 + i < 32 = omega (arith, l) in
@@ -142,6 +150,7 @@ cell_high v byte k i l =
     let p : 28 + 32 * k + 16 + i ≡ 28 + 32 * k + (16 + i) = omega arith in
     ap (λ o. sent_latch v byte o) p ∙ in_cell v byte k (16 + i) m ∙ rw (a, b) refl
 
+-- in the last 11 cycles the clock is let go, with the next cell's bit on data
 pub cell_next : (v byte k i : ℕ) → i < 11
     → sent_latch v byte (28 + 32 * k + 21 + i) ≡ wired v true (frame_bit byte (suc k))
 cell_next v byte k i l =

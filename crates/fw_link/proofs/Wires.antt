@@ -19,12 +19,14 @@ clock_of_latch true false v h = tests_by 256 (λ v. bit 0 (bit_and v 253)) (λ v
 clock_of_latch false true v h = tests_by 256 (λ v. bit 0 (bit_and v 254)) (λ v. false) refl v h.byte
 clock_of_latch false false v h = tests_by 256 (λ v. bit 0 (bit_and v 252)) (λ v. false) refl v h.byte
 
+-- the latch with a bit on data drives data to that bit
 pub data_of_latch : (c b : Bool) (v : ℕ) → IsReleased v → (latch_of (wired v c b)).dat ≡ b
 data_of_latch true true v h = tests_by 256 (λ v. bit 1 (bit_and v 255)) (λ v. bit 1 v) refl v h.byte ∙ h.data_wire
 data_of_latch false true v h = tests_by 256 (λ v. bit 1 (bit_and v 254)) (λ v. bit 1 v) refl v h.byte ∙ h.data_wire
 data_of_latch true false v h = tests_by 256 (λ v. bit 1 (bit_and v 253)) (λ v. false) refl v h.byte
 data_of_latch false false v h = tests_by 256 (λ v. bit 1 (bit_and v 252)) (λ v. false) refl v h.byte
 
+-- what is put on the wires leaves the lights
 pub lights_of_latch : (c b : Bool) (v : ℕ) → v < 256 → lights_of (wired v c b) ≡ lights_of v
 lights_of_latch true true v l = by_byte (λ v. lights_of (bit_and v 255)) lights_of refl v l
 lights_of_latch true false v l = by_byte (λ v. lights_of (bit_and v 253)) lights_of refl v l
@@ -144,6 +146,7 @@ module _ (lines : ℕ → Lines) (start v : ℕ) (released : IsReleased v) where
         ap (λ (z : Lines). z.clk) (sent_lines k i l few)
         ∙ clock_of_latch (nat_le 16 i) (frame_bit byte (if nat_lt i 21 then k else suc k)) v released
 
+    -- a sent frame is on the wires the eleven bits of its byte
     pub sent_is_frame : IsFrame lines (288 + start) (frame_bit byte)
     sent_is_frame =
         frame_by lines (288 + start) (frame_bit byte) (λ k i l few. sent_clock k i l (omega (arith, few)))
@@ -173,6 +176,7 @@ module _ (lines : ℕ → Lines) (start v : ℕ) (released : IsReleased v) where
             (λ c. (latch_of (if c then wired v true false else sent_cell v byte ((i - 28) / 32) ((i - 28) % 32))).clk) g
             ∙ clock_of_latch true false v released
 
+    -- if the clock stays up after a sent frame, the frame ends on the wires
     pub sent_ends : (rest : ℕ) → IsUp lines (628 + start) (609 + rest + start) → EndsFrame lines start rest
     sent_ends rest up =
         frame_ends lines start rest 20 (omega arith) (λ i l. sent_clock 10 i (omega (arith, l)) (omega (arith, l))) up

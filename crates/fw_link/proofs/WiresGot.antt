@@ -21,6 +21,7 @@ received_lights v o l =
     by_case true a b = refl
     by_case false a b = lights_of_latch a b v l
 
+-- a sent frame leaves the lights
 pub sent_lights : (v byte o : ℕ) → v < 256 → lights_of (sent_latch v byte o) ≡ lights_of v
 sent_lights v byte o l =
     by_case (nat_lt o 10) (nat_lt o 28) (nat_le 16 ((o - 28) % 32))
@@ -32,6 +33,7 @@ sent_lights v byte o l =
     by_case false true a b = lights_of_latch true false v l
     by_case false false a b = lights_of_latch a b v l
 
+-- a frame that is cut leaves the lights
 pub cut_lights : (v byte look o : ℕ) → v < 256 → lights_of (cut_latch v byte look o) ≡ lights_of v
 cut_lights v byte look o l = by_case (nat_lt o (look + 2))
   where
@@ -60,6 +62,7 @@ module _ (lines : ℕ → Lines) (start v : ℕ) (released : IsReleased v) where
         ap (λ (z : Lines). z.clk) (got_lines k i l few) ∙ clock_of_latch (nat_le 16 i)
         (if nat_lt k 10 then nat_lt i 20 || nat_lt k 9 else nat_le 16 i) v released
 
+    -- a received frame is on the wires eleven falls, with data pulled by the keyboard in the last alone
     pub received_is_frame : IsFrame lines (288 + start) received_bit
     received_is_frame =
         frame_by lines (288 + start) received_bit (λ k i l few. got_clock k i l (omega (arith, few)))
@@ -68,6 +71,7 @@ module _ (lines : ℕ → Lines) (start v : ℕ) (released : IsReleased v) where
         ap (λ o. (lines o).dat) z ∙ ap (λ (z : Lines). z.dat) (got_lines k 0 (omega arith) (omega (arith, l)))
         ∙ data_of_latch false (if nat_lt k 10 then true else false) v released ∙ same_end (nat_lt k 10))
 
+    -- before the first fall of a received frame the clock is up
     pub received_before : IsUp lines (260 + start) (288 + start)
     received_before o a b =
         let i = o - (260 + start) in
@@ -76,6 +80,7 @@ module _ (lines : ℕ → Lines) (start v : ℕ) (released : IsReleased v) where
         ap (λ q. (lines q).clk) p ∙ ap (λ (z : Lines). z.clk) (drives (0 + i) (omega (arith, l)))
         ∙ ap (λ q. (latch_of q).clk) (before_cells v i l) ∙ released.clock
 
+    -- if the clock stays up after a received frame, the frame ends on the wires
     pub received_ends : (rest : ℕ) → IsUp lines (626 + start) (609 + rest + start) → EndsFrame lines start rest
     received_ends rest up =
         frame_ends lines start rest 18 (omega arith) (λ i l. got_clock 10 i (omega (arith, l)) (omega (arith, l))) up

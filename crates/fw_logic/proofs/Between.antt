@@ -65,6 +65,7 @@ module _ (d : Board) (bytes : List ℕ) where
   first_by k w e false None at step h = absurd cc
   first_by k w e false (Some v) at step h = record { next = v; calm_here = at; step = step; rest = h }
 
+  -- a way of one step or more that meets no tick start has a first step
   pub first_of : (k : ℕ) (w e : World d.State) → calm d TICK bytes (suc k) w ≡ Some e → First k w e
   first_of k w e h = first_by k w e (at_tick d TICK w) (joint_step d bytes w) refl refl h
 
@@ -83,6 +84,7 @@ module _ (d : Board) (bytes : List ℕ) where
       let sum : w.cycle + s.0.cycles ≡ next.cycle = s.3 in
       omega (arith, sum)
 
+  -- a way that meets no tick start leads to no earlier cycle
   pub later_on : (k : ℕ) (w e : World d.State) → calm d TICK bytes k w ≡ Some e → w.cycle ≤ e.cycle
   later_on zero w e h =
       let same : w ≡ e = cc in subst (λ (v : World d.State). w.cycle ≤ v.cycle) same (omega arith)
@@ -92,6 +94,7 @@ module _ (d : Board) (bytes : List ℕ) where
       let rest : f.next.cycle ≤ e.cycle = later_on k f.next e f.rest in
       omega (arith, one, rest)
 
+  -- a state has one next state
   pub same_next : (w a b : World d.State) → joint_step d bytes w ≡ Some a → joint_step d bytes w ≡ Some b → a ≡ b
   same_next w a b one two = let both : Some a ≡ Some b = sym one ∙ two in cc
 
@@ -169,6 +172,7 @@ module _ (d : Board) (bytes : List ℕ) where
         (Working next × (is_later_than w.cpu.pc ≡ true → (is_later_than next.cpu.pc ≡ true) × (next.cpu.p1 ≡ w.cpu.p1)))
         ⊎ (Resting next × (next.cpu.p1 ≡ w.cpu.p1) × (w.cpu.pc ≡ DONE))
 
+    -- a step of the service goes on in it, or ends it and returns to the main program
     pub works_on : (w next : World d.State) → Working w → joint_step d bytes w ≡ Some next → WorksOn w next
     works_on w next h step = by h.through.steps refl
       where
@@ -238,6 +242,7 @@ module _ (d : Board) (bytes : List ℕ) where
         (Working w × (is_later_than w.cpu.pc ≡ true) × (w.cpu.p1 ≡ 44))
         ⊎ ((Resting w × (w.cpu.p1 ≡ 44)) ⊎ (IsStart w × (w.cpu.p1 ≡ 44)))
 
+    -- a tick start isn't a state without one
     pub no_start : (w : World d.State) → IsStart w → at_tick d TICK w ≡ false → ⊥
     no_start w at off = let both : true ≡ false = sym at ∙ off in cc
 
@@ -255,6 +260,7 @@ module _ (d : Board) (bytes : List ℕ) where
         by (inr g) = at_start g.1
     inside_on w next (at_start h) off step = absurd (no_start w h off)
 
+    -- after the reading of the columns a step still selects none, up to the next tick start
     pub after_on : (w next : World d.State) → After w → at_tick d TICK w ≡ false → joint_step d bytes w ≡ Some next
         → After next
     after_on w next (at_work h) off step = by (works_on w next h.0 step)
@@ -270,6 +276,7 @@ module _ (d : Board) (bytes : List ℕ) where
         by (inr g) e = at_start (g.1, e)
     after_on w next (at_start h) off step = absurd (no_start w h.0 off)
 
+    -- after the reading of the columns port 1 selects none
     pub after_column : (w : World d.State) → After w → w.cpu.p1 ≡ 44
     after_column w (at_work h) = h.2
     after_column w (at_rest h) = h.1

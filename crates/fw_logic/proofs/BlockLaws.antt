@@ -103,6 +103,7 @@ module _ (d : Board) (bytes : List ℕ) (has : HasKernel bytes) where
       by false false false true q ea eb ec ep eq h = absurd cc
       by false false false false true ea eb ec ep eq h = absurd cc
 
+  -- with its registers set, the block of the columns reads them in 192 cycles
   pub columns_law : (w : World d.State) → IsAt READ w.cpu → slice_index w.cpu.ram 24 ≡ 32
       → slice_index w.cpu.ram 25 ≡ 48
       → slice_index w.cpu.ram 27 ≡ 12 → w.cpu.p1 ≡ 32 → Comes d TICK bytes w (ReadsColumns d w)
@@ -205,6 +206,7 @@ module _ (d : Board) (bytes : List ℕ) (has : HasKernel bytes) where
   looks_by w is true true clock wire =
       looks_free d bytes has w.cycle w.cpu (cells_of w.cpu.ram) (drop 112 w.cpu.ram) w.board is.free clock wire
 
+  -- the block of the looks goes where the two wires lead it
   pub looks_law : (w : World d.State) → IsAt LOOKS w.cpu → Comes d TICK bytes w (Looks d w)
   looks_law w is =
       let m = w.cpu in

@@ -11,6 +11,7 @@ use Rattle.fw_logic.proofs.Leads.{Leads, HasRows}
 use Rattle.fw_logic.proofs.Block.{memory, scratched, begin_at, At}
 use Rattle.fw_logic.proofs.Sound.{weaken, sound, ticks_from}
 
+-- n cycles and then k more are n + k cycles of the board
 pub ticks_add : {S : Type 0} (n k x : ℕ) (f : ℕ → S → S) (s : S)
     → after_cycles (n + k) x f s ≡ after_cycles k (x + n) f (after_cycles n x f s)
 ticks_add zero k x f s = let e : x + 0 ≡ x = omega arith in rw (zero-add, e) refl
@@ -19,6 +20,7 @@ ticks_add (suc n) k x f s =
     let a : x + suc n ≡ x + 1 + n = omega arith in
     rw (e, a) (ticks_add n k (x + 1) f (f x s))
 
+-- what the test finds to be at most as large is so
 pub within : (a b : ℕ) → nat_le a b ≡ true → a ≤ b
 within a b h = grind (arith, nat_tests, h)
 

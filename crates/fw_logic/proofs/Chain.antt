@@ -20,12 +20,14 @@ use Rattle.fw_logic.proofs.Leads.{Leads, LetsNone, HasRows}
 use Rattle.fw_logic.proofs.Groups.{effect_timer, effect_free, plain_closed}
 use Rattle.fw_logic.proofs.Timing.{step_later, later_then, step_asks, asking_then}
 
+-- while no interrupt can come, no step takes the external one, whatever the pins show
 pub not_external : (pins : Pins) (m : Cpu) → IsFree m → takes_external pins m ≡ false
 not_external pins m (inl h) = rw h refl
 not_external pins m (inr h) =
     let e = h.0 in rw e (elim (not m.svc) as (λ b. (b && false && not pins.int_pin)
     ≡ false) [ true ↦ refl | false ↦ refl ])
 
+-- nor does one take the timer's
 pub not_timer : (m : Cpu) → IsFree m → takes_timer m ≡ false
 not_timer m (inl h) = rw h refl
 not_timer m (inr h) =
@@ -74,6 +76,7 @@ module _ (d : Board) (code : Code) (has : HasRows code) (x : ℕ) where
   calm_on n k e ih None h = absurd cc
   calm_on n k e ih (Some t) h = ih t h
 
+  -- n steps without a tick start and then k more are n + k such steps
   pub calm_add : (n k : ℕ) (w e : World d.State) → calm d code.tick code.bytes n w ≡ Some e
       → calm d code.tick code.bytes (n + k) w ≡ calm d code.tick code.bytes k e
   calm_add zero k w e h = let g : w ≡ e = cc in rw (zero-add, g) refl
@@ -96,6 +99,7 @@ module _ (d : Board) (code : Code) (has : HasRows code) (x : ℕ) where
           rest (k - n) one (omega (arith, more, l))
           (sym (calm_add n (k - n) w e run) ∙ ap (λ i. calm d code.tick code.bytes i w) sum ∙ at)
 
+  -- a stage that leads to a set, whose stages lead to another one, leads to that
   pub chain : (Q R : Stage d.State → Type 0) (s : Stage d.State) → Leads d code x s Q
       → ((e : Stage d.State) → Q e → IsFree e.cpu → Leads d code x e R) → Leads d code x s R
   chain Q R s first rest =
@@ -123,6 +127,7 @@ module _ (d : Board) (code : Code) (has : HasRows code) (x : ℕ) where
             (first.timer_later timed timing) one (r.over timed one.timing one.tim_on);
       }
 
+  -- a stage of a set leads to it in no step
   pub stay : (Q : Stage d.State → Type 0) (s : Stage d.State) → Q s → IsFree s.cpu → Leads d code x s Q
   stay Q s h free =
       record {
@@ -146,6 +151,7 @@ module _ (d : Board) (code : Code) (has : HasRows code) (x : ℕ) where
             };
       }
 
+  -- a stage that leads to a set leads to each larger one
   pub weaken : (Q R : Stage d.State → Type 0) (s : Stage d.State) → ((e : Stage d.State) → Q e → R e)
       → Leads d code x s Q → Leads d code x s R
   weaken Q R s f h =
@@ -165,12 +171,15 @@ module _ (d : Board) (code : Code) (has : HasRows code) (x : ℕ) where
   abbrev pub To : Stage d.State → (Stage d.State → Type 0) → Type 0
   To s K = IsFree s.cpu → Leads d code x s K
 
+  -- a stage that comes to a set, whose stages come to another one, comes to that
   pub then : (K R : Stage d.State → Type 0) (s : Stage d.State) → To s K → ((e : Stage d.State) → K e → To e R) → To s R
   then K R s first rest free = chain K R s (first free) rest
 
+  -- a stage of a set has come to it
   pub here : (K : Stage d.State → Type 0) (s : Stage d.State) → K s → To s K
   here K s h free = stay K s h free
 
+  -- a stage whose row is known takes that row's step
   pub one_step : (s : Stage d.State) (r : Decoded) → IsFree s.cpu → row_at code.bytes s.cpu.pc ≡ Some r
       → (s.cpu.pc % 2048 == code.tick) ≡ false
       → calm d code.tick code.bytes 1 (world_at x s) ≡ Some (world_at x (moved d x r.cycles (left d code x r s) s))
@@ -197,6 +206,7 @@ module _ (d : Board) (code : Code) (has : HasRows code) (x : ℕ) where
       ∙ one in
       ap (λ o. elim o as (λ v. Option (World d.State)) [ None ↦ None | Some next ↦ Some next ]) calm_one
 
+  -- a jump, made or not, lets no interrupt in
   pub taken_closed : (b : Bool) (op : Op) → is_taken b op ≡ true → is_closed op ≡ true
   taken_closed true op h = plain_closed op h
   taken_closed false op h = h

@@ -27,6 +27,7 @@ module _ (d : Board) (bytes : List ℕ) (from : World d.State) (S : ℕ → Worl
     pub most : late ≤ 1
     pub cycle : w.cycle ≡ 4096 + 2048 * n + late
 
+  -- each number has its tick start, at its multiple of 2,048 or a cycle past it
   pub known : (n : ℕ) → Known n
   known zero =
       let r = clock.first in
@@ -56,6 +57,7 @@ module _ (d : Board) (bytes : List ℕ) (from : World d.State) (S : ℕ → Worl
         cycle = omega (arith, before, time);
       }
 
+  -- each of these states is a tick start
   pub at_start : (n : ℕ) → at_tick d TICK (known n).w ≡ true
   at_start n = let k = known n in (clock.each k.late k.w k.set k.most).at
 
@@ -78,9 +80,11 @@ module _ (d : Board) (bytes : List ℕ) (from : World d.State) (S : ℕ → Worl
       let r = reached n in
       same_start d TICK bytes from r.steps k (known n).w w r.run run (at_start n) at r.count
 
+  -- the run has a state after each number of steps
   pub never_stuck : (k : ℕ) → (w : World d.State) × (run_at d bytes from k ≡ Some w)
   never_stuck = goes_on d TICK bytes from (λ n. ((known n).w, reached n))
 
+  -- no tick start comes before stamp 0
   pub none_early : (k : ℕ) (w : World d.State) → run_at d bytes from k ≡ Some w → at_tick d TICK w ≡ true
       → 4096 ≤ w.cycle
   none_early k w run at =
@@ -91,6 +95,7 @@ module _ (d : Board) (bytes : List ℕ) (from : World d.State) (S : ℕ → Worl
   abbrev stamp_of : ℕ → ℕ
   stamp_of n = (known n).w.cycle - 4096
 
+  -- each of these states is the tick start of its number, at its stamp
   pub starts : (n : ℕ) → IsStart d TICK bytes from n (stamp_of n)
   starts n =
       let r = reached n in
@@ -111,12 +116,14 @@ module _ (d : Board) (bytes : List ℕ) (from : World d.State) (S : ℕ → Worl
       same_start d TICK bytes from r.steps s.steps (known n).w s.state r.run s.reached (at_start n) s.at
       (r.count ∙ sym s.number)
 
+  -- a number has one tick start, at one stamp
   pub stamp_is : (n stamp : ℕ) → IsStart d TICK bytes from n stamp → stamp ≡ stamp_of n
   stamp_is n stamp s =
       let c : s.state.cycle ≡ 4096 + stamp = s.cycle in
       let e : (known n).w.cycle ≡ s.state.cycle = ap (λ (v : World d.State). v.cycle) (is_nth n stamp s) in
       omega (arith, c, e)
 
+  -- each tick start is near its multiple of 2,048
   pub near : (n stamp : ℕ) → IsStart d TICK bytes from n stamp → IsNear n stamp
   near n stamp s =
       let e : stamp ≡ stamp_of n = stamp_is n stamp s in
@@ -124,6 +131,7 @@ module _ (d : Board) (bytes : List ℕ) (from : World d.State) (S : ℕ → Worl
       let u : (known n).w.cycle ≤ 4096 + 2048 * n + 1 = (cycle_of n).1 in
       record { least = omega (arith, e, l); most = omega (arith, e, l, u) }
 
+  -- at each tick start the service is entered, with register bank 1
   pub serving : (n stamp : ℕ) (s : IsStart d TICK bytes from n stamp)
       → (s.state.cpu.svc ≡ true) × (s.state.cpu.rb ≡ true)
   serving n stamp s =
@@ -131,6 +139,7 @@ module _ (d : Board) (bytes : List ℕ) (from : World d.State) (S : ℕ → Worl
       subst (λ (v : World d.State). (v.cpu.svc ≡ true) × (v.cpu.rb ≡ true)) (is_nth n stamp s)
       (clock.serves k.late k.w k.set)
 
+  -- the run comes to an end at or after each stamp
   pub ends : (stop : ℕ) → (n : ℕ) × IsEnd d TICK bytes from stop n
   ends stop =
       let up : (n : ℕ) → n ≤ stamp_of n =

@@ -29,6 +29,7 @@ scanned shows f i =
 abbrev pub shows : (d : Board) → ℕ → ℕ → d.State → ℕ → ℕ
 shows d y p2 board c = 255 - (d.pins (32 + c) p2 (y + 16 * c) (after_cycles (16 * c) 0 (λ o. d.cycle p2 (y + o)) board)).bus
 
+-- what the columns show by offsets from a cycle is what the definition of their reading says
 pub shows_is : (d : Board) (y p2 : ℕ) (board : d.State) (c : ℕ) → shows d y p2 board c ≡ downs d y p2 board c
 shows_is d y p2 board c = ap (λ b. 255 - (d.pins (32 + c) p2 (y + 16 * c) b).bus)
     (absolute (16 * c) y (d.cycle p2) board)

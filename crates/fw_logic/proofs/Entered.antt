@@ -31,6 +31,7 @@ pub record IsServed (m : Cpu) : Type 0 where
   pub status : slice_index m.ram 9 ≡ 16
   pub memory : length m.ram ≡ 128
 
+-- a start that comes in time is a start: the service has been entered, with clear flags
 pub entered_served : (m : Cpu) → IsEntered m → IsServed m
 entered_served m s = record {
   pc = s.pc;
@@ -78,6 +79,7 @@ entering_is m s =
     ∙ ap (λ v. record at { c = false; ac = false; f0 = v }) s.flag
     ∙ ap (λ v. record at { c = false; ac = false; f0 = false; run = v }) s.run
 
+-- the processor at a tick start, whatever its timer, has just entered the service from WAIT
 pub served_is : (b : TimerState) (f : ℕ → ℕ) (ring : List ℕ) (m : Cpu) → length (memory (stacked f) ring) ≡ 128
     → IsServed (entering b f ring m)
 served_is b f ring m long = record {

@@ -47,12 +47,14 @@ module _ (d : Board) (bytes : List ℕ) (has : HasKernel bytes) (from : World d.
       by (inl g) = let r = rests_on d bytes has false w next g step in (r.0, r.1 ∙ h.1)
       by (inr g) = absurd (no_start d bytes has false w g.1 off)
 
+  -- before the first tick start a step leaves port 1
   pub before_first : (k : ℕ) (one next : World d.State) → calm d TICK bytes k from ≡ Some one
       → at_tick d TICK one ≡ false → joint_step d bytes one ≡ Some next → next.cpu.p1 ≡ from.cpu.p1
   before_first k one next run off step =
       let there = along d bytes has false Early early_on k from one (inl on_first, refl) run in
       (early_on one next there off step).1
 
+  -- up to the first tick start port 1 is as it was
   pub at_first : (k : ℕ) (e : World d.State) → calm d TICK bytes k from ≡ Some e → e.cpu.p1 ≡ from.cpu.p1
   at_first k e run = (along d bytes has false Early early_on k from e (inl on_first, refl) run).1
 
@@ -155,6 +157,7 @@ module _ (d : Board) (bytes : List ℕ) (has : HasKernel bytes) (from : World d.
         let sum : 16 + (k - 16) ≡ k = omega (arith, far) in
         sym (wake.on (k - 16)) ∙ ap (run_at d bytes from) sum ∙ run
 
+    -- in each state of the run what is executed next is fit
     pub every_fit : (k : ℕ) (w : World d.State) → run_at d bytes from k ≡ Some w → IsFit bytes w.cpu
     every_fit k w run = by (nat_lt k (waking d bytes has)) refl
       where
@@ -162,6 +165,7 @@ module _ (d : Board) (bytes : List ℕ) (has : HasKernel bytes) (from : World d.
         by true e = (wake.early k w (grind (arith, nat_tests, e)) run).fit
         by false e = all_fit d bytes has wake.to wake.main from_main passes_main (k - 16) w (later k w run e)
 
+    -- in each step of the run a look at the clock after a row that puts port 2 is late enough
     pub every_late : (k : ℕ) (w next : World d.State) → run_at d bytes from k ≡ Some w
         → joint_step d bytes w ≡ Some next → LooksLate bytes w.cpu next.cpu
     every_late k w next run step = by (nat_lt k (waking d bytes has)) refl
@@ -170,6 +174,8 @@ module _ (d : Board) (bytes : List ℕ) (has : HasKernel bytes) (from : World d.
         by true e = ((wake.early k w (grind (arith, nat_tests, e)) run).next next step).0
         by false e = all_late d bytes has wake.to wake.main from_main passes_main (k - 16) w next (later k w run e) step
 
+    -- in each state of the run in which the clock is looked at, the next look comes within 24 cycles, or the frame's
+    -- end
     pub every_soon : (k : ℕ) (w : World d.State) → run_at d bytes from k ≡ Some w → looks bytes w.cpu ≡ true
         → LooksSoon d bytes w
     every_soon k w run look = by (nat_lt k (waking d bytes has)) refl

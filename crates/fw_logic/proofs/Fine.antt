@@ -32,6 +32,7 @@ module _ (d : Board) (tick : ℕ) (bytes : List ℕ) (b : All IsByte bytes)
   calm_by k w e ih h false None step is = absurd cc
   calm_by k w e ih h false (Some v) step is = ih v (next_fine w v h (stepped bytes (seen d w) w.cpu) refl step) is
 
+  -- steps between two tick starts keep all ranges of the processor
   pub calm_fine : (k : ℕ) (w e : World d.State) → IsFine w.cpu → calm d tick bytes k w ≡ Some e → IsFine e.cpu
   calm_fine zero w e h is = let same : w ≡ e = cc in subst (λ v. IsFine v.cpu) same h
   calm_fine (suc k) w e h is =

@@ -197,6 +197,7 @@ control_stays SelMb1 m s = absurd cc
 control_stays Ent0Clk m s = absurd cc
 control_stays op m s = refl
 
+-- a steady row leaves the stack pointer, the memory bank, the external interrupt, the service and the clock's output
 pub effect_stays : (op : Op) (bytes : List ℕ) (pins : Pins) (m : Cpu) → is_steady op ≡ true
     → stays_of (effect op bytes pins m) ≡ stays_of m
 effect_stays (Moves op) bytes pins m s = move_stays op bytes m s
@@ -239,6 +240,7 @@ control_column : (op : ControlOp) (m : Cpu) → (control op m).p1 ≡ m.p1
 control_column Nop m = refl
 control_column op m = refl
 
+-- a row that doesn't put port 1 leaves its latch, so the same column stays selected
 pub effect_column : (op : Op) (bytes : List ℕ) (pins : Pins) (m : Cpu) → keeps_column op ≡ true
     → (effect op bytes pins m).p1 ≡ m.p1
 effect_column (Moves op) bytes pins m k = move_column op bytes m

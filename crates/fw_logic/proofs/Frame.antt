@@ -35,6 +35,7 @@ module _ (d : Board) (bytes : List ℕ) (has : HasKernel bytes) where
   abbrev pub entered_by : (t pre : ℕ) (tf last t1 : Bool) → TimerState
   entered_by t pre tf last t1 = run_on 2 t1 (record { t = t; pre = pre; tf = tf; rq = false; last = last })
 
+  -- the entry of the timer's interrupt takes two cycles, and leads to a tick start
   pub enters : (t pre : ℕ) (tf last : Bool) (f : ℕ → ℕ) (ring : List ℕ) (m : Cpu) (board : d.State) (cycle : ℕ)
       (Q : World d.State → Type 0)
       → Comes d TICK bytes (record {
@@ -99,6 +100,7 @@ module _ (d : Board) (bytes : List ℕ) (has : HasKernel bytes) where
   abbrev pub given_back : Cpu → Cpu
   given_back s = record s { pc = WAIT; c = false; ac = false; f0 = false; rb = true; sp = 0; svc = false }
 
+  -- the service's end returns to WAIT with clear flags
   pub back : (pins : Pins) (g : ℕ → ℕ) (ring : List ℕ) (k : Cpu) → g 8 ≡ WAIT → g 9 ≡ 16
       → stepped bytes pins (serving DONE g ring k)
       ≡ Some (record { cpu = after_timer k.run 2 pins (given_back (serving DONE g ring k)); cycles = 2 })

@@ -74,6 +74,7 @@ module _ (d : Board) (bytes : List ℕ) (has : HasKernel bytes) (w : World d.Sta
         others = λ i out. r.others i out ∙ h.others i (counting_out i out);
       }
 
+  -- from a tick start the columns are read at their offsets
   pub reads : Tick d TICK bytes w (ReadsTick d w)
   reads =
       let late : w.cpu.pre ≤ 3 = s.late in
@@ -182,6 +183,7 @@ module _ (d : Board) (bytes : List ℕ) (has : HasKernel bytes) (w : World d.Sta
               ∙ ap (λ j. after_cycles j e.cycle (d.cycle e.cpu.p2) e.board) waited;
         }
 
+    -- from the end of a tick's work the next tick start comes
     pub next : Comes d TICK bytes e (IsNext d w e)
     next =
         let early : 2 ≤ w.cpu.pre = s.early in
@@ -218,8 +220,10 @@ module _ (d : Board) (bytes : List ℕ) (has : HasKernel bytes) (w : World d.Sta
         (comes_as d TICK bytes (Next d x timer 2040 Kept) (IsNext d w e) (world_at x end) next_so
         (ends d bytes has x timer 2040 Kept end over timed))
 
+-- from each tick start the columns are read at their offsets, in every image that has the kernel
 pub reading_law : ReadingLaw
 reading_law bytes has pins tick w s = reads (numbered pins tick) bytes has w s
 
+-- if the work of a tick ends in time, the next tick start comes
 pub next_law : NextLaw
 next_law bytes has pins tick w e s done = next (numbered pins tick) bytes has w s e done

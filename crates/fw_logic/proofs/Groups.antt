@@ -124,6 +124,7 @@ plain_control EnI h = absurd cc
 plain_control EnTcnti h = absurd cc
 plain_control op h = refl
 
+-- an instruction that leaves the timer alone lets no interrupt in either
 pub plain_closed : (op : Op) → is_plain op ≡ true → is_closed op ≡ true
 plain_closed (Moves op) h = plain_moves op h
 plain_closed (Alu op) h = refl

@@ -153,6 +153,7 @@ module _ (d : Board) (bytes : List ℕ) (has : HasKernel bytes) (x : ℕ) (k : C
       long : e.cpu.ram ≡ memory (ready f) ring → length e.cpu.ram ≡ 128
       long now = ap length now ∙ cells_long (ready f) f ring ∙ size
 
+  -- from a tick start the head writes the timer and selects the first column, in 16 cycles
   pub from_start : Tick d TICK bytes start (Heads d start)
   from_start =
       let two = second (seen d start).t1 in

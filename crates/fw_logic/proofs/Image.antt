@@ -26,16 +26,19 @@ chunk_at (suc n) (suc i) j xs l k =
 pages_are : chunks 32 KERNEL ≡ pages
 pages_are = refl
 
+-- the kernel's byte at a place, by pages of 64, is that of the kernel as a whole
 pub byte_is : (p : ℕ) → p < 2048 → byte_in p ≡ slice_index KERNEL p
 byte_is p l =
     let e : 64 * (p / 64) + p % 64 ≡ p = omega arith in
     ap (λ xs. get_or (get_or xs (p / 64) []) (p % 64) 0) (sym pages_are) ∙ chunk_at 32 (p / 64) (p % 64) KERNEL
     (omega arith) (omega arith) ∙ ap (λ q. get_or KERNEL q 0) e
 
+-- if a guarded row is there, the guard holds and the row is this
 pub guarded_some : (b : Bool) (o : Option Decoded) (r : Decoded) → guarded b o ≡ Some r → (b ≡ true) × (o ≡ Some r)
 guarded_some true o r h = (refl, h)
 guarded_some false o r h = absurd cc
 
+-- if the and of two negations is true, both are false
 pub neither : (a b : Bool) → (not a && not b) ≡ true → (a ≡ false) × (b ≡ false)
 neither false false h = (refl, refl)
 neither false true h = absurd cc

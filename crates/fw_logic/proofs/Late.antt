@@ -50,6 +50,7 @@ module _ (bytes : List ℕ) (has : HasKernel bytes) (on : Bool) where
       subst (λ (d : Decoded). is_late row.row.cycles (puts_at row.row.op) (looks_at d.op) ≡ true) same
       (ap (late_by row.row) (sym there.is) ∙ late)
 
+  -- in the service a look at the clock after a row that puts port 2 is late enough
   pub serve_late : (pins : Pins) (m : Cpu) (n : Stepped) → IsServing on m → stepped bytes pins m ≡ Some n
       → LooksLate bytes m n.cpu
   serve_late pins m n h step r q is next =

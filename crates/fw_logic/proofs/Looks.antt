@@ -31,6 +31,7 @@ module _ (d : Board) (bytes : List ℕ) (has : HasKernel bytes) (y : ℕ) (k : C
   abbrev pub lit_board : d.State
   lit_board = after_cycles 2 (y + 4) (d.cycle (255 - f LIGHTS)) (after_cycles 4 y step board)
 
+  -- the block of the lights puts them on port 2 in six cycles
   pub lamps : Leads d (kernel_in true bytes) y (begin_at d LAMPS f ring k board)
       (At d lit TESTED (put f 25 LIGHTS) ring 6 lit_board)
   lamps =
@@ -56,6 +57,7 @@ module _ (d : Board) (bytes : List ℕ) (has : HasKernel bytes) (y : ℕ) (k : C
   data_is : (d.pins k.p1 k.p2 (y + 18) (after_cycles 18 0 (λ o. step (y + o)) board)).t1 ≡ data_wire
   data_is = ap (λ b. (d.pins k.p1 k.p2 (y + 18) b).t1) (absolute 18 y step board)
 
+  -- if the clock is low at its look, the looks lead to PULLED in 18 cycles
   pub looks_pulled : clock ≡ false
       → Leads d (kernel_in true bytes) y (begin_at d LOOKS f ring k board)
       (At d k PULLED (readied f) ring 18 (after_cycles 18 y step board))
@@ -64,6 +66,7 @@ module _ (d : Board) (bytes : List ℕ) (has : HasKernel bytes) (y : ℕ) (k : C
       (readied f) ring
       k board (after_cycles 18 y step board) free (ap not (clock_is ∙ low), (refl, refl, absolute 18 y step board))
 
+  -- if the clock is high and data low, the looks lead to GOT in 20 cycles
   pub looks_got : clock ≡ true → data_wire ≡ false
       → Leads d (kernel_in true bytes) y (begin_at d LOOKS f ring k board)
       (At d k GOT (readied f) ring 20 (after_cycles 20 y step board))
@@ -74,6 +77,7 @@ module _ (d : Board) (bytes : List ℕ) (has : HasKernel bytes) (y : ℕ) (k : C
       k board (after_cycles 20 y step board) free
       (ap not (clock_is ∙ high), (ap not (data_is ∙ low), (refl, refl, absolute 20 y step board)))
 
+  -- if both wires are high, the looks lead to SEND in 20 cycles
   pub looks_free : clock ≡ true → data_wire ≡ true
       → Leads d (kernel_in true bytes) y (begin_at d LOOKS f ring k board)
       (At d k SEND (readied f) ring 20 (after_cycles 20 y step board))

@@ -49,6 +49,7 @@ module _ (d : Board) (tick : ℕ) (bytes : List ℕ) (from : World d.State) wher
       let none : starts_before d tick bytes from (suc k) ≡ starts_before d tick bytes from k = omega (arith, same) in
       subst (λ j. Reaches j (starts_before d tick bytes from k) e) (sym sum) (r.0, r.1 ∙ none)
 
+  -- steps that meet no tick start lead on in the run, with as many starts before
   pub calm_reaches : (n k : ℕ) (w e : World d.State) → run_at d bytes from k ≡ Some w → calm d tick bytes n w ≡ Some e
       → Reaches (k + n) (starts_before d tick bytes from k) e
   calm_reaches zero k w e run h =
@@ -112,6 +113,7 @@ module _ (d : Board) (tick : ℕ) (bytes : List ℕ) (from : World d.State) wher
         ] refl
       ] refl
 
+  -- two tick starts with as many before them are one state
   pub same_start : (i j : ℕ) (v w : World d.State) → run_at d bytes from i ≡ Some v → run_at d bytes from j ≡ Some w
       → at_tick d tick v ≡ true → at_tick d tick w ≡ true
       → starts_before d tick bytes from i ≡ starts_before d tick bytes from j → v ≡ w

@@ -111,6 +111,7 @@ either_way : (b c : Bool) → b ≡ true → (b || c) ≡ true
 either_way true c h = refl
 either_way false c h = absurd cc
 
+-- an or with a second part that is true is true
 pub or_so : (b c : Bool) → c ≡ true → (b || c) ≡ true
 or_so true c h = refl
 or_so false c h = h
@@ -121,9 +122,11 @@ text_at p low at =
     when (in_main p || in_service p) (in_text p) at
     (at_each (λ p. if in_main p || in_service p then in_text p else true) 2048 every_text p low)
 
+-- each place of the main program is in a row of sixteen that the HEX text has
 pub main_text : (p : ℕ) → in_main p ≡ true → in_text p ≡ true
 main_text p at = text_at p (below_end main_places p at) (either_way (in_main p) (in_service p) at)
 
+-- each place of the service is in a row of sixteen that the HEX text has
 pub service_text : (p : ℕ) → in_service p ≡ true → in_text p ≡ true
 service_text p at = text_at p (below_end service_places p at) (or_so (in_main p) (in_service p) at)
 
@@ -157,6 +160,7 @@ main_by p low (Some r) is h =
       leads = three.1;
     }
 
+-- each place of the main program has a row of the kernel's kinds that puts no port 2 and leads on in the main program
 pub main_at : (p : ℕ) → in_main p ≡ true → MainRow p
 main_at p at =
     let low = below_end main_places p at in
@@ -204,6 +208,7 @@ service_by p low (Some r) is h =
           (both (stays_after p r) late (both leads stays (rest closed)).1).0);
     }
 
+-- each place of the service has a row of the kernel's kinds that leads on in the service, or ends it
 pub service_at : (p : ℕ) → in_service p ≡ true → ServiceRow p
 service_at p at =
     let low = below_end service_places p at in

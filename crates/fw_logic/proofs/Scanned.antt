@@ -3,6 +3,7 @@ use Rattle.std.proofs.Common.{◌≡◌, ◌<◌, ℕ, ◌+◌, ◌-◌, true, f
 use Rattle.std.proofs.lemmas.Bool.Decides.{nat_tests}
 use Rattle.fw_logic.proofs.Columns.{scanned}
 
+-- after the reading the cell of a column's held keys has what the column showed
 pub held_cell : (look f : ℕ → ℕ) (c : ℕ) → c < 12 → scanned look f (32 + c) ≡ look c
 held_cell look f c l =
     let a : nat_le 32 (32 + c) ≡ true = grind (arith, nat_tests) in
@@ -10,6 +11,7 @@ held_cell look f c l =
     let e : 32 + c - 32 ≡ c = omega arith in
     rw (a, b, e) refl
 
+-- after the reading the cell of a column's changes has what differs from what was held
 pub changed_cell : (look f : ℕ → ℕ) (c : ℕ) → c < 12 → scanned look f (48 + c) ≡ bit_xor (f (32 + c)) (look c)
 changed_cell look f c l =
     let a : nat_le 32 (48 + c) ≡ true = grind (arith, nat_tests) in

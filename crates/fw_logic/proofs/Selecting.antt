@@ -120,6 +120,7 @@ module _ (d : Board) (code : Code) (tick : code.tick ≡ TICK) (has : HasRows co
       on true off g = absurd g
       on false off g = plain (code.row s.cpu.pc) refl off g
 
+  -- instructions that were each found to select their column do so on the whole way
   pub shown : (n : ℕ) (K Q : Stage d.State → Type 0) (s : Stage d.State) → IsFree s.cpu
       → ((e : Stage d.State) → IsFree e.cpu → K e → Observed e Q) → Shown n s K → Observed s Q
   shown zero K Q s free more h = more s free h
@@ -127,6 +128,7 @@ module _ (d : Board) (code : Code) (tick : code.tick ≡ TICK) (has : HasRows co
       let q = quiet (λ t. (t.cpu.p1 ≡ latch s.off) × (t.cpu.p1 ≡ latch (t.off - 1)) × Shown n t K) s free h in
       step_reported Q s q.next q.run q.long q.rest.0 q.rest.1 (shown n K Q q.next q.free more q.rest.2)
 
+  -- so do those of which one test found it
   pub traced : (n : ℕ) (s : Stage d.State) (b : Bool) (K : Stage d.State → Type 0) → IsFree s.cpu → Traced n s b K
       → (b ≡ true) × Observed s K
   traced zero s b K free h = (

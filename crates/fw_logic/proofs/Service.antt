@@ -117,6 +117,7 @@ asked_by t pre tf l k true true ea eb =
       sum = inr (omega (arith, high, le), omega (arith, high, le), refl);
     }
 
+-- in a step of two cycles the waiting program's timer counts on, or overflows and asks for its interrupt
 pub asked : (t pre : ℕ) (tf : Bool) → pre < 32 → t < 256 → Asked t pre tf
 asked t pre tf l k = asked_by t pre tf l k (nat_le 32 (pre + 2)) (t == 255) refl refl
 

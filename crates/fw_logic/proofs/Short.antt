@@ -7,6 +7,7 @@ use Rattle.fw_logic.proofs.Leads.{HasRows}
 use Rattle.fw_logic.proofs.Kernel.{byte_in, kernel_in}
 use Rattle.fw_logic.proofs.Image.{row_is, guarded_some}
 
+-- every image that has the kernel has the kernel's rows at their places
 pub has_rows : (timed : Bool) (bytes : List ℕ) → HasKernel bytes → HasRows (kernel_in timed bytes)
 has_rows timed bytes has pc r h = (
   row_is bytes has pc r h,

@@ -63,6 +63,7 @@ second false c h e = h
 second true c h e = absurd cc
 
 module _ (d : Board) (bytes : List ℕ) (has : HasKernel bytes) where
+  -- the main program doesn't look at the clock
   pub main_blind : (m : Cpu) → IsMain false m → looks bytes m ≡ false
   main_blind m h =
       let r = main_at m.pc h.place in

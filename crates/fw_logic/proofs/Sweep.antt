@@ -106,6 +106,7 @@ module _ (d : Board) (bytes : List ℕ) (has : HasKernel bytes) (x : ℕ) (b : T
             let off : swept.end.off ≡ 208 = swept.goal.2 in
             after_column d bytes has m.clk next after_it ∙ sym (afterwards m.p1 (c - x) (omega (arith, late, off, a)))
 
+    -- from a tick start up to the next one port 1 selects the columns one after another, and then none
     pub selects : Selects d TICK bytes start (λ c. column_latch m.p1 (c - x))
     selects = record {
       at = refl;
@@ -161,11 +162,13 @@ module _ (d : Board) (bytes : List ℕ) (has : HasKernel bytes) (w : World d.Sta
   passes_begun : Passes d bytes as_begun
   passes_begun = subst (λ u. Passes d bytes u) same p
 
+  -- so it does from any tick start
   pub selects_from : Selects d TICK bytes w (λ c. column_latch w.cpu.p1 (c - w.cycle))
   selects_from =
       subst (λ u. Selects d TICK bytes u (λ c. column_latch w.cpu.p1 (c - w.cycle))) (sym same)
       (selects d bytes has w.cycle (timer_of w.cpu) cells rest w.cpu w.board passes_begun)
 
+  -- at the next tick start port 1 selects no column
   pub column_from : (k : ℕ) (first e : World d.State) → joint_step d bytes w ≡ Some first
       → calm d TICK bytes k first ≡ Some e → IsStart d bytes e → e.cpu.p1 ≡ 44
   column_from k first e step run at =

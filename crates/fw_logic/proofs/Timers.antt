@@ -98,6 +98,7 @@ run_on_by c t1 b r few true true ex ey =
       counts = (1, omega (arith, t, pre, high, more));
     }
 
+-- a step of at most two cycles counts the timer on, and asks for the interrupt if the timer overflows
 pub runs_on : (c : ℕ) (t1 : Bool) (b : TimerState) → IsInRange b → c ≤ 2 → RunOn c b (run_on c t1 b)
 runs_on c t1 b r few = run_on_by c t1 b r few (nat_le 32 (b.pre + c)) (b.t == 255) refl refl
 
@@ -147,6 +148,7 @@ head_most t1 before b low true e =
     let t : (headed t1 before b).t ≡ 193 = rw e refl in
     let pre : (headed t1 before b).pre ≡ (run_on 2 before b).pre + 1 - 32 = rw e refl in omega (arith, t, pre, low)
 
+-- the tick's first two instructions leave 2,016 to 2,048 cycles up to the next overflow
 pub heads_timer : (t1 before : Bool) (b : TimerState) → IsInRange b → Headed b (headed t1 before b)
 heads_timer t1 before b r =
     let two = runs_on 2 before b r (omega arith) in

@@ -19,10 +19,12 @@ counted counts c k = record {
   tim_on = k.tim_on;
 }
 
+-- a step of a running timer changes its parts as the count of the prescaler says
 pub timer_state : (m : Cpu) (c : ℕ) (pins : Pins) → m.run ≡ Timer
     → timer_parts (after_timer m.run c pins m) ≡ counted (nat_le 32 (m.pre + c)) c (timer_parts m)
 timer_state m c pins e = ap (λ k. timer_parts (after_timer k c pins (record m { run = k }))) e
 
+-- without an overflow the timer is later by the step's cycles, and asks for nothing new
 pub counted_later : (k : TimerParts) (c : ℕ) → IsTiming k → c ≤ 2 → total k + c < 8192 → (b : Bool)
     → nat_le 32 (k.pre + c) ≡ b → IsLater k (counted b c k) 0 c
 counted_later k c h few room false is =
@@ -110,6 +112,7 @@ counted_asks k c h on few true is =
         let low : k.t < 256 = h.t in
         let less : k.t < 255 = grind (arith, nat_tests, e, low) in (0, omega (arith, more, less))
 
+-- a step of at most two cycles counts the timer on, and an overflow asks for the interrupt
 pub step_asks : (k : TimerParts) (m : Cpu) (c : ℕ) (pins : Pins) (start : ℕ) → timer_parts m ≡ k → IsTiming k
     → k.tim_on ≡ true → c ≤ 2 → IsAsking k (timer_parts (after_timer m.run c pins m)) start (start + c)
 step_asks k m c pins start e h on few =
@@ -132,6 +135,7 @@ step_asks k m c pins start e h on few =
     }))
     h on
 
+-- after a span without an overflow, or with one that asked, the next span goes on so
 pub asking_then : (k e f : TimerParts) (a b c : ℕ) → (total k + b < 8192 + a → IsLater k e a b) → IsAsking k e a b
     → IsAsking e f b c → IsAsking k f a c
 asking_then k e f a b c later h g =
@@ -154,6 +158,7 @@ asking_then k e f a b c later h g =
         let l = later (grind (arith, nat_tests, x)) in
         let count : total e + a ≡ total k + b = l.count in g.asks (omega (arith, count, room))
 
+-- two spans without an overflow, one after the other, are one
 pub later_then : (k e f : TimerParts) (a b c : ℕ) → IsLater k e a b → IsLater e f b c → IsLater k f a c
 later_then k e f a b c h g =
     let l1 : total e + a ≡ total k + b = h.count in

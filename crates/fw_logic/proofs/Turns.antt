@@ -39,6 +39,7 @@ pub record IsServing (on : Bool) (m : Cpu) : Type 0 where
 
 -- with the output off either is fit
 module _ (bytes : List ℕ) (has : HasKernel bytes) where
+  -- in the main program what is executed next is fit
   pub main_fit : (m : Cpu) → IsMain false m → IsFit bytes m
   main_fit m h =
       let r = main_at m.pc h.place in
@@ -53,6 +54,7 @@ module _ (bytes : List ℕ) (has : HasKernel bytes) where
         silent = ap (λ (s : Stays). s.clk) h.stays;
       }
 
+  -- in the service what is executed next is fit
   pub service_fit : (m : Cpu) → IsServing false m → IsFit bytes m
   service_fit m h =
       let r = service_at m.pc h.place in
@@ -105,6 +107,7 @@ module _ (bytes : List ℕ) (has : HasKernel bytes) (on : Bool) where
       by true b = refl
       by false b = refl
 
+  -- a step of the main program goes on in it, or enters the timer's interrupt at a tick start
   pub main_step : (pins : Pins) (m : Cpu) (n : Stepped) → IsMain on m → stepped bytes pins m ≡ Some n → GoesOn m n.cpu
   main_step pins m n h step =
       by (takes_external pins m) (takes_timer m)

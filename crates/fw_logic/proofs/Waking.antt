@@ -272,6 +272,7 @@ module _ (d : Board) (bytes : List ℕ) (has : HasKernel bytes) where
         comes = comes_from waking s all;
       }
 
+  -- in the sixteen steps after power-on what is executed is fit, and then the main program goes on
   pub wakes : (m : Cpu) → length m.ram ≡ 128 → (board : d.State) → Wakes (power_on d m board)
   wakes m long board =
       let end : drop 128 m.ram ≡ [] = drop_all 128 m.ram (omega (arith, long)) in

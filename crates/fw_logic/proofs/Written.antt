@@ -31,5 +31,6 @@ text_by bytes has place (suc n) room h =
     by ih false true t z e = later (ih e)
     by ih false false t z e = here t z
 
+-- a place of the kernel's rows is in a row of the HEX text of every image that has the kernel
 pub text_is : (bytes : List ℕ) → HasKernel bytes → (p : ℕ) → p < 2048 → in_text p ≡ true → is_in_text bytes p ≡ true
 text_is bytes has p low h = text_by bytes has (16 * (p / 16)) 16 (omega (arith, low)) h

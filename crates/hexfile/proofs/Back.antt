@@ -94,6 +94,7 @@ digits_plain (byte ∷ bytes) =
     All-cons (λ c. 47 < c) (hex_digit (byte / 16)) (hex_digit (byte % 16) ∷ flat_map hex_byte bytes) (grind (arith, nat_tests))
     (All-cons (λ c. 47 < c) (hex_digit (byte % 16)) (flat_map hex_byte bytes) (grind (arith, nat_tests)) (digits_plain bytes))
 
+-- the line of a record has no character below 30 (hexadecimal), so no end of a line
 pub line_plain : (place : ℕ) (row : List ℕ) → AllPlain (row_line place row)
 line_plain place row =
     All-cons (λ c. 47 < c) 58 (flat_map hex_byte (row_bytes place row ++ sum_byte (row_bytes place row) ∷ []))

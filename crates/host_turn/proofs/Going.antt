@@ -19,11 +19,13 @@ module _ {F : Type 0} (breaks : F → Bool) (now : ℕ) (next : Option HostEvent
   both : d2 ≡ with_host (bios_turn now d.port.filled (event_turn now next (host_of d)).host).host d
   both = e2 ∙ ap (λ (x : Desk F). with_host (bios_turn now x.port.filled (host_of x)).host x) e1
 
+  -- the parts of a cycle, one after another, leave the PC as the cycle does
   pub going_desk : (p : LinkEnd F) → p ≡ (settled now q).port → record d2 { port = p } ≡ (cycled breaks now next d).desk
   going_desk p e =
       ap (λ r. record d2 { port = r }) (e ∙ ap (λ r. (settled now r).port) e3)
       ∙ ap (λ (x : Desk F). record x { port = (settled now (broken_off breaks now x.port)).port }) both
 
+  -- they say what the cycle says
   pub going_items : (i0 i1 i2 i3 : List Item) (did : Did) → i1 ≡ i0 ++ (event_turn now next (host_of d)).items
       → i2 ≡ i1 ++ (bios_turn now d1.port.filled (host_of d1)).items
       → did ≡ (settled now q).did → i3 ≡ i2 ++ said_of did → i3 ≡ i0 ++ (cycled breaks now next d).items

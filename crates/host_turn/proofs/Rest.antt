@@ -58,6 +58,7 @@ free_idle (Ask byte since) h = absurd cc
 free_idle (Request byte) h = absurd cc
 free_idle (Busy x) h = absurd cc
 
+-- a cycle at rest, in which no event is due, changes nothing and says nothing
 pub rests : {F : Type 0} (breaks : F → Bool) (now : ℕ) (next : Option HostEvent) (d : Desk F)
     → (is_at_rest d && not (is_due now next)) ≡ true
     → cycled breaks now next d ≡ record { desk = d; items = []; done = false }

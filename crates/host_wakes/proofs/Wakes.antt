@@ -78,6 +78,7 @@ module _ {F : Type 0} where
         | false ↦ λ k. refl
       ] l
 
+  -- before the cycle in which the PC wakes nothing happens there
   pub sleeps : (breaks : F → Bool) (next : Option HostEvent) (d : Desk F) (end from to : ℕ)
       → to ≤ wakes breaks next d end → SleepsTo breaks next d from to
   sleeps breaks next d end from to low y l u =
@@ -113,6 +114,7 @@ module _ {F : Type 0} where
       ∙ ap (λ v. ends_cycle (in_silence h) v (settled y (broken_off breaks y p))) due
       ∙ ap (λ q. ends_cycle (in_silence h) false q) whole
 
+-- up to the cycle in which the PC wakes, or the end if that is first, nothing happens there
 pub sleeps_by : {F : Type 0} (breaks : F → Bool) (next : Option HostEvent) (d : Desk F) (end from to : ℕ)
     → to ≡ max from (min (wakes breaks next d end) end) → SleepsTo breaks next d from to
 sleeps_by breaks next d end from to e y l u =
@@ -124,5 +126,6 @@ sleeps_by breaks next d end from to e y l u =
 pub first_of : (a b end x y : ℕ) → x ≡ min a end → y ≡ min b end → min x y ≡ min (min a b) end
 first_of a b end x y h g = omega (arith, h, g)
 
+-- the greater of two numbers is the same in either order
 pub turned_round : (x y : ℕ) → max x y ≡ max y x
 turned_round x y = omega arith

@@ -51,6 +51,7 @@ no_line : (text : List ℕ) → length text ≡ 0 → line_length text ≡ 0
 no_line [] none = refl
 no_line (byte ∷ text) none = absurd (omega (arith, none))
 
+-- a text that isn't empty is its first line and then the lines of the rest
 pub parted : (text : List ℕ) → 0 < length text → lines_in text ≡ take (line_length text) text ∷ lines_in (drop (line_length text) text)
 parted [] some = absurd (omega arith)
 parted (byte ∷ text) some = parted_on (byte == 10) byte text (line_length text) (parted text) (λ none. no_line text none)
@@ -59,6 +60,7 @@ parted (byte ∷ text) some = parted_on (byte == 10) byte text (line_length text
 whole_rest : (text : List ℕ) (start : ℕ) → take (length text - start) (drop start text) ≡ drop start text
 whole_rest text start = take_all (length text - start) (drop start text) (omega (arith, length-drop start text))
 
+-- if an LF is found, the line ends after it
 pub end_some : (text : List ℕ) (start i : ℕ) → position is_lf (take (length text - start) (drop start text)) ≡ Some i
     → start + i + 1 ≡ start + line_length (drop start text)
 end_some text start i h =
@@ -66,6 +68,7 @@ end_some text start i h =
     ≡ i + 1 = length_some (drop start text) i (ap (position is_lf) (sym (whole_rest text start)) ∙ h) in
     omega (arith, ends)
 
+-- if no LF is found, the line ends with the text
 pub end_none : (text : List ℕ) (start : ℕ) → start < length text
     → position is_lf (take (length text - start) (drop start text)) ≡ None → length text ≡ start + line_length (drop start text)
 end_none text start below h =

@@ -17,9 +17,11 @@ EndsLine text = (front : List ℕ) × (text ≡ front ++ 10 ∷ [])
 abbrev pub AreLines : List ℕ → Type 0
 AreLines text = (text ≡ []) ⊎ EndsLine text
 
+-- a text that ends with a line's end does so after any other text
 pub ends_afterwards : (front text : List ℕ) → EndsLine text → EndsLine (front ++ text)
 ends_afterwards front text h = (front ++ h.0, ap (λ v. front ++ v) h.1 ∙ sym (append_assoc front h.0 (10 ∷ [])))
 
+-- whole lines and then whole lines are whole lines
 pub lines_after : (a b : List ℕ) → AreLines a → AreLines b → AreLines (a ++ b)
 lines_after a b first (inr second) = inr (ends_afterwards a b second)
 lines_after a b first (inl none) = subst AreLines (sym (ap (λ v. a ++ v) none ∙ append-nil a)) first
@@ -118,6 +120,7 @@ pub is_said : (before after : Shown) (text : List ℕ) → TakesAll before.taken
 is_said before after text all steady stood so =
     record { all = all; steady = steady; lines = both_reported false before.in_memory after.in_memory text stood so }
 
+-- a text of which a put failed is broken off, with what the sink took before
 pub is_broken : (before after : Shown) (text : List ℕ) → TakesPart before.taken after.taken text → Rose before.faults after.faults
     → IfSome before.in_memory (λ sink. (said text sink).failed ≡ true)
     → IfSome before.in_memory (λ sink. after.in_memory ≡ Some (said text sink).sink) → IsBrokenOff before after text
@@ -144,6 +147,7 @@ said_then_broken x y z a b lines h k = record {
   lines = holds_then true x.in_memory y.in_memory z.in_memory a b lines h.lines k.lines;
 }
 
+-- if the first of two texts is broken off, so is the whole
 pub broken_before : (x z : Shown) (a b : List ℕ) → AreLines a → IsBrokenOff x z a → IsBrokenOff x z (a ++ b)
 broken_before x z a b lines h = record {
   part = part_of_more x.taken z.taken a b h.part;

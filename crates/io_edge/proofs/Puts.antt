@@ -52,6 +52,7 @@ Offering before now piece done =
     IfSome before (λ sink. (held : HeldBytes) × (puts : ℕ) × (now ≡ Some held) × (length piece ≤ done + puts)
     × (offered_by puts (drop done piece) held ≡ offered piece sink))
 
+-- before the first put nothing of a piece is offered
 pub offering_first : (before : Option HeldBytes) (piece : List ℕ) → Offering before before piece 0
 offering_first None piece = tt
 offering_first (Some sink) piece = (sink, length piece, refl, omega arith, refl)
@@ -85,6 +86,7 @@ offering_further next piece done n (suc puts) sink held below some enough is too
           ∙ sym (offered_more puts rest held (omega (arith, below, length-drop done piece)) took.0) ∙ is,
     )
 
+-- a put that takes some bytes brings the offering of a piece so much further
 pub offering_on : (before now next : Option HeldBytes) (piece : List ℕ) (done n : ℕ) → done < length piece → 0 < n
     → Offering before now piece done
     → IfSome now (λ sink. let ok : Result ℕ SinkFault = Ok n in ok
@@ -104,6 +106,7 @@ abbrev pub Ends : Option HeldBytes → Option HeldBytes → List ℕ → Bool �
 Ends before after piece failed =
     IfSome before (λ sink. (held : HeldBytes) × (after ≡ Some held) × (record { sink = held; failed = failed } ≡ offered piece sink))
 
+-- after all bytes of a piece are taken its offering ends without a failure
 pub offering_ends : (before now : Option HeldBytes) (piece : List ℕ) (done : ℕ) → length piece ≤ done
     → Offering before now piece done → Ends before now piece false
 offering_ends None now piece done all so = tt
@@ -119,6 +122,7 @@ failing next piece done (suc puts) sink held below enough is fails after =
     let rest = drop done piece in
     (after_put held rest, after, sym (offered_failing puts rest held (omega (arith, below, length-drop done piece)) fails) ∙ is)
 
+-- a put that fails ends the offering of a piece with a failure
 pub offering_fails : (before now next : Option HeldBytes) (piece : List ℕ) (done : ℕ) (fault : SinkFault)
     → done < length piece → Offering before now piece done
     → IfSome now (λ sink. let err : Result ℕ SinkFault = Err fault in err
@@ -138,6 +142,7 @@ pub ended_failed : (before after : Option HeldBytes) (piece : List ℕ) (failed 
 ended_failed None after piece failed h = tt
 ended_failed (Some sink) after piece failed h = sym (ap (λ (o : Offered). o.failed) h.2)
 
+-- the sink after an offering is as the definition says
 pub ended_after : (before after : Option HeldBytes) (piece : List ℕ) (failed : Bool) → Ends before after piece failed
     → IfSome before (λ sink. after ≡ Some (offered piece sink).sink)
 ended_after None after piece failed h = tt
@@ -149,6 +154,7 @@ abbrev pub Saying : Option HeldBytes → Option HeldBytes → List ℕ → ℕ �
 Saying before now text start =
     IfSome before (λ sink. (held : HeldBytes) × (now ≡ Some held) × (said (drop start text) held ≡ said text sink))
 
+-- before the first line nothing of a text is said
 pub saying_first : (before : Option HeldBytes) (text : List ℕ) → Saying before before text 0
 saying_first None text = tt
 saying_first (Some sink) text = (sink, refl, refl)
@@ -200,6 +206,7 @@ said_failed (Some sink) now text start end below is so failed =
           ∙ if_true here.failed here (said (drop end text) here.sink) (of_now (λ s. (offered line s).failed ≡ true) now so.0 so.1 failed),
     )
 
+-- if the offering of a line fails, the saying of the text fails
 pub failed_said : (before now : Option HeldBytes) (text : List ℕ) (start end : ℕ) → start < length text
     → end ≡ start + line_length (drop start text) → Saying before now text start
     → IfSome now (λ sink. (offered (take (end - start) (drop start text)) sink).failed ≡ true)
@@ -209,6 +216,7 @@ failed_said (Some sink) now text start end below is so failed =
     let h = said_failed (Some sink) now text start end below is so failed in
     ap (λ (o : Offered). o.failed) h.2 ∙ of_now (λ s. (offered (take (end - start) (drop start text)) s).failed ≡ true) now h.0 h.1 failed
 
+-- and the sink is then as after the saying of the text
 pub failed_after : (before now next : Option HeldBytes) (text : List ℕ) (start end : ℕ) → start < length text
     → end ≡ start + line_length (drop start text) → Saying before now text start
     → IfSome now (λ sink. (offered (take (end - start) (drop start text)) sink).failed ≡ true)
@@ -228,11 +236,13 @@ saying_ends None now text start all so = tt
 saying_ends (Some sink) now text start all so =
     (so.0, so.1, sym (ap (λ (ls : List ℕ). said ls so.0) (drop_all start text all)) ∙ so.2)
 
+-- a text whose lines were all said is said without a failure
 pub whole_said : (before now : Option HeldBytes) (text : List ℕ) (start : ℕ) → length text ≤ start
     → Saying before now text start → IfSome before (λ sink. (said text sink).failed ≡ false)
 whole_said None now text start all so = tt
 whole_said (Some sink) now text start all so = sym (ap (λ (o : Offered). o.failed) (saying_ends (Some sink) now text start all so).2)
 
+-- and the sink is then as after the saying of the text
 pub whole_after : (before now : Option HeldBytes) (text : List ℕ) (start : ℕ) → length text ≤ start
     → Saying before now text start → IfSome before (λ sink. now ≡ Some (said text sink).sink)
 whole_after None now text start all so = tt

@@ -50,6 +50,7 @@ takes_part text start end a b c order inside first part =
     let short : part.0 ≤ end - start = grind (arith, length-take (end - start) (drop start text), part.1) in
     (start + part.0, grind (arith, short, order, inside), takes_on text start (end - start) part.0 a b c first part.1 part.2)
 
+-- what holds in any case holds if the result is an error
 pub on_err : {A E : Type 0} (result : Result A E) (P : Type 0) → P → OnErr result P
 on_err (Ok value) P p = tt
 on_err (Err fault) P p = p

@@ -26,10 +26,12 @@ takes_then (Some before) b c xs ys n first second =
     more ∙ ap (λ v. Some v) (append_assoc before xs (take n ys) ∙ ap (λ v. before ++ v) (sym (take_second n xs ys)))
 takes_then None b c xs ys n first second = subst (λ (v : Option (List ℕ)). Takes v c ys n) first second
 
+-- a sink that took all of a text, and then all of another, took all of both
 pub all_then_all : (a b c : Option (List ℕ)) (xs ys : List ℕ) → TakesAll a b xs → TakesAll b c ys → TakesAll a c (xs ++ ys)
 all_then_all a b c xs ys first second =
     subst (λ (n : ℕ). Takes a c (xs ++ ys) n) (sym (length-append xs ys)) (takes_then a b c xs ys (length ys) first second)
 
+-- a sink that took all of a text, and then a part of another, took a part of both
 pub all_then_part : (a b c : Option (List ℕ)) (xs ys : List ℕ) → TakesAll a b xs → TakesPart b c ys → TakesPart a c (xs ++ ys)
 all_then_part a b c xs ys first part =
     let long = length-append xs ys in
@@ -40,6 +42,7 @@ takes_less : (a c : Option (List ℕ)) (xs ys : List ℕ) (n : ℕ) → n ≤ le
 takes_less (Some before) c xs ys n l h = h ∙ ap (λ v. Some (before ++ v)) (sym (take_first n xs ys l))
 takes_less None c xs ys n l h = h
 
+-- a part of a text is a part of that text with more after it
 pub part_of_more : (a c : Option (List ℕ)) (xs ys : List ℕ) → TakesPart a c xs → TakesPart a c (xs ++ ys)
 part_of_more a c xs ys part =
     let long = length-append xs ys in

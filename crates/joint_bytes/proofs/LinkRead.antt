@@ -43,6 +43,7 @@ few_read count l few =
     let test : nat_lt 10 count ≡ false = grind (arith, nat_tests, few) in
     ap (λ (b : Bool). if b then None else Some l) test
 
+-- a byte of the keyboard under way, with ten bits at most, is read from its bytes
 pub recv_as : (x : List ℕ) (flip : Option ℕ) (bits : List Bool) → x ≡ link_bytes (Busy (Recv flip bits)) → length bits ≤ 10
     → link_in x ≡ Some (Busy (Recv flip bits))
 recv_as x flip bits e few =

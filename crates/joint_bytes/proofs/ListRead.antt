@@ -9,6 +9,7 @@ use Rattle.joint_bytes.proofs.Pushed.{later_is, one_less}
 use Rattle.joint_bytes.specs.Lists.{edge_bytes, edge_in, edges_bytes, edges_in, have_places, item_bytes, item_in, items_bytes, items_in}
 use Rattle.joint_bytes.specs.Lists.{no_item}
 
+-- the bytes of a list of edges are those of its first edge and then those of the others
 pub edges_more : (n : ℕ) (es : List Edge) (e : Edge) (piece : List ℕ) → 0 < n → 0 < length es → e ≡ slice_index_or es 0 e
     → piece ≡ edge_bytes e → piece ++ edges_bytes (n - 1) (take (length es - 1) (drop 1 es)) ≡ edges_bytes n es
 edges_more zero es e piece l m is p = absurd (omega (arith, l))
@@ -18,6 +19,7 @@ edges_more (suc n) (x ∷ es) e piece l m is p =
     ∙ ap (λ k. piece ++ edges_bytes k es) (one_less n)
     ∙ ap (λ q. q ++ edges_bytes n es) (p ∙ ap edge_bytes is)
 
+-- a list of edges is read from its bytes, if its first edge and the others are
 pub edges_all : (n : ℕ) (es : List Edge) (e : Edge) (piece : List ℕ) → 0 < n → 0 < length es → e ≡ slice_index_or es 0 e
     → piece ≡ edge_bytes e → edge_in piece ≡ e
     → edges_in (length (take (length es - 1) (drop 1 es))) (edges_bytes (n - 1) (take (length es - 1) (drop 1 es)))
@@ -32,6 +34,7 @@ edges_all (suc n) (x ∷ es) e piece l m is p r h =
     ap (λ k. edges_in (length es) (edges_bytes k es)) (sym (one_less n)) ∙ most in
     λ i. first i ∷ later i
 
+-- the bytes of a list have places of the matrix, if those of its first edge and of the others do
 pub places_all : (n : ℕ) (es : List Edge) (e : Edge) (piece : List ℕ) → 0 < n → 0 < length es → e ≡ slice_index_or es 0 e
     → piece ≡ edge_bytes e → slice_index piece 8 < 96
     → have_places (length (take (length es - 1) (drop 1 es))) (edges_bytes (n - 1) (take (length es - 1) (drop 1 es))) ≡ true
@@ -54,6 +57,7 @@ items_rest zero is l m = absurd (omega (arith, l))
 items_rest (suc n) (x ∷ is) l m = absurd (omega (arith, m))
 items_rest (suc n) [] l m = ap (λ k. (0 ∷ 0 ∷ 0 ∷ 0 ∷ 0 ∷ 0 ∷ 0 ∷ 0 ∷ 0 ∷ 0 ∷ 0 ∷ []) ++ items_bytes k []) (one_less n)
 
+-- the bytes of a list of items are those of its first item and then those of the others
 pub items_more : (n : ℕ) (is : List Happened) (piece : List ℕ) → 0 < n → 0 < length is
     → piece ≡ item_bytes (slice_index_or is 0 no_item)
     → piece ++ items_bytes (n - 1) (take (length is - 1) (drop 1 is)) ≡ items_bytes n is
@@ -64,6 +68,7 @@ items_more (suc n) (x ∷ is) piece l m p =
     ∙ ap (λ k. piece ++ items_bytes k is) (one_less n)
     ∙ ap (λ q. q ++ items_bytes n is) p
 
+-- a list of items is read from its bytes, if its first item and the others are
 pub items_all : (n : ℕ) (is : List Happened) (piece : List ℕ) → 0 < n → 0 < length is
     → piece ≡ item_bytes (slice_index_or is 0 no_item) → item_in piece ≡ slice_index_or is 0 no_item
     → items_in (length (take (length is - 1) (drop 1 is))) (items_bytes (n - 1) (take (length is - 1) (drop 1 is)))

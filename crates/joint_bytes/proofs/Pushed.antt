@@ -15,13 +15,16 @@ more old mid new piece rest whole a b c = b ∙ ap (λ l. l ++ rest) a ∙ appen
 pub later_is : {X : Type 0} (k : ℕ) (xs : List X) → take (length xs - k) (drop k xs) ≡ drop k xs
 later_is k xs = let n = length-drop k xs in take_all (length xs - k) (drop k xs) (omega (arith, n))
 
+-- the number before the one after n is n
 pub one_less : (n : ℕ) → suc n - 1 ≡ n
 one_less n = omega arith
 
+-- the edges read from bytes are the first edge and then those read from the bytes after its ten
 pub edges_step : (n : ℕ) (s : List ℕ) → 0 < n → edge_in s ∷ edges_in (n - 1) (drop 10 s) ≡ edges_in n s
 edges_step zero s l = absurd (omega (arith, l))
 edges_step (suc n) s l = ap (λ k. edge_in s ∷ edges_in k (drop 10 s)) (one_less n)
 
+-- the items read from bytes are the first item and then those read from the bytes after its eleven
 pub items_step : (n : ℕ) (s : List ℕ) → 0 < n → item_in s ∷ items_in (n - 1) (drop 11 s) ≡ items_in n s
 items_step zero s l = absurd (omega (arith, l))
 items_step (suc n) s l = ap (λ k. item_in s ∷ items_in k (drop 11 s)) (one_less n)

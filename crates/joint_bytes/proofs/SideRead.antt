@@ -37,6 +37,7 @@ awaited_read None = refl
 awaited_read (Some CommandByte) = refl
 awaited_read (Some OutputPort) = refl
 
+-- the controller is read from its bytes
 pub controller_read : (s : ControllerState) → controller_in (controller_bytes s) ≡ s
 controller_read s =
     let input = input_read s.input in
@@ -58,6 +59,7 @@ controller_read s =
       resends = s.resends;
     }
 
+-- so it is from bytes that are equal to those
 pub controller_as : (x : List ℕ) (s : ControllerState) → x ≡ controller_bytes s → controller_in x ≡ s
 controller_as x s e = ap controller_in e ∙ controller_read s
 
@@ -96,6 +98,7 @@ side_read o near =
       shown = o.shown;
     }
 
+-- what is outside the processor is read from its bytes
 pub side_as : (x : List ℕ) (o : Outside) → x ≡ side_bytes o → o.desk.port.filled < 2 ^ 64
     → side_in (controller_bytes o.desk.port.core) x o.desk.port.link o.desk.bios.words ≡ o
 side_as x o e near =

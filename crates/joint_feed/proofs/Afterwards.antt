@@ -61,6 +61,7 @@ first_after (y ∷ ys) (suc n) x h =
     let e : suc n + 1 ≡ suc (n + 1) = omega arith in
     ap (λ k. x ∷ drop k (y ∷ ys)) e ∙ first_after ys n x h
 
+-- the next event, moved to those in hand, leaves what is in hand and what follows as it was
 pub one_more_after : {X : Type 0} (next all : List X) (n : ℕ) (x : X)
     → Some x ≡ slice_get all n → (next ++ x ∷ []) ++ drop (n + 1) all ≡ next ++ drop n all
 one_more_after next all n x h = append_assoc next (x ∷ []) (drop (n + 1) all) ∙ ap (λ v. next ++ v) (first_after all n x h)
@@ -79,6 +80,7 @@ take_all_of (suc n) [] [] none room = refl
 take_all_of (suc n) [] (y ∷ ys) none room = absurd (cc none)
 take_all_of (suc n) (x ∷ xs) ys none room = ap (λ v. x ∷ v) (take_all_of n xs ys none (omega (arith, room)))
 
+-- the first n of a list of n and what follows are the list
 pub take_full : {X : Type 0} (n : ℕ) (xs ys : List X) → length xs ≡ n → xs ≡ take n (xs ++ ys)
 take_full zero [] ys full = refl
 take_full zero (x ∷ xs) ys full = absurd (omega (arith, full))

@@ -17,6 +17,7 @@ use Rattle.joint_run.specs.Run.{World, after_step, seen, after_cycles}
 use Rattle.ctl_wire.specs.Wires.{Pc, board_cycle, looked, wires}
 use Rattle.joint_run.specs.Due.{made_first}
 
+-- no more edges are made than were handed in
 pub made_few : (cycle : ℕ) (edges : List Edge) → length (made_first cycle edges) ≤ length edges
 made_few cycle [] = omega arith
 made_few cycle (e ∷ es) = elim (is_made cycle e) as (λ b. length (if b then e ∷ made_first cycle es else []) ≤ suc (length es)) [
@@ -30,6 +31,7 @@ there [] k e h = absurd cc
 there (x ∷ xs) zero e h = omega arith
 there (x ∷ xs) (suc k) e h = let l = there xs k e h in omega (arith, l)
 
+-- an event that is done is one of the events
 pub done_there : (now : ℕ) (events : List HostEvent) (k : ℕ) (core : ControllerState)
     → is_done now (slice_get events k) core ≡ true → k < length events
 done_there now events k core h =

@@ -8,6 +8,7 @@ use Rattle.board_terms.specs.Edges.{is_made}
 use Rattle.key_file.specs.Accepted.{IsThin}
 use Rattle.joint_run.specs.Due.{made_first}
 
+-- of the first four, or fewer, as many as there are are all of them
 pub all_of_four : (xs : List Edge) → take 4 xs ≡ take (length (take 4 xs)) xs
 all_of_four [] = refl
 all_of_four (a ∷ []) = refl
@@ -15,6 +16,7 @@ all_of_four (a ∷ b ∷ []) = refl
 all_of_four (a ∷ b ∷ c ∷ []) = refl
 all_of_four (a ∷ b ∷ c ∷ d ∷ xs) = refl
 
+-- edges that are never five at once are so without the first ones
 pub thin_after : (n : ℕ) (xs : List Edge) → IsThin xs → IsThin (drop n xs)
 thin_after zero xs h = h
 thin_after (suc n) [] h = h
@@ -71,6 +73,7 @@ drop_nil zero xs e = e
 drop_nil (suc n) [] e = refl
 drop_nil (suc n) (x ∷ xs) e = absurd (cc e)
 
+-- to drop m edges and then n is to drop m + n
 pub drop_more : (m n k : ℕ) (xs : List Edge) → m + n ≡ k → drop n (drop m xs) ≡ drop k xs
 drop_more zero n k xs e = let f : n ≡ k = omega (arith, e) in ap (λ (i : ℕ). drop i xs) f
 drop_more (suc m) n k [] e = drop_nil n [] refl ∙ sym (drop_nil k [] refl)

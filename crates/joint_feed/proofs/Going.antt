@@ -46,6 +46,7 @@ made_if : (due : Due) (old : Machine) (seen : Seen) (new : Machine) (o : Option 
 made_if due old seen new None e h = absurd h
 made_if due old seen new (Some w) e h = record { world = w; step = e; after = h.0; seen_so = h.1 }
 
+-- a step that answers what was seen was made, and the machine is as that step leaves it
 pub made : (due : Due) (old : Machine) (seen : Seen) (new : Machine)
     → IsJointStep due old (due_step due old) (Ok seen) new → IsMade due old seen new
 made due old seen new h = made_if due old seen new (due_step due old) refl h
@@ -74,15 +75,19 @@ module _ (s : Story) (it : Course) (new : Machine) (seen : Seen) (h : IsOnCourse
   abbrev pub left : List Edge
   left = drop it.ahead.made s.edges
 
+  -- the run of the history goes on by the step
   pub on : RunGoesOn s.held s.edges s.events it.ahead.made old seen new
   on = run s.held s.edges s.events it.ahead.made old order h.in_run (due_of s it h thin)
 
+  -- the step was made, and the machine is as it leaves it
   pub step : IsMade it.ahead.due it.joint seen new
   step = made it.ahead.due it.joint seen new is
 
+  -- the machine has made one step more
   pub steps_more : new.steps ≡ suc it.joint.steps
   steps_more = ap (λ m. m.steps) step.after ∙ add-one it.joint.steps
 
+  -- the machine is as many cycles later as the step took
   pub cycle_more : it.joint.cycle + seen.cycles ≡ new.cycle
   cycle_more = step.seen_so.cycles ∙ sym (ap (λ m. m.cycle) step.after)
 
@@ -90,6 +95,7 @@ module _ (s : Story) (it : Course) (new : Machine) (seen : Seen) (h : IsOnCourse
   pub edges_few : seen.edges ≤ length it.ahead.due.edges.items
   edges_few = let a = made_few it.joint.cycle it.ahead.due.edges.items in let b = step.seen_so.edges in omega (arith, a, b)
 
+  -- the step did no more events than were handed in
   pub host_few : seen.host ≤ length it.ahead.due.host.items
   host_few = let a = done_few it.ahead.due it.joint step.world step.step in let b = step.seen_so.host in omega (arith, a, b)
 
@@ -104,6 +110,7 @@ module _ (s : Story) (it : Course) (new : Machine) (seen : Seen) (h : IsOnCourse
       let f : length left ≡ length s.edges - it.ahead.made = length-drop it.ahead.made s.edges in
       omega (arith, a, b, c, d, e, f)
 
+  -- the events that are done are the history's
   pub host_there : it.ahead.done + seen.host ≤ length s.events
   host_there =
       let a = done_few it.ahead.due it.joint step.world step.step in
@@ -144,6 +151,7 @@ module _ (s : Story) (it : Course) (new : Machine) (seen : Seen) (h : IsOnCourse
       ap (λ (u : World Beside). log_of u.board) (sym (same_state next)) ∙ on.log
       ∙ ap (λ (u : World Beside). log_of u.board ++ seen.items.items) (same_state first)
 
+  -- after the step the machine is at a later cycle
   pub later : 0 < seen.cycles → it.joint.cycle < new.cycle
   later some = let c = cycle_more in omega (arith, c, some)
 

@@ -43,6 +43,7 @@ int_high : (edges : List Edge) (events : List HostEvent) (w : World Beside) → 
 unfolding joint_pins
 int_high edges events w = refl
 
+-- no step follows a state exactly if it enters no interrupt and the byte at the counter is an illegal opcode
 pub none_step : (edges : List Edge) (events : List HostEvent) (bytes : List ℕ) (w : World Beside)
     → is_none (joint_step (joint_board edges events) bytes w) ≡ (not (takes_timer w.cpu) && is_none (row_at bytes w.cpu.pc))
 none_step edges events bytes w =

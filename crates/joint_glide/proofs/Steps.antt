@@ -33,6 +33,7 @@ module _ (events : List HostEvent) (p2 : ℕ) (o : Outside) where
   one_passes now h =
       cycle_is events p2 now o 0 [] ∙ ap (λ (c : Passed). beside c.outside (if c.done then 0 + 1 else 0) ([] ++ c.items)) h
 
+  -- in still cycles nothing is done, said or changed outside the processor
   pub still_passes : (cycles now : ℕ)
       → 0 < cycles → cycles < 3 → ((c : ℕ) → now ≤ c → c < now + cycles → IsStill c p2 (slice_get events 0) o)
       → passed cycles now p2 events o ≡ beside o 0 []
@@ -45,6 +46,7 @@ module _ (events : List HostEvent) (p2 : ℕ) (o : Outside) where
 
 -- no edge is made
 module _ (due : Due) (m : Machine) (none : made_first m.cycle due.edges.items ≡ []) where
+  -- if no edge is due, the keys are as they were
   pub same_keys : keys_in_step due m ≡ m.matrix
   same_keys = ap (λ es. turned_by es m.matrix) none
 
@@ -78,6 +80,7 @@ module _ (due : Due) (m : Machine) (none : made_first m.cycle due.edges.items �
   stuck_by stuck cpu None h = (cc h.0, ap (λ c. record m { mcu = c }) h.1)
   stuck_by stuck cpu (Some n) h = absurd (cc h.0)
 
+  -- if no edge is due and the processor is stuck, the joint step is stuck, and nothing else changes
   pub stuck_so : (stuck : Stuck) (cpu : Cpu) → IsStep m.image.bytes m.mcu (stepped m.image.bytes (pins_now m) m.mcu) (Err stuck) cpu
       → IsJointStep due m (due_step due m) (Err stuck) (record m { mcu = cpu })
   stuck_so stuck cpu h =
@@ -109,6 +112,7 @@ module _ (due : Due) (m : Machine) (none : made_first m.cycle due.edges.items �
     lines_of s e =
         ap (λ p. wires (latch_of p) (beside m.outside 0 []).pc) (sym latch) ∙ ap (λ (t : Beside). wires (latch_of cpu.p2) t.pc) (sym e)
 
+    -- a step of the processor in still cycles is the joint step, and says nothing
     pub quiet_step : IsJointStep due m (due_step due m) (Ok (seen_uneventfully cycles line)) quietly_on
     quiet_step =
         by_step due m (seen_uneventfully cycles line) quietly_on cpu (pins_now m) same_pins h
@@ -124,6 +128,7 @@ module _ (due : Due) (m : Machine) (none : made_first m.cycle due.edges.items �
               (lines_of (passed cycles m.cycle cpu.p2 due.host.items m.outside) all_pass);
         })
 
+    -- so it is a quiet step
     pub is_quiet : IsUneventful due m quietly_on
     is_quiet = record {
       seen = seen_uneventfully cycles line;

@@ -66,6 +66,7 @@ module _ (due : Due) (tick_pc : ℕ) (old : Machine) (to : ℕ) (still : IsStill
           subst (λ (n : Machine). IsUneventful due here n) (on_one next cycles)
           (is_quiet due here (none_made before_end) cycles next some few kept (still_here cycles room) h)
 
+      -- a step after quiet ones is a joint step from where they led
       pub one_reported : IsJointStep due here (due_step due here) (Ok (seen_uneventfully cycles (outside_wires cpu.p2 old.outside)))
           (stood old next (steps + 1) (passed + cycles))
       one_reported =
@@ -73,6 +74,7 @@ module _ (due : Due) (tick_pc : ℕ) (old : Machine) (to : ℕ) (still : IsStill
           (on_one next cycles)
           (quiet_step due here (none_made before_end) cycles next some few kept (still_here cycles room) h)
 
+      -- with one quiet step more that leads to no tick start the steps are quiet
       pub one_more : AreUneventful due tick_pc steps old here
           → (next.pc % 2048 == tick_pc) ≡ false → AreUneventful due tick_pc (steps + 1) old (stood old next (steps + 1) (passed + cycles))
       one_more quiet off =
@@ -87,6 +89,7 @@ module _ (due : Due) (tick_pc : ℕ) (old : Machine) (to : ℕ) (still : IsStill
         → IsJointStep due here (due_step due here) (Ok seen) new
     ends_written cycles next seen new room h count e s = ended_so due here (none_made room) cycles next seen new h count e s
 
+    -- if the processor is stuck after quiet steps, the joint step is stuck
     pub ends_stuck : (stuck : Stuck) (next : Cpu) → old.cycle + passed < to
         → IsStep old.image.bytes cpu (stepped old.image.bytes (pins_now here) cpu) (Err stuck) next
         → IsJointStep due here (due_step due here) (Err stuck) (stood old next steps passed)
@@ -138,6 +141,7 @@ module _ (due : Due) (tick_pc : ℕ) (old : Machine) (to : ℕ) (still : IsStill
     run = step_of_run due last (Ok seen) new is (some, few);
   }
 
+  -- quiet steps and then a stuck one are a stretch that ends stuck
   pub gone_stuck : (steps room : ℕ) (last new : Machine) (stuck : Stuck) → AreUneventful due tick_pc steps old last → last.cycle ≤ old.cycle + room
       → IsJointStep due last (due_step due last) (Err stuck) new → HasGone due tick_pc room old (Err stuck) new
   gone_stuck steps room last new stuck quiet within is = record {

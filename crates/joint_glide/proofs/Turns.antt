@@ -21,6 +21,7 @@ use Rattle.joint_glide.proofs.Stretches.{stood, ends_stuck, ends_written, gone, 
 pub parts_on : (old j x : Machine) → j ≡ record old { mcu = j.mcu } → x ≡ record j { mcu = x.mcu } → x ≡ record old { mcu = x.mcu }
 parts_on old j x parts only = only ∙ ap (λ (m : Machine). record m { mcu = x.mcu }) parts
 
+-- a machine of which the processor alone was changed twice differs from the first in its processor alone
 pub parts_leapt : (old x end : Machine) (cpu : Cpu)
     → x ≡ record old { mcu = x.mcu } → end ≡ record x { mcu = cpu } → end ≡ record old { mcu = end.mcu }
 parts_leapt old x end cpu parts e =
@@ -52,6 +53,7 @@ module _ (due : Due) (tick_pc : ℕ) (old j : Machine) (room steps passed : ℕ)
         e ∙ ap (λ (m : Machine). record m { mcu = x.mcu; cycle = m.cycle + c; steps = m.steps + n }) only
         ∙ ap (λ (m : Machine). record m { mcu = x.mcu; cycle = m.cycle + c; steps = m.steps + n }) parts
 
+    -- a turn whose step is stuck ends the stretch as stuck
     pub turn_stuck : (stuck : Stuck) → IsStep j.image.bytes j.mcu (stepped j.image.bytes (pins_now j) j.mcu) (Err stuck) x.mcu
         → new ≡ record x { cycle = x.cycle + passed; steps = x.steps + steps } → HasGone due tick_pc room old (Err stuck) new
     turn_stuck stuck h e =
@@ -61,6 +63,7 @@ module _ (due : Due) (tick_pc : ℕ) (old j : Machine) (room steps passed : ℕ)
 
     module _ (cycles : ℕ) (some : 0 < cycles) (few : cycles < 3)
         (h : IsStep j.image.bytes j.mcu (stepped j.image.bytes (pins_now j) j.mcu) (Ok cycles) x.mcu) where
+      -- a turn whose step puts port 2 ends the stretch with that step, outside included
       pub turn_written : (end : Machine) (seen : Seen) → new ≡ record x { cycle = x.cycle + passed; steps = x.steps + steps }
           → end ≡ machine_after (without_edges due) new (ended cycles due new)
           → IsSeen (without_edges due) new (ended cycles due new) seen → seen.cycles ≡ cycles
@@ -80,6 +83,7 @@ module _ (due : Due) (tick_pc : ℕ) (old j : Machine) (room steps passed : ℕ)
         in_room : old.cycle + passed + cycles ≤ old.cycle + room
         in_room = omega (arith, few, test)
 
+        -- a turn whose step is still ends the stretch with that step, if it has to be reported
         pub turn_reported : (line : Lines) (seen : Seen) → line ≡ outside_wires old.mcu.p2 old.outside
             → new ≡ record x { cycle = x.cycle + (passed + cycles); steps = x.steps + (steps + 1) } → seen ≡ seen_uneventfully cycles line
             → HasGone due tick_pc room old (Ok seen) new × ((0 < seen.cycles) × (seen.cycles < 3))
@@ -98,6 +102,7 @@ module _ (due : Due) (tick_pc : ℕ) (old j : Machine) (room steps passed : ℕ)
             let less : seen.cycles < 3 = omega (arith, few, count) in
             (gone due tick_pc old (old.cycle + room) still steps room here new seen quiet within is more less, (more, less))
 
+        -- a turn whose step is still and leads to no tick start goes on
         pub turn_on : (x.mcu.pc % 2048 == tick_pc) ≡ false → AreUneventful due tick_pc (steps + 1) old (stood old x.mcu (steps + 1) (passed + cycles))
         turn_on off =
             one_more due tick_pc old (old.cycle + room) still j.mcu steps passed latch cycles x.mcu some few

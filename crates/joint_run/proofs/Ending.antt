@@ -12,6 +12,7 @@ use Rattle.joint_run.specs.declared.machine.Machine.{Machine}
 use Rattle.joint_run.specs.declared.outside.Outside.{Outside}
 use Rattle.joint_run.proofs.Stepping.{came}
 
+-- the cycles of a step pass alike by the machine's own latch and the events that were handed in
 pub passed_by : (m : Machine) (due : Due) (cycles p2 : ℕ) (events : List HostEvent) (new : Outside)
     (said : List Stamped) (answer : ℕ × Lines × Lines)
     → p2 ≡ m.mcu.p2 → events ≡ due.host.items → HasPassed cycles m.cycle p2 events m.outside new said answer

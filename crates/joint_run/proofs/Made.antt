@@ -62,6 +62,7 @@ module _ (cycle : ℕ) where
 made_later : (cycle later : ℕ) (e : Edge) → cycle ≤ later → is_made cycle e ≡ true → is_made later e ≡ true
 made_later cycle later e l h = grind (arith, nat_tests, l, h)
 
+-- if all edges are made by a cycle, all are by a later one
 pub all_later : (cycle later : ℕ) → cycle ≤ later → (es : List Edge) → made_first cycle es ≡ es → made_first later es ≡ es
 all_later cycle later l [] h = refl
 all_later cycle later l (e ∷ es) h =
@@ -84,6 +85,7 @@ made_twice cycle (e ∷ es) =
       | false ↦ λ h. refl
     ] refl
 
+-- the edges of two lists, one list after the other, turn the keys as both joined
 pub turned_on : (xs ys : List Edge) (keys : List Bool) → turned_by (xs ++ ys) keys ≡ turned_by ys (turned_by xs keys)
 turned_on [] ys keys = refl
 turned_on (e ∷ es) ys keys = turned_on es ys (turned e.place e.down keys)
@@ -95,6 +97,7 @@ module _ (edges : List Edge) (order : AreInOrder edges) (made cycle : ℕ) (due 
   rest : List Edge
   rest = drop made edges
 
+  -- the edges that are made by a cycle are those made before and those of the next that are due
   pub made_now : filter (is_made cycle) edges ≡ take made edges ++ made_first cycle due
   made_now =
       first_made cycle edges order
@@ -105,6 +108,7 @@ module _ (edges : List Edge) (order : AreInOrder edges) (made cycle : ℕ) (due 
       (before_unmade cycle (take (length due) (drop made edges)) (drop (length due) (drop made edges)) all)
       ∙ ap (λ es. take made edges ++ made_first cycle es) (sym next)
 
+  -- they are as many of the first ones
   pub taken_now : take (made + length (made_first cycle due)) edges ≡ take made edges ++ made_first cycle due
   taken_now =
       let p : made_first cycle due ≡ take (length (made_first cycle due)) (drop made edges) =
@@ -112,6 +116,7 @@ module _ (edges : List Edge) (order : AreInOrder edges) (made cycle : ℕ) (due 
       ∙ ap (λ es. take (length (made_first cycle es)) (drop made edges)) (sym next) in
       take-add made (length (made_first cycle due)) edges ∙ ap (λ es. take made edges ++ es) (sym p)
 
+  -- they are made at each later cycle too
   pub reached_now : (later : ℕ)
       → cycle ≤ later → made_first later (take made edges ++ made_first cycle due) ≡ take made edges ++ made_first cycle due
   reached_now later l =

@@ -36,6 +36,7 @@ module _ (d : Board) (tick_pc : ℕ) (bytes : List ℕ) (from : World d.State) w
       (ap (λ i. run_at d bytes from i) z ∙ r ∙ h, ap (λ i. starts_before d tick_pc bytes from i) z)
   calm_on (suc n) k w e r h = calm_by n k w e (λ t s c. calm_on n (suc k) t e s c) r (at_tick d tick_pc w) refl (joint_step d bytes w) refl h
 
+  -- the tick start of a number is reached by steps of the run, with as many starts before it
   pub nth_reached : (n : ℕ) (w : World d.State) → IsNth d tick_pc bytes from n w → (k : ℕ) × Reaches k w n
   nth_reached zero w h =
       let c = calm_on h.steps 0 from h.end refl h.run in

@@ -30,6 +30,7 @@ pins_are edges p1 p2 cycle s = refl
 abbrev pub AreFew : Result Seen Stuck → Type 0
 AreFew result = IfOk result (λ seen. (0 < seen.cycles) × (seen.cycles < 3))
 
+-- a step takes one or two cycles, as what was seen of it says
 pub are_few_seen : (result : Result (Unit {0}) Stuck) (seen : Seen)
     → OnOk result (0 < seen.cycles) → OnOk result (seen.cycles < 3) → AreFew (with_seen result seen)
 are_few_seen (Ok done) seen some few = (some, few)
@@ -127,6 +128,7 @@ module _ (held : Cpu) (edges : List Edge) (events : List HostEvent) (order : Are
   by_row (Some n) (Ok seen) new run h few = goes n seen new run h.0 h.1 few.0 few.1
   by_row (Some n) (Err stuck) new run h few = absurd h
 
+-- a step of the machine is the joint step of each history in order whose next events were handed in
 pub step_of_run : (due : Due) (m : Machine) (result : Result Seen Stuck) (new : Machine)
     → IsJointStep due m (due_step due m) result new → AreFew result
     → IsStepOfRun due m result new

@@ -43,6 +43,7 @@ opened : (events : List HostEvent) (p2 now : ℕ) (o : Outside) (done : ℕ) (lo
 unfolding joint_cycle board_cycle
 opened events p2 now o done log = refl
 
+-- a cycle of the joint run is that of what is outside the processor, with the count of events and the log gone on
 pub cycle_is : (events : List HostEvent) (p2 now : ℕ) (o : Outside) (done : ℕ) (log : List Stamped) →
     let c : Passed = outside_cycle now p2 (slice_get events done) o in
     joint_cycle events p2 now (beside o done log) ≡ beside c.outside (if c.done then done + 1 else done) (log ++ c.items)
@@ -72,6 +73,7 @@ module _ (events : List HostEvent) (p2 now : ℕ) (o o1 : Outside) (d1 : Bool) (
     (z : i0 ≡ []) (n1 : next1 ≡ slice_get events 0) (a1 : o1 ≡ (outside_cycle now p2 next1 o).outside)
     (b1 : d1 ≡ (outside_cycle now p2 next1 o).done)
     (e1 : i1 ≡ i0 ++ (outside_cycle now p2 next1 o).items) where
+  -- one cycle that is made is the cycle of a step of one
   pub pass_one : passed 1 now p2 events o ≡ beside o1 (bool_byte d1) i1
   pass_one =
       let c : Passed = outside_cycle now p2 next1 o in
@@ -87,6 +89,7 @@ module _ (events : List HostEvent) (p2 now : ℕ) (o o1 : Outside) (d1 : Bool) (
   module _ (o2 : Outside) (d2 : Bool) (i2 : List Stamped) (next2 : Option HostEvent)
       (n2 : next2 ≡ slice_get events (bool_byte d1)) (a2 : o2 ≡ (outside_cycle (now + 1) p2 next2 o1).outside)
       (b2 : d2 ≡ (outside_cycle (now + 1) p2 next2 o1).done) (e2 : i2 ≡ i1 ++ (outside_cycle (now + 1) p2 next2 o1).items) where
+    -- two cycles that are made are those of a step of two
     pub pass_two : passed 2 now p2 events o ≡ beside o2 (bool_byte d1 + bool_byte d2) i2
     pass_two =
         let c : Passed = outside_cycle (now + 1) p2 next2 o1 in

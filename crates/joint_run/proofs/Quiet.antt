@@ -90,6 +90,7 @@ quiet_before now last p2 next o h q =
 pub quiet_again : (now p2 : ℕ) (next : Option HostEvent) (o : Outside) → IsQuiet now p2 next o → IsQuiet now p2 next (noted p2 o)
 quiet_again now p2 next o q = record { rest = q.rest; none = q.none; lights = q.lights; level = no_second_fall (latch_of p2).clk }
 
+-- in a quiet cycle the link is free
 pub link_free : (now p2 : ℕ) (next : Option HostEvent) (o : Outside) → IsQuiet now p2 next o → is_free o.desk.port.link ≡ true
 link_free now p2 next o q = and-left (is_free o.desk.port.link) (is_idle o.desk.port.core) q.rest
 
@@ -150,6 +151,7 @@ module _ (events : List HostEvent) (p2 : ℕ) where
       cycle_is events p2 now o 0 []
       ∙ ap (λ (c : Passed). beside c.outside (if c.done then 0 + 1 else 0) ([] ++ c.items)) (quiet_cycle now p2 next o q)
 
+  -- in a quiet cycle nothing but the clock's level is noted
   pub quiet_one : (now : ℕ) (o : Outside) → IsQuiet now p2 next o → passed 1 now p2 events o ≡ beside (noted p2 o) 0 []
   quiet_one now o q = quiet_tick now o q
 

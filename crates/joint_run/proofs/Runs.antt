@@ -18,6 +18,7 @@ next_one [] done = ap (λ (es : List HostEvent). slice_get (take 2 es) 0) (sym (
 next_one (e ∷ es) zero = refl
 next_one (e ∷ es) (suc done) = next_one es done
 
+-- the second event from one on is the second of the two that were handed in
 pub next_two : (events : List HostEvent) (done : ℕ) → slice_get events (suc done) ≡ slice_get (take 2 (drop done events)) 1
 next_two [] done = ap (λ (es : List HostEvent). slice_get (take 2 es) 1) (sym (Rattle.std.proofs.Math.Seq.drop-nil done))
 next_two (e ∷ []) zero = refl
@@ -69,6 +70,7 @@ module _ (events due : List HostEvent) (p2 : ℕ) (done : ℕ) (log : List Stamp
         ∙ same_cycle (now + 1) c.outside k said (nth_same c.done)
         ∙ ap (λ v. afterwards done log (joint_cycle due p2 (now + 1) v)) (sym t)
 
+    -- the cycles of a step by the history are those by the events that were handed in
     pub same_cycles : (cycles : ℕ) → 0 < cycles
         → cycles < 3 → after_cycles cycles now (joint_cycle events p2) (beside o done log) ≡ afterwards done log (passed cycles now p2 due o)
     same_cycles zero some few = absurd (omega (arith, some))

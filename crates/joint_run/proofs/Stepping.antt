@@ -28,6 +28,7 @@ module _ (due : Due) (m : Machine) where
       let b : IsSeen due m (came n.cycles cpu) seen = subst (λ k. IsSeen due m (came k cpu) seen) k s in
       (a, subst (λ c. IsSeen due m (came n.cycles c) seen) h.1 b)
 
+  -- the processor's step and the cycles that pass are the joint step
   pub by_step : (seen : Seen) (new : Machine) (cpu : Cpu) (given : Pins)
       → given ≡ pins_by (keys_in_step due m) m.mcu.p1 m.mcu.p2 (beside m.outside 0 [])
       → IsStep m.image.bytes m.mcu (stepped m.image.bytes given m.mcu) (Ok seen.cycles) cpu

@@ -41,10 +41,12 @@ columns_read xs n byte =
     ∷ sym at9 i ∷ sym at10 i ∷ sym at11 i ∷ [])
     ∙ twelve xs n
 
+-- twelve bytes that are read as these keys are their columns
 pub rows_are : (xs : List ℕ) (keys : List Bool) → length xs ≡ 12 → ((i : ℕ) → get_or xs i 0 < 256) → keys_in xs ≡ keys
     → xs ≡ columns_of keys
 rows_are xs keys n byte e = sym (columns_read xs n byte) ∙ ap columns_of e
 
+-- keys that were read from twelve bytes are read again from their own columns
 pub keys_are : (xs : List ℕ) (keys : List Bool) → length xs ≡ 12 → ((i : ℕ) → get_or xs i 0 < 256) → keys_in xs ≡ keys
     → keys_in (columns_of keys) ≡ keys
 keys_are xs keys n byte e = ap keys_in (sym (rows_are xs keys n byte e)) ∙ e

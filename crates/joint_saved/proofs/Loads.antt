@@ -121,6 +121,7 @@ reads k r a =
     (ap (λ (x : Kept). is_sound x.joint) kept ∙ sound k.joint a.sound)
     ∙ ap (λ (x : Kept). Ok x) kept
 
+-- what is saved of a keyboard is loaded from its bytes
 pub loads : (x : List ℕ) (k : Kept) → x ≡ saved_bytes k → IsRead k.joint → AreKept k → loaded x ≡ Ok k
 loads x k e r a =
     ap loaded e ∙ ap (λ (o : Result (Unit {0}) Unloaded). loaded_by o (saved_bytes k)) (checks k a) ∙ reads k r a

@@ -30,12 +30,14 @@ cpu_of b = processor_in (slice_range b 40 59) (slice_range b 901 1029)
 abbrev link_of : List ℕ → Option (Link Wire)
 link_of b = link_in (slice_range b 101 124)
 
+-- bytes without a right processor mean no machine, and the fault is the processor's
 pub no_processor : (b : List ℕ) → cpu_of b ≡ None → machine_in b ≡ Err U.Processor
 no_processor b e = ap (λ o. with_some o U.Processor (linked b (link_of b))) e
 
 by_processor : (b : List ℕ) (cpu : Cpu) → cpu_of b ≡ Some cpu → machine_in b ≡ linked b (link_of b) cpu
 by_processor b cpu e = ap (λ o. with_some o U.Processor (linked b (link_of b))) e
 
+-- bytes with a right processor and without a right link mean no machine, and the fault is the link's
 pub no_link : (b : List ℕ) (cpu : Cpu) → cpu_of b ≡ Some cpu → link_of b ≡ None → machine_in b ≡ Err U.Link
 no_link b cpu e f = by_processor b cpu e ∙ ap (λ o. linked b o cpu) f
 
@@ -43,11 +45,13 @@ by_both : (b : List ℕ) (cpu : Cpu) (link : Link Wire) → cpu_of b ≡ Some cp
     → machine_in b ≡ judged b cpu link
 by_both b cpu link e f = by_processor b cpu e ∙ ap (λ o. linked b o cpu) f
 
+-- bytes whose processor and link are right, but not the whole state, mean no machine, and the fault is the state's
 pub unsound : (b : List ℕ) (cpu : Cpu) (link : Link Wire) → cpu_of b ≡ Some cpu → link_of b ≡ Some link
     → is_sound (kept_by b cpu link).joint ≡ false → machine_in b ≡ Err U.State
 unsound b cpu link e f g =
     by_both b cpu link e f ∙ ap (λ s. needs s U.State (Ok (kept_by b cpu link))) g
 
+-- bytes whose processor, link and state are right mean that machine
 pub a_machine : (b : List ℕ) (cpu : Cpu) (link : Link Wire) → cpu_of b ≡ Some cpu → link_of b ≡ Some link
     → is_sound (kept_by b cpu link).joint ≡ true → machine_in b ≡ Ok (kept_by b cpu link)
 a_machine b cpu link e f g =
@@ -58,6 +62,7 @@ pub joint_is : (b : List ℕ) (cpu : Cpu) (link : Link Wire) (m : Machine) → c
     → is_sound (kept_by b cpu link).joint ≡ true → m ≡ (kept_by b cpu link).joint → HasMachine b m
 joint_is b cpu link m e f g h = (cpu, link, a_machine b cpu link e f g, h)
 
+-- if bytes mean a machine, no error is returned but that of memory
 pub no_memory : (b : List ℕ) (cpu : Cpu) (link : Link Wire) (r : Result Machine Unloaded) → cpu_of b ≡ Some cpu
     → link_of b ≡ Some link → is_sound (kept_by b cpu link).joint ≡ true → IfErr r (λ fault. fault ≡ U.Memory)
     → IfErr r (HasNoMachine b)

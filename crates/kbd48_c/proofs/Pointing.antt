@@ -29,9 +29,11 @@ module _ (E : box.Bx) where
   beside p b o h ps hs is at has = λ i. vstruct (of_list ((is ∙ ap (λ (q : Ptr). ptr_val q ∷ []) at) i ++ (has i ++ [])))
 
   module _ {M : Type 1} {𝓤 : Ura M} {𝓛 : Logic 𝓤} {K : Type 0} {Γ : List (Item 𝓤)} {G : Goal 𝓤 𝓛.H} where
+    -- what a box owns is what its pointer owns
     pub to_pointer : K
         → (b : box.D E) (vs : List Val) → Step K 𝓛 (‵ (Pointing.own_val (pointed b) vs) ∷ Γ) G (‵ ((box.B E).own_val b vs) ∷ Γ) G
     to_pointer t b vs = step (λ s. use1 𝓛 (‵ (Pointing.own_val (pointed b) vs)) (id⊢ 𝓤 _) $ s)
 
+    -- what a box's pointer owns is what the box owns
     pub to_box : K → (b : box.D E) (vs : List Val) → Step K 𝓛 (‵ ((box.B E).own_val b vs) ∷ Γ) G (‵ (Pointing.own_val (pointed b) vs) ∷ Γ) G
     to_box t b vs = step (λ s. use1 𝓛 (‵ ((box.B E).own_val b vs)) (id⊢ 𝓤 _) $ s)

@@ -5,6 +5,7 @@ use Rattle.std.proofs.lemmas.Int.{to_z-of_z}
 use Rattle.live_board.specs.declared.parts.Parts.{Parts as Keyboard}
 use Rattle.kbd48_c.specs.Exports.{Through}
 
+-- a call through a handle does to its keyboard what the call does, and returns its status
 pub through_call : (does : Keyboard → ℤ → Keyboard → Type 0) (old new : Option Keyboard) (status : ℤ) (k taken after : Keyboard)
     → SFits w32 status
     → k ≡ taken → Some taken ≡ old → new ≡ Some after → does k status after → Through does old (to_z w32 (of_z w32 status)) new

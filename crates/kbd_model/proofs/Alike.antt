@@ -31,6 +31,7 @@ module _ (f g : ℕ → Bool) where
     pressed_in = if edge.1 then Rattle.std.specs.Prelude.slice_set l.pressed_in edge.0 l.fn_down else l.pressed_in;
   }) h
 
+  -- edges are in the same layers, if at their own places the Fn key is the same
   pub layered_same : (edges : List (ℕ × Bool)) (l : Layers) → All (λ (c : ℕ × Bool). f c.0 ≡ g c.0) edges
       → layered f edges l ≡ layered g edges l
   layered_same [] l h = refl
@@ -38,6 +39,7 @@ module _ (f g : ℕ → Bool) where
       ap (λ v. in_layer l c ∷ layered f cs v) (after_same c l (h 0 c (omega arith)))
       ∙ ap (λ v. in_layer l c ∷ v) (layered_same cs (layers_after g c l) (λ k d m. h (suc k) d (omega (arith, m))))
 
+  -- the layers after edges are the same, if at their own places the Fn key is the same
   pub layers_same : (edges : List (ℕ × Bool)) (l : Layers) → All (λ (c : ℕ × Bool). f c.0 ≡ g c.0) edges
       → all_layers_after f edges l ≡ all_layers_after g edges l
   layers_same [] l h = refl

@@ -29,12 +29,15 @@ entered : (code : List ℕ) (q : KeyQueue) (b : Bool) → (q.overrun || nat_lt 1
 entered code q true e c h = rw e h
 entered code q false e c h = rw e (joined q.break_started q.bytes code h c)
 
+-- a whole code that enters the queue leaves its codes whole
 pub entered_whole : (code : List ℕ) (q : KeyQueue) → whole false code ≡ true → IsWhole q → IsWhole (enter code q)
 entered_whole code q c h = entered code q (q.overrun || nat_lt 16 (length q.bytes + length code)) refl c h
 
+-- a make that isn't F0 is a whole code
 pub make_whole : (c : ℕ) → (c == 240) ≡ false → whole false (c ∷ []) ≡ true
 make_whole c e = ap (λ s. whole s []) e
 
+-- F0 and a make that isn't F0 are a whole code
 pub release_whole : (c : ℕ) → (c == 240) ≡ false → whole false (240 ∷ c ∷ []) ≡ true
 release_whole c e = ap (λ b. not b && true) e
 
@@ -54,6 +57,7 @@ dropped (b ∷ rest) true q e g h =
     by true h = sym h
     by false h = refl
 
+-- the queue's codes stay whole, or begun, after its first byte goes
 pub dropped_whole : (q : KeyQueue) → IsWhole q → IsWhole (drop_first q)
 dropped_whole q h = dropped q.bytes q.break_started q refl refl h
 
@@ -62,6 +66,7 @@ cleared false bytes h = refl
 cleared true [] h = h
 cleared true (b ∷ rest) h = rw (and_left (not (b == 240)) (whole false rest) h) refl
 
+-- the queue's codes stay whole, or begun, after it is cleared
 pub cleared_whole : (q : KeyQueue) → IsWhole q → IsWhole (clear q)
 cleared_whole q h = cleared q.break_started q.bytes h
 
@@ -70,6 +75,7 @@ two : (rest : List ℕ) → whole true rest ≡ true → 0 < length rest
 two [] h = absurd cc
 two (b ∷ rest) h = omega arith
 
+-- after F0 at the front of whole codes there is the code that it breaks
 pub code_after : (b : ℕ) (rest : List ℕ) → (b == 240) ≡ true → whole false (b ∷ rest) ≡ true → 1 < length (b ∷ rest)
 code_after b rest e h = let l : 0 < length rest = two rest (ap (λ s. whole s rest) (sym e) ∙ h) in omega (arith, l)
 
@@ -82,5 +88,6 @@ from_whole (Enters code ∷ more) q c h =
 from_whole (Drops ∷ more) q c h = from_whole more (drop_first q) c (dropped_whole q h)
 from_whole (Clears ∷ more) q c h = from_whole more (clear q) c (cleared_whole q h)
 
+-- whatever whole codes enter, go or are cleared, the queue's codes are whole, or the first is begun
 pub stays_whole : (steps : List QueueStep) → enters_codes steps ≡ true → IsWhole (after steps empty)
 stays_whole steps c = from_whole steps empty c refl

@@ -59,6 +59,7 @@ module _ (keys : Keys) where
     obeys WantRate k = param k (record k { rate = byte }) (same k.repeats)
     obeys WantLights k = param k (record k { lights = byte % 8 }) (same k.repeats)
 
+  -- after a meeting nothing repeats that didn't before
   pub meets : (m : Meeting) (k : Keyboard) → Keeping k (met m keys k)
   meets Sent k = sends (offer k) k
   meets (Got byte true) k = obeys byte k.mode k

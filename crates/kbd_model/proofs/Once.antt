@@ -26,6 +26,7 @@ offered_is (Some r) aa q = refl
 offered_is None true q = refl
 offered_is None false q = first_is q.bytes q.overrun
 
+-- the keyboard offers the first byte that waits
 pub offers_first : (k : Keyboard) → offer k ≡ slice_get (waiting k) 0
 offers_first k = offered_is k.reply k.aa_due k.queue
 
@@ -45,6 +46,7 @@ went_by keys k (Some r) aa byte er ea h n = let e : r.byte ≡ byte = cc in rw (
 went_by keys k None true byte er ea h n = let e : 0xaa ≡ byte = cc in rw (ea, er, e) refl
 went_by keys k None false byte er ea h n = rw (ea, er) (dropped_is k.queue.bytes k.queue.overrun k.queue byte refl refl h)
 
+-- a byte that is sent, unless it is a reset's reply, leaves just the others waiting
 pub sent_leaves : (keys : Keys) (k : Keyboard) (byte : ℕ) → offer k ≡ Some byte → is_reset_due k.reply ≡ false
     → waiting k ≡ byte ∷ waiting (met Sent keys k)
 sent_leaves keys k byte h n =
@@ -61,6 +63,7 @@ reset_by keys k (Some r) e h =
     ∙ ap (λ v. waiting (without_offered v keys k')) e
     ∙ ap (λ c. waiting (if c then reset keys k' else record k' { reply = None })) h
 
+-- after the reply to a reset is sent only what the clear left of the queue waits
 pub reset_leaves : (keys : Keys) (k : Keyboard) → is_reset_due k.reply ≡ true
     → waiting (met Sent keys k) ≡ queued (clear k.queue)
 reset_leaves keys k h = reset_by keys k k.reply refl h
@@ -71,6 +74,7 @@ record Keeps (byte : ℕ) (k k' : Keyboard) : Type 0 where
   aa_due : k'.aa_due ≡ k.aa_due
   reply : IsSome k'.reply
 
+-- what holds of both keyboards holds of the one that a test chooses
 pub either : (P : Keyboard → Type 0) (t : Bool) (a b : Keyboard) → (t ≡ true → P a) → (t ≡ false → P b) → P (if t then a else b)
 either P true a b f g = f refl
 either P false a b f g = g refl
@@ -125,6 +129,7 @@ module _ (keys : Keys) (byte : ℕ) where
   obeyed_keeps WantRate k = parameter_keeps k (record k { rate = byte }) refl refl
   obeyed_keeps WantLights k = parameter_keeps k (record k { lights = byte % 8 }) refl refl
 
+-- a byte of the host gets a reply, and leaves AA, and the queue but for the commands that clear it
 pub got_leaves : (keys : Keys) (byte : ℕ) (good : Bool) (k : Keyboard) → GotKeeps keys byte good k
 got_leaves keys byte true k =
     let h = obeyed_keeps keys byte k.mode k in

@@ -37,6 +37,7 @@ ordered (Enters code ∷ more) q c =
     ∙ ap (λ b. b ++ all_let_in more (enter code q)) (entered code q)
     ∙ ordered more (enter code q) c
 
+-- as long as nothing clears the queue, its bytes leave it in the order in which they were let in
 pub in_order : (steps : List QueueStep) → clears steps ≡ false → all_let_in steps empty ≡ all_sent steps empty ++ (after steps empty).bytes
 in_order steps c = ordered steps empty c
 
@@ -66,5 +67,6 @@ bounded (Enters code ∷ more) q h =
 bounded (Drops ∷ more) q h = bounded more (drop_first q) (drop_sixteen q.bytes q refl h)
 bounded (Clears ∷ more) q h = bounded more (clear q) (clear_sixteen q.break_started q.bytes)
 
+-- the queue never has more than sixteen bytes
 pub at_most_sixteen : (steps : List QueueStep) → length (after steps empty).bytes ≤ 16
 at_most_sixteen steps = bounded steps empty (omega arith)

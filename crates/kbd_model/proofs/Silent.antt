@@ -9,6 +9,7 @@ some_unless : (b : Bool) → not b ≡ false → b ≡ true
 some_unless true h = refl
 some_unless false h = absurd cc
 
+-- each place of a layout that isn't the Fn key's has a code in both layers
 pub has_code : (layout : KeyLayout) (place : ℕ) → IsSilentAtFn layout → HasEntry layout place → is_fn_place layout place ≡ false
     → HasCode layout place
 has_code layout place h has other = some_unless (is_some (code_at place layout)) (h.base place has ∙ other)

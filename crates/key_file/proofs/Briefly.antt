@@ -45,6 +45,7 @@ from_end-more n m xs e some next =
           ap (λ b. if b then slice_get (xs ++ e ∷ []) (length (xs ++ e ∷ []) - m) else None) few
     ] refl
 
+-- with one edge more the last four edges end with it
 pub latest-push : (xs : List Edge) (e : Edge)
     → latest_of (xs ++ e ∷ []) ≡ from_end 3 xs ∷ from_end 2 xs ∷ from_end 1 xs ∷ Some e ∷ []
 latest-push xs e =
@@ -60,6 +61,7 @@ none_at zero place = refl
 none_at (suc n) zero = refl
 none_at (suc n) (suc place) = none_at n place
 
+-- the four that were kept, moved by one, are the last four with the new edge
 pub latest_shifted : (xs : List Edge) (latest : List (Option Edge)) (e : Edge) → latest ≡ latest_of xs
     → get_or latest 1 None ∷ get_or latest 2 None ∷ get_or latest 3 None ∷ Some e ∷ [] ≡ latest_of (xs ++ e ∷ [])
 latest_shifted xs latest e h =

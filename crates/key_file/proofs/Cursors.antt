@@ -112,6 +112,7 @@ given_from layout number before (line ∷ more) history h =
     given_by layout number before line more history (λ after g. given_from layout (number + 1) after more history g)
     (said_by layout (fields line)) refl h
 
+-- to place a fault in its line leaves a history as it is
 pub unplaced : (r : Result KeyHistory (Fault Rule)) (history : KeyHistory) → with_fault_placed r ≡ Ok history → r ≡ Ok history
 unplaced (Ok h) history is = let same : h ≡ history = cc is in ap (λ x. Ok x) same
 unplaced (Err fault) history is = absurd cc
@@ -129,6 +130,7 @@ pub record IsFirstLeft {X : Type 0} (xs : List X) (n : ℕ) (x : X) (more : List
   pub others : more ≡ drop (n + 1) xs
   pub within : n < length xs
 
+-- the first of what is left of a list is the list's element at that place
 pub first_left : {X : Type 0} (xs : List X) (n : ℕ) (x : X) (more : List X) → x ∷ more ≡ drop n xs → IsFirstLeft xs n x more
 first_left [] zero x more h = absurd cc
 first_left [] (suc n) x more h = absurd cc

@@ -85,6 +85,7 @@ earlier from later (EdgeOf e ∷ more) end h order = (omega (arith, order.0), or
 earlier from later (HostOf e ∷ more) end h order = (omega (arith, order.0), order.1)
 earlier from later (End stamp ∷ more) end h order = (omega (arith, order.0), order.1, order.2)
 
+-- a text that describes events from a stamp on describes them from an earlier one on
 pub follows-earlier : (layout : KeyLayout) (end from later : ℕ) (edges : List Edge) (host : List HostEvent) (text : List ℕ)
     → from ≤ later → Follows layout end later edges host text → Follows layout end from edges host text
 follows-earlier layout end from later edges host text h follows =

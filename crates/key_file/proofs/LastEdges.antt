@@ -48,6 +48,7 @@ of_place-push place edges e h =
     let same : (e.place == place) ≡ true = grind (arith, nat_tests, h) in
     filter-append (λ f. f.place == place) edges (e ∷ []) ∙ rw same refl
 
+-- an edge at another place isn't among those of a place
 pub of_place-other : (place : ℕ) (edges : List Edge) (e : Edge)
     → (e.place ≡ place → ⊥) → of_place place (edges ++ e ∷ []) ≡ of_place place edges
 of_place-other place edges e h =
@@ -71,6 +72,7 @@ last-push last edges e k place h is inside =
           ∙ h ∙ sym (ap (last_or None) (of_place-other place edges e other))
     ] refl
 
+-- edges of the matrix with one more of the matrix are of the matrix
 pub places-push : (edges : List Edge) (e : Edge) → ArePlaces edges → e.place < 96 → ArePlaces (edges ++ e ∷ [])
 places-push [] e places within = (within, tt)
 places-push (x ∷ xs) e places within = (places.0, places-push xs e places.1 within)

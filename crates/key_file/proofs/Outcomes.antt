@@ -36,6 +36,7 @@ pub record HasCome (layout : KeyLayout) (text : List ℕ) (number : ℕ) (rest :
   pub number_in_range : number + length rest ≤ 1 + length text
   pub sound : IsSound layout before
 
+-- before the first line nothing is read, and the whole text is left
 pub come-first : (layout : KeyLayout) (text : List ℕ) (brief : Kept) → IsBriefOf at_first brief → HasCome layout text 1 text brief
 unfolding history_of
 come-first layout text brief kept = record {
@@ -49,6 +50,7 @@ come-first layout text brief kept = record {
 module _ (layout : KeyLayout) (text : List ℕ) (number : ℕ) (rest after line : List ℕ)
     (brief : Kept) (h : HasCome layout text number rest brief)
     (first : lines rest ≡ line ∷ lines after) where
+  -- after a line that is taken the reading goes on with the next
   pub come-next : (later : Kept)
       → suc (length after) ≤ length rest → IsBriefAfter layout h.before line later → HasCome layout text (number + 1) after later
   come-next later shorter taken = record {
@@ -60,6 +62,7 @@ module _ (layout : KeyLayout) (text : List ℕ) (number : ℕ) (rest after line 
     sound = sound-line layout h.before taken.after line h.sound taken.taken;
   }
 
+  -- a line with a fault is the text's first fault
   pub come-fault : (rule : Rule) → take_line layout h.before line ≡ Err rule → history_of layout text ≡ Err (placed_fault number rule)
   come-fault rule refused =
       h.meaning ∙ ap (judged layout number h.before) first ∙ judged-refused layout number h.before line (lines after) rule refused

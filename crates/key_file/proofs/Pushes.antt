@@ -18,6 +18,7 @@ in_order-push [] y order all = tt
 in_order-push (x ∷ []) y order all = (all 0 x (omega arith), tt)
 in_order-push (x ∷ z ∷ zs) y order all = (order.0, in_order-push (z ∷ zs) y order.1 (all_tail (λ e. e.stamp ≤ y.stamp) x (z ∷ zs) all))
 
+-- events in order with one more that isn't earlier are in order
 pub host_in_order-push : (xs : List HostEvent) (y : HostEvent)
     → AreHostEventsInOrder xs → All (λ e. e.stamp ≤ y.stamp) xs → AreHostEventsInOrder (xs ++ y ∷ [])
 host_in_order-push [] y order all = tt

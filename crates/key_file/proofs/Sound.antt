@@ -40,6 +40,7 @@ pub record IsSound (layout : KeyLayout) (before : Before) : Type 0 where
   pub ends : EndsAt before.stamp before.end
   pub places : All (λ edge. IsPlaceOf layout edge.place) before.edges
 
+-- before the first line the events, of which there are none, are lawful
 pub sound-first : (layout : KeyLayout) → IsSound layout at_first
 sound-first layout = record {
   edges_in_order = tt;
@@ -75,6 +76,7 @@ dwell-push before e place dwells fits true h =
 dwell-push before e place dwells fits false h =
     rw (of_place-other place before.edges e (λ same. grind (arith, nat_tests, h, same))) dwells
 
+-- with an edge that breaks no rule and is of the layout the events stay lawful
 pub sound-edge : (layout : KeyLayout) (before : Before) (e : Edge)
     → IsSound layout before → Fits (brief_of before) (EdgeOf e) → IsPlaceOf layout e.place → IsSound layout (with_event before (EdgeOf e))
 sound-edge layout before e sound fits place =
@@ -98,6 +100,7 @@ sound-edge layout before e sound fits place =
       places = All-push (λ edge. IsPlaceOf layout edge.place) before.edges e sound.places place;
     }
 
+-- with an event of the host that breaks no rule the events stay lawful
 pub sound-host : (layout : KeyLayout) (before : Before) (e : HostEvent) → IsSound layout before
     → WritesByte e.act × FlipsDataOrParity e.act → Fits (brief_of before) (HostOf e) → IsSound layout (with_event before (HostOf e))
 sound-host layout before e sound fit fits =
@@ -120,6 +123,7 @@ sound-host layout before e sound fit fits =
       places = sound.places;
     }
 
+-- with an end that breaks no rule the events stay lawful
 pub sound-end : (layout : KeyLayout) (before : Before) (stamp : ℕ)
     → IsSound layout before → Fits (brief_of before) (End stamp) → IsSound layout (with_event before (End stamp))
 sound-end layout before stamp sound fits =

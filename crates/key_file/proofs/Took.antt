@@ -17,6 +17,7 @@ take_to_end [] (suc n) h = refl
 take_to_end (y ∷ ys) zero h = absurd cc
 take_to_end (y ∷ ys) (suc n) h = ap (λ v. y ∷ v) (take_to_end ys n h)
 
+-- an element that was found at a place shows that the list goes so far
 pub was_there : {X : Type 0} (xs : List X) (n : ℕ) (x : X) → Some x ≡ slice_get xs n → n < length xs
 was_there [] n x h = absurd cc
 was_there (y ∷ ys) zero x h = omega arith

@@ -51,6 +51,7 @@ pub record Fits (before : Brief) (event : Event) : Type 0 where
   pub few : is_too_many before event ≡ false
   pub key : first_broken (key_judgements before event) ≡ None
 
+-- an event of which no rule is broken comes in order, in range, before the end, and not too often
 pub fits : (before : Brief) (event : Event) → first_broken (judgements before event) ≡ None → Fits before event
 fits before event h =
     let last = judge TooMany (is_too_many before event) ∷ [] in
@@ -76,6 +77,8 @@ pub record EdgeFits (before : Brief) (e : Edge) : Type 0 where
   pub dwell : (x : Edge) → before.last e.place ≡ Some x → x.stamp + 2240 ≤ e.stamp
   pub thin : (x : Edge) → fourth_back before ≡ Some x → x.stamp + 2240 ≤ e.stamp
 
+-- an edge of which no rule is broken turns its key, 2,240 cycles or more after the key's last and after the fourth
+-- before it
 pub edge_fits : (before : Brief) (e : Edge) → first_broken (edge_judgements before e) ≡ None → EdgeFits before e
 edge_fits before e h =
     let dwell = soon_after Dwell (before.last e.place) e in

@@ -122,6 +122,7 @@ stroke-own layout c (Plain key) is found = owned layout (enters base c) key is f
 stroke-own layout c (Shifted shift key) is found =
     (owned layout is_shift_entry shift is found.of_shift, owned layout (enters shifted c) key is found.of_key)
 
+-- the keys of a text's strokes are found in the layout by their names
 pub strokes-own : (layout : KeyLayout) (text : List ℕ) (strokes : List Stroke)
     → IsKeyLayout layout → AreStrokes layout.entries text strokes → AllOwn layout strokes
 strokes-own layout [] [] is are = tt

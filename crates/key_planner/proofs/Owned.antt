@@ -44,6 +44,7 @@ pub record IsOwn (layout : KeyLayout) (e : Entry) : Type 0 where
   pub key : e.key < 84
   pub place : place_named layout (name_at e.key) ≡ Some e.place
 
+-- an entry that a search finds in a layout is found by its key's name
 pub owned : (layout : KeyLayout) (p : Entry → Bool) (e : Entry) → IsKeyLayout layout → Found p layout.entries e → IsOwn layout e
 unfolding place_of
 owned layout p e is found = record {

@@ -30,6 +30,7 @@ visible-of (c ∷ cs) h =
     let first = both.0 in
     All-cons (λ c. 32 < c) c cs (grind (arith, nat_tests, first)) (visible-of cs both.1)
 
+-- a text that the test finds to be a word is one
 pub word-by : (text : List ℕ) → is_word text ≡ true → IsWord text
 word-by text h =
     let both = and_parts (nat_lt 0 (length text)) (list_all (λ c. nat_lt 32 c) text) h in
@@ -41,9 +42,11 @@ names-plain : (k : ℕ) → k < 84 → is_word (name_at k) ≡ true
 unfolding keys
 names-plain = at_each (λ k. is_word (name_at k)) 84 refl
 
+-- a key's name is a word
 pub name-word : (k : ℕ) → k < 84 → IsWord (name_at k)
 name-word k h = word-by (name_at k) (names-plain k h)
 
+-- a number in decimal digits is a word
 pub decimal-word : (n : ℕ) → n < 2 ^ 64 → IsWord (decimal n)
 decimal-word n h =
     record {
@@ -72,9 +75,11 @@ fields-more : (a rest : List ℕ) → IsWord a → fields (a ++ 32 ∷ rest) ≡
 unfolding fields
 fields-more a rest h = ap (filter is_field) (slice_split_at is_blank a 32 rest (solid a h) refl) ∙ field a (slice_split is_blank rest) h
 
+-- two words with a space between them are a line's two fields
 pub fields-two : (a b : List ℕ) → IsWord a → IsWord b → fields (a ++ 32 ∷ b) ≡ a ∷ b ∷ []
 fields-two a b h k = fields-more a b h ∙ ap (λ more. a ∷ more) (fields-one b k)
 
+-- three words with single spaces between them are a line's three fields
 pub fields-three : (a b c : List ℕ) → IsWord a → IsWord b → IsWord c → fields ((a ++ 32 ∷ b) ++ 32 ∷ c) ≡ a ∷ b ∷ c ∷ []
 fields-three a b c h k l =
     ap fields (append_assoc a (32 ∷ b) (32 ∷ c)) ∙ fields-more a (b ++ 32 ∷ c) h ∙ ap (λ more. a ∷ more) (fields-two b c k l)
@@ -84,9 +89,11 @@ pub record IsLine (line : List ℕ) : Type 0 where
   pub some : 0 < length line
   pub inside : All (λ c. 31 < c) line
 
+-- a word alone is a line
 pub line-word : (a : List ℕ) → IsWord a → IsLine a
 line-word a h = record { some = h.some; inside = All-weaker (λ c. 32 < c) (λ c. 31 < c) (λ c l. omega arith) a h.visible }
 
+-- a line, a space and a word are a line
 pub line-more : (a b : List ℕ) → IsLine a → IsWord b → IsLine (a ++ 32 ∷ b)
 line-more a b h k =
     record {

@@ -17,9 +17,11 @@ word_text stamp word = decimal stamp ++ 32 ∷ word
 abbrev pub key_text : ℕ → List ℕ → List ℕ → List ℕ
 key_text stamp word name = word_text stamp word ++ 32 ∷ name
 
+-- a stamp and a word are a line
 pub word-line : (stamp : ℕ) (word : List ℕ) → stamp < 1000000000 → IsWord word → IsLine (word_text stamp word)
 word-line stamp word h k = line-more (decimal stamp) word (line-word (decimal stamp) (decimal-word stamp (omega arith))) k
 
+-- a stamp, a word and a name are a line
 pub key-line : (stamp : ℕ) (word name : List ℕ) → stamp < 1000000000 → IsWord word → IsWord name → IsLine (key_text stamp word name)
 key-line stamp word name h k l = line-more (word_text stamp word) name (word-line stamp word h k) l
 
@@ -40,6 +42,7 @@ key-said layout stamp word name h k l =
     said layout stamp (key_text stamp word name) (word ∷ name ∷ []) h
     (fields-three (decimal stamp) word name (decimal-word stamp (omega arith)) k l)
 
+-- a line of a stamp and a word says the event of that word at the stamp
 pub word-said : (layout : KeyLayout) (stamp : ℕ) (word : List ℕ) → stamp < 1000000000 → IsWord word
     → said_by layout (fields (word_text stamp word)) ≡ and_then (event_in layout (decimal stamp ∷ word ∷ [])) (λ event. Ok (Some event))
 word-said layout stamp word h k =
@@ -52,6 +55,7 @@ pub press-said : (layout : KeyLayout) (stamp : ℕ) (name : List ℕ) → stamp 
 press-said layout stamp name h k =
     key-said layout stamp (codes "press") name h (word-by (codes "press") refl) k ∙ rw (stamp-back stamp h) refl
 
+-- a line `release` says that the key of its name goes up at the stamp
 pub release-said : (layout : KeyLayout) (stamp : ℕ) (name : List ℕ) → stamp < 1000000000 → IsWord name
     → said_by layout (fields (key_text stamp (codes "release") name))
     ≡ and_then (edge_of layout stamp false (name ∷ [])) (λ event. Ok (Some event))

@@ -49,11 +49,13 @@ module _ (layout : KeyLayout) (text : List ℕ) (playable : StrokesArePlayable) 
           says = subst (λ history. Says text (quiet_log layout history)) (sym back) (say layout text strokes sound few are);
         }
 
+  -- the plan of a text types the text
   pub plan-types : (plan : List ℕ) → text_plan layout text ≡ Some plan → Types layout text plan
   plan-types plan is =
       let of = is_of layout text plan (strokes_of layout text) refl is in
       subst (Types layout text) of.plan_is (types of.strokes of.strokes_are)
 
+  -- the plan of a text, read as a key file, is the history of its strokes
   pub plan-history : (plan : List ℕ)
       → text_plan layout text ≡ Some plan → option_map planned (strokes_of layout text) ≡ Some (history_in layout plan)
   plan-history plan is =

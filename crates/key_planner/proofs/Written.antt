@@ -13,6 +13,7 @@ pub record IsSoFar (layout : KeyLayout) (text : List ℕ) (number : ℕ) (plan :
   pub plan_is : text_plan layout text ≡ option_map (λ strokes. plan ++ lines_from number strokes) (strokes_of layout (drop number text))
   pub keys_are : first_without layout text ≡ without_from layout (suc number) (drop number text)
 
+-- before the first byte of a text its plan has no line yet
 pub so_far-first : (layout : KeyLayout) (text : List ℕ) → IsSoFar layout text 0 []
 unfolding plan_of
 so_far-first layout text = record { plan_is = refl; keys_are = refl }
@@ -42,6 +43,7 @@ module _ (layout : KeyLayout) (text : List ℕ) (number : ℕ) (plan : List ℕ)
       onward stroke (Some strokes) =
           ap Some (sym (append_assoc plan (stroke_lines (stroke_start number) stroke) (lines_from (suc number) strokes)))
 
+  -- after the next byte the plan has the lines of its stroke too
   pub so_far-next : (stroke : Stroke) → number < length text → stroke_of layout (character (get_or text number 0)) ≡ Some stroke
       → IsSoFar layout text (number + 1) (plan ++ stroke_lines (stroke_start number) stroke)
   so_far-next stroke within is =

@@ -122,6 +122,7 @@ module _ (edges : List Edge) (few : (from : ℕ) → length (moving edges from) 
       let four : length (moving edges 0) ≤ 4 = few 0 in
       omega (arith, most, four)
 
+  -- each tick shows few changes
   pub shows_few : (n : ℕ) → ShowsFew edges n
   shows_few zero = λ now is. let soon : now ≤ 2048 * 0 + 1 = is.most in first now (omega (arith, soon))
   shows_few (suc n) = λ before now was is.
@@ -131,9 +132,11 @@ module _ (edges : List Edge) (few : (from : ℕ) → length (moving edges from) 
       let d : now ≤ 2048 * suc n + 1 = is.most in
       later before now (2048 * n + 16) (omega (arith, b, c)) (omega (arith, a)) (omega (arith, d))
 
+-- if in each window at most four places have edges, each tick shows few changes, however many edges each place has
 pub bounces_show_few : BouncesShowFew
 bounces_show_few edges few n = shows_few edges few n
 
+-- under such bounces the run goes on as the model does, by what the columns show
 pub bounces_go_on : BouncesGoOn
 bounces_go_on layout edges events fine ok few m small =
     as_shown layout edges events fine ok (λ n. shows_few edges few n) m small

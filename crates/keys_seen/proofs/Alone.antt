@@ -165,6 +165,7 @@ module _ (debounce : Bool) (starts : ℕ → ℕ) (cadence : KeepsCadence starts
               ∙ skip (is_seen starts n) e es (elsewhere e n (λ is. omega (arith, is, l)) (is_seen starts n e) refl);
         }
 
+    -- of edges that each have their time a tick sees one at most, in their order
     pub each_alone : (from ready : ℕ) (es : List Edge) → ArePlaces es → AreSpaced debounce ready es
         → 2048 * from ≤ ready + 1850 → Left from es → AreTakenFrom (tick_edges starts all) from es
     each_alone from ready [] placed spaced low left = λ n l. sees_none n (left n l)
@@ -178,6 +179,7 @@ module _ (debounce : Bool) (starts : ℕ → ℕ) (cadence : KeepsCadence starts
     abbrev pub IsApart : ℕ → Type 0
     IsApart n = (tick_edges starts all n ≡ []) ⊎ (tick_edges starts all (suc n) ≡ [])
 
+    -- with a debounce, of two ticks in a row one sees nothing
     pub none_beside : (two : (down : Bool) → ticks_of debounce down ≡ 2) (from ready : ℕ) (es : List Edge) → ArePlaces es
         → AreSpaced debounce ready es → 2048 * from ≤ ready + 1850 → Left from es → (n : ℕ) → from ≤ n → IsApart n
     none_beside two from ready [] placed spaced low left n l = inl (sees_none n (left n l))

@@ -135,14 +135,17 @@ module _ (layout : KeyLayout) (edges : List Edge) (host : List HostEvent) (start
       (λ p l. change_same p (is_down_at s.settled p) (long_before n p) (next_of n s p) (before n p) (h.agreed p l) (next_is n s h p l))
       96 (omega arith)
 
+  -- with a debounce the first tick takes nothing
   pub takes_none : taken_in layout edges host starts 0 ≡ []
   takes_none = takes 0 ∙ no_change 96
 
+  -- with a debounce each tick takes what the tick before it saw
   pub takes_later : (n : ℕ) → taken_in layout edges host starts (suc n) ≡ sees n
   takes_later n = takes (suc n) ∙ sym (same n)
 
 -- what is taken so in ticks is taken so in the same ticks, or each a tick later
 module _ (f g : ℕ → List (ℕ × Bool)) where
+  -- if each tick takes what it sees, the edges are taken as they are seen
   pub as_seen : ((n : ℕ) → f n ≡ g n) → (from : ℕ) (es : List Edge) → AreTakenFrom g from es → AreTakenFrom f from es
   as_seen same from [] h = λ n l. same n ∙ h n l
   as_seen same from (e ∷ es) h = (
@@ -155,6 +158,7 @@ module _ (f g : ℕ → List (ℕ × Bool)) where
     as_seen same (suc h.0.tick) es h.1,
   )
 
+  -- if each tick takes what the one before saw, the edges are taken a tick later
   pub later : ((n : ℕ) → f (suc n) ≡ g n) → (from : ℕ) (es : List Edge) → AreTakenFrom g from es → AreTakenFrom f (suc from) es
   later same from [] h = none
     where
@@ -177,6 +181,7 @@ module _ (f g : ℕ → List (ℕ × Bool)) where
 
 -- and from the tick before on, if that takes nothing
 module _ (f : ℕ → List (ℕ × Bool)) where
+  -- if a tick takes nothing, the edges that are taken from the next one on are taken from it on
   pub sooner : (from : ℕ) (es : List Edge) → f from ≡ [] → AreTakenFrom f (suc from) es → AreTakenFrom f from es
   sooner from [] none h = λ n l. by n l (nat_lt from n) refl
     where
@@ -216,6 +221,7 @@ module _ (layout : KeyLayout) (host : List HostEvent) (starts : ℕ → ℕ) (ca
         none_beside layout.debounce starts cadence edges (λ down. ap (λ b. ticks_of b down) on) 0 0 edges lawful.1.in_matrix
         lawful.0 (omega arith) (λ m l. refl) n (omega arith)
 
+    -- with a debounce each tick takes what the tick before it saw of the edges of a queue
     pub each_later : (n : ℕ) → taken_in layout edges host starts (suc n) ≡ tick_edges starts edges n
     each_later n =
         takes_later layout edges host starts cadence on (λ p l. lawful.1.alternate p) (λ p l. lawful.1.dwell p) apart n
@@ -224,6 +230,7 @@ module _ (layout : KeyLayout) (host : List HostEvent) (starts : ℕ → ℕ) (ca
     none_first =
         takes_none layout edges host starts cadence on (λ p l. lawful.1.alternate p) (λ p l. lawful.1.dwell p) apart
 
+  -- with a debounce or without, the edges of a queue are taken one a tick, in their order
   pub in_turn : (b : Bool) → layout.debounce ≡ b → AreTakenFrom (taken_in layout edges host starts) 0 edges
   in_turn true on =
       sooner (taken_in layout edges host starts) 0 edges (none_first on)
@@ -233,9 +240,11 @@ module _ (layout : KeyLayout) (host : List HostEvent) (starts : ℕ → ℕ) (ca
       (λ n. ap (λ b. taken b (tick_edges starts edges n) (whole_at (keyboard layout) edges host starts n).keys.switches) off) 0
       edges seen
 
+-- with a debounce each tick takes what the tick before it saw
 pub one_later : AreTakenOneLater
 one_later layout host starts on cadence calls placed n = each_later layout host starts cadence calls placed on n
 
+-- the keyboard takes the edges of a queue one a tick, in their order, and has time to send each
 pub taken_in_turn : AreTakenInTurn
 taken_in_turn layout host starts cadence calls placed =
     in_turn layout host starts cadence calls placed layout.debounce refl

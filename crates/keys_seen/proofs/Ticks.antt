@@ -38,6 +38,7 @@ few_ticks true down = omega arith
 few_ticks false true = omega arith
 few_ticks false false = omega arith
 
+-- each edge takes a tick or more
 pub some_ticks : (debounce down : Bool) → 1 ≤ ticks_of debounce down
 some_ticks true down = omega arith
 some_ticks false true = omega arith
@@ -53,6 +54,7 @@ seen_by starts n e cadence l h =
     let most = (cadence n).most in
     omega (arith, at, most, l)
 
+-- an edge that a tick sees came 2,031 cycles before the tick's multiple of 2,048 at the earliest
 pub seen_past : (starts : ℕ → ℕ) (n : ℕ) (e : Edge) → KeepsCadence starts → is_seen starts n e ≡ true → 2048 * n ≤ e.stamp + 2031
 seen_past starts zero e cadence h = omega arith
 seen_past starts (suc k) e cadence h =
@@ -83,6 +85,7 @@ module _ (debounce : Bool) (starts : ℕ → ℕ) (cadence : KeepsCadence starts
     in_turn (e.stamp + time_of debounce e.down) (f ∷ es) placed.1 spaced.1,
   )
 
+-- the edges of a queue are seen in ticks of their own, in their order
 pub seen_in_turn : AreSeenInTurn
 seen_in_turn debounce starts cadence calls placed =
     let lawful = are_lawful debounce calls 0 placed in

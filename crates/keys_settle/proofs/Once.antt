@@ -275,6 +275,7 @@ module _ (layout : KeyLayout) (keys contacts : List Edge) (host : List HostEvent
         (next_like layout host (4096 + starts n) (starts (suc n) - starts n - 609) (es n) (tick_edges starts seen n) (V n)
         (whole_at (keyboard (undebounced layout)) seen host starts n) (same_edges n) (like n))
 
+    -- what keyboards with a debounce go through is what one without does under clean keys, each edge a little later
     pub typed : TypesAs layout keys host starts V
     typed = record { seen = seen; later = λ p l. (facts_of p l).later; like = like }
 
@@ -290,10 +291,12 @@ module _ (layout : KeyLayout) (keys contacts : List Edge) (host : List HostEvent
       ∙ ap (λ b. last_change (tick_edges starts contacts n) p b) (read p l)
       ∙ readings starts cadence contacts sw.in_order n p l
 
+  -- so it is of the keyboard under the contacts
   pub once : TypesOnce layout keys contacts host starts
   once =
       let t = typed W (tick_edges starts contacts) refl (λ n. refl) reading_of in
       record { seen = t.seen; later = t.later; like = t.like }
 
+-- with a debounce a keyboard whose switches settle late types as one without under clean keys, a little later
 pub types_once : SwitchesTypeOnce
 types_once layout keys contacts host starts on cadence sw = once layout keys contacts host starts on cadence sw

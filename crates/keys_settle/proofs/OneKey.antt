@@ -454,6 +454,7 @@ module _ (r : ℕ → ℕ) (near : (n : ℕ) → (r n + 2043 ≤ r (suc n)) × (
             ∙ ap (λ c. if c then not w else w) not_turned
             ∙ sym (stays_to w m (suc n) (omega (arith, l)) s b (λ i low high. quiet i low (omega (arith, high, up)))).0
 
+  -- each edge of a key is taken at one of the five readings after it, and at no other
   pub walk : (w : Bool) (es : List Edge) (m : ℕ) → Alternates w es → AreApart es → Shows w es m → Reaches m es
       → settled m ≡ w → was m ≡ w → Taken w es m
   walk w [] m alternate far shows reach s b = record {

@@ -59,6 +59,7 @@ later_at p [] (f ∷ fs) later at = absurd later
 later_at p (e ∷ es) [] later at = absurd later
 later_at p (e ∷ es) (f ∷ fs) later at = (later.0.place ∙ at.0, later_at p es fs later.1 at.1)
 
+-- those of a place's edges that pass a test are of that place
 pub filter_at : (p : ℕ) (q : Edge → Bool) (es : List Edge) → AreAt p es → AreAt p (filter q es)
 filter_at p q [] at = tt
 filter_at p q (e ∷ es) at = by (q e) (filter_at p q es at.1)
@@ -85,6 +86,7 @@ last_at p q (e ∷ es) before at =
     pick true = refl
     pick false = refl
 
+-- after the edges of each place, place by place, a key is as its own last edge says
 pub last_of_each : (p : ℕ) (f : ℕ → List Edge) → ((q : ℕ) → AreAt q (f q)) → (before : Bool) (k : ℕ)
     → last_change (map change_of (by_place f k)) p before ≡ (if nat_lt p k then last_of before (f p) else before)
 last_of_each p f at before zero =

@@ -68,6 +68,7 @@ module _ (starts : ℕ → ℕ) (cadence : KeepsCadence starts) where
   ends_at p zero e f l h = refl
   ends_at p (suc m) e f l h = grind (arith, nat_tests, l, h)
 
+  -- after the edges of a tick each key is as its column shows, however it bounces
   pub readings : (edges : List Edge) → ((place : ℕ) → AreInOrder (of_place place edges)) → (n p : ℕ) → p < 96
       → last_change (tick_edges starts edges n) p (downs_before starts edges n p) ≡ downs_in starts edges n p
   readings edges order n p l =

@@ -39,6 +39,7 @@ at : {was x y z : Bool} (turn : ℕ) → 1 ≤ turn → turn ≤ 4 → after0 wa
 at turn least most a b c d e =
     record { turn = turn; least = least; most = most; at0 = a; at1 = b; at2 = c; at3 = d; at4 = e }
 
+-- whatever the first three readings show, a key turns once, after the first of them, and has turned by the fifth
 pub row : (was x y z : Bool) → Row was x y z
 row true true true true = at 4 (omega arith) (omega arith) refl refl refl refl refl
 row true true true false = at 3 (omega arith) (omega arith) refl refl refl refl refl

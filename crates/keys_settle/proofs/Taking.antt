@@ -240,6 +240,7 @@ module _ (layout : KeyLayout) (keys seen : List Edge) (host : List HostEvent) (s
         ∙ ap (map change_of) (are_first (now n) (now n) (λ e h. h) (ends_now n) own order)
         ∙ same_changes count (of_place place keys) own later
 
+    -- what is taken of a key up to a tick are its first edges, each once and in their order
     pub once : TakesOnce layout keys seen host starts place n
     once = record {
       count = count;
@@ -262,6 +263,7 @@ module _ (layout : KeyLayout) (keys seen : List Edge) (host : List HostEvent) (s
           (of_place place keys) own later;
     }
 
+-- each edge of a key that settles late is taken once, in its order
 pub taken_once : EdgesAreTakenOnce
 taken_once layout keys seen host starts place n cadence l far later =
     once layout keys seen host starts place cadence l far later n

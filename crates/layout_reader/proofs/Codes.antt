@@ -45,6 +45,7 @@ pub record AreCodes (layout : KeyLayout) (place : ℕ) : Type 0 where
   pub under_fn : unwrap_or (fn_code_at place layout) 0 < 133
   pub under_fn_none : (unwrap_or (fn_code_at place layout) 0 == 0) ≡ is_none (fn_code_at place layout)
 
+-- in each layer a place of a layout has a code below 133, or 00 exactly if it sends nothing
 pub are_codes : (layout : KeyLayout) (place : ℕ) → IsKeyLayout layout → AreCodes layout place
 unfolding code_at fn_code_at
 are_codes layout place is =
@@ -63,6 +64,7 @@ fn_among (e ∷ es) each =
     at true more own = own.place
     at false more own = more
 
+-- the place of a layout's Fn key is in the matrix
 pub fn_place_within : (layout : KeyLayout) → IsKeyLayout layout → IfSome (fn_place layout) (λ p. p < 96)
 unfolding fn_place
 fn_place_within layout is = fn_among layout.entries is.entries.each

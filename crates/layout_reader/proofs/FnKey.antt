@@ -85,6 +85,7 @@ same_in (e ∷ es) p each = at (e.place == p) (same_in es p (λ k d l. each (suc
         silent_of e.fn_sends ∙ own.both ∙ sym (silent_of e.sends)
     at false more = more
 
+-- the Fn key's place is the one place of a layout that has no code
 pub is_silent_at_fn : (layout : KeyLayout) → IsKeyLayout layout → IsSilentAtFn layout
 unfolding code_at fn_code_at fn_place
 is_silent_at_fn layout is = record {

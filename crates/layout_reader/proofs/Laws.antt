@@ -23,6 +23,7 @@ pub key_range : (name : List ℕ) (key : ℕ) → key_with_name name ≡ Some ke
 key_range name key h =
     let found = position-Some (λ (k : Row). bytes_eq k.name name) keys key (row [] 0 0) h in omega (arith, found.0, key_count)
 
+-- two numbers are equal in either order
 pub eqb-swap : (a b : ℕ) → eqb a b ≡ eqb b a
 eqb-swap a b = grind (arith, nat_tests)
 
@@ -65,6 +66,7 @@ AreEntries-push entries entry before sound place key one = record {
   one_fn = fn_one entries entry before.one_fn one;
 }
 
+-- a layout without entries has none that breaks a rule
 pub AreEntries-nil : AreEntries []
 unfolding IsDistinct
 AreEntries-nil = record { each = All-nil IsEntry; own_places = tt; own_keys = tt; one_fn = omega arith }

@@ -12,6 +12,7 @@ use Rattle.layout_reader.specs.TopLevel.{is_empty}
 abbrev pub is_other : Level → String Global → Bool
 is_other level name = not (is_field level (string_bytes name))
 
+-- a table has a field of another name exactly if its map has one
 pub other_names : (level : Level) (es : List (String Global × Value))
     → list_any (is_other level) (map (λ e. e.0) es) ≡ has_other_field level (members_view es)
 other_names level [] = refl

@@ -40,6 +40,7 @@ pub document_refused : (bytes : List ℕ) → (IsUtf8 bytes → parse_document b
 unfolding layout_of_document
 document_refused bytes refused = rw (tree_refused bytes refused) refl
 
+-- a result that isn't an error is a success
 pub ok_unless_err : {T E : Type 0} (r : Result T E) → is_err r ≡ false → is_ok r ≡ true
 ok_unless_err (Ok x) h = refl
 ok_unless_err (Err e) h = absurd cc

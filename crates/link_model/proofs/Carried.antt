@@ -49,11 +49,13 @@ module _ (events : List HostEvent) where
   unfolding byte_cycle goes_on
   cycle_request now m byte e = settled_request now (port_by (turn_of events now m) m.port) byte e
 
+  -- in quiet cycles a byte for the keyboard stays under way
   pub quiet_handing : (n now : ℕ) (m : Side UnderWay) → m.port.link ≡ Busy for_keyboard
       → (quietly events n now m).port.link ≡ Busy for_keyboard
   quiet_handing zero now m e = e
   quiet_handing (suc n) now m e = quiet_handing n (suc now) (byte_cycle events now Quiet m) (cycle_handing now m e)
 
+  -- in quiet cycles a byte that is requested stays so
   pub quiet_request : (n now : ℕ) (m : Side UnderWay) (byte : ℕ) → m.port.link ≡ Request byte
       → (quietly events n now m).port.link ≡ Request byte
   quiet_request zero now m byte e = e
@@ -91,6 +93,7 @@ module _ (events : List HostEvent) where
       goes 31 k to (288 + now) Closes b m2 m3 m4 ek et a e3 e4
       ∙ ap (λ v. quietly events 31 v (byte_cycle events (288 + now) Closes b)) z
 
+  -- what comes over the link, and then the rest of its cycle, is the cycle
   pub ends_by : (j now to : ℕ) (event : Event) (m m1 m2 m3 : Side UnderWay) → j ≡ 1 → to ≡ 320 + now → m1 ≡ m
       → m2 ≡ with_event to event m1 → m3 ≡ quietly events j to m2 → m3 ≡ byte_cycle events (320 + now) event m
   ends_by j now to event m m1 m2 m3 ej et e1 e2 e3 = goes 0 j to (320 + now) event m m1 m2 m3 ej et e1 e2 e3
@@ -135,6 +138,7 @@ module _ (events : List HostEvent) (tested : Bool) (offer : Option ℕ) (start r
         hb ∙ ap (λ v. meeting_by tested offer v later) le
         ∙ ap (λ v. meeting_by tested offer s.port.link v) (ll ∙ ap (λ (v : Side UnderWay). v.port.link) at_meeting)
 
+    -- the meeting that the parts of a tick give is the tick's
     pub meets_so : m ≡ ended_as events begins b s1
         → m ≡ ended_as events (meeting_in tested offer s (to_meeting events start s)) (288 + start)
         (to_meeting events start s)
@@ -143,6 +147,7 @@ module _ (events : List HostEvent) (tested : Bool) (offer : Option ℕ) (start r
         ∙ ap (λ v. ended_as events (meeting_in tested offer s (to_meeting events start s)) v s1) eb
         ∙ ap (λ v. ended_as events (meeting_in tested offer s (to_meeting events start s)) (288 + start) v) at_meeting
 
+    -- the side that the parts of a tick give is the one at the tick's end
     pub comes_so : s2 ≡ carried events begins b s1 → s3 ≡ quietly events k c s2
         → s3 ≡ from_meeting events start rest (meeting_in tested offer s (to_meeting events start s))
         (to_meeting events start s)

@@ -16,6 +16,7 @@ abbrev pub AreAt : ℕ → List Edge → Type 0
 AreAt p [] = Unit {0}
 AreAt p (e ∷ es) = (e.place ≡ p) × AreAt p es
 
+-- the edges of a place are at that place
 pub are_at : (p : ℕ) (edges : List Edge) → AreAt p (of_place p edges)
 are_at p [] = tt
 are_at p (e ∷ es) =
@@ -24,6 +25,7 @@ are_at p (e ∷ es) =
       | false ↦ λ h. subst (λ v. AreAt p v) (sym (skip (λ (x : Edge). x.place == p) e es h)) (are_at p es)
     ] refl
 
+-- tests that say the same of every edge of a place leave the same edges of it
 pub filter_same : (p : ℕ) (q r : Edge → Bool) → ((e : Edge) → e.place ≡ p → q e ≡ r e) → (es : List Edge) → AreAt p es
     → filter q es ≡ filter r es
 filter_same p q r h [] at = refl
@@ -65,6 +67,7 @@ module _ (pa pb : Edge → Bool) (sub : (e : Edge) → pb e ≡ false → pa e �
   tail_dwells e [] d = tt
   tail_dwells e (f ∷ fs) d = d.1
 
+  -- the edge of a place in the window, of which there is one at most, is the change that the column shows
   pub one : (p : ℕ) (before : Bool) (es : List Edge) → AreAt p es → Alternates before es → Dwells es
       → map change_of (filter win es) ≡ change_at p (last_of before (filter pa es)) (last_of before (filter pb es))
   one p before [] at alt d = stays_so p before
@@ -108,6 +111,7 @@ pub map_by_place : {X Y : Type 0} (h : X → Y) (f : ℕ → List X) (k : ℕ) �
 map_by_place h f zero = refl
 map_by_place h f (suc k) = map-append h (by_place f k) (f k) ∙ ap (λ v. v ++ map h (f k)) (map_by_place h f k)
 
+-- functions that say the same of each of the 96 places give the same list by place
 pub same_by_place : {X : Type 0} (f g : ℕ → List X) → ((p : ℕ) → p < 96 → f p ≡ g p) → (k : ℕ) → k ≤ 96 → by_place f k ≡ by_place g k
 same_by_place f g h zero l = refl
 same_by_place f g h (suc k) l =
@@ -120,6 +124,7 @@ least_so p (suc n) up h =
     let g : p n ≡ false = up n (omega arith) h in
     ap (λ c. not c && none_before p n) g ∙ least_so p n (λ j l. up j (omega (arith, l))) g
 
+-- if a property stays once it holds, none of the numbers up to n has it exactly if n hasn't
 pub least_or : (p : ℕ → Bool) (n : ℕ) → ((j : ℕ) → j < n → p (suc j) ≡ false → p j ≡ false) → none_before p (suc n) ≡ not (p n)
 least_or p n up =
     elim (p n) as (λ c. p n ≡ c → none_before p (suc n) ≡ not (p n)) [
@@ -157,6 +162,7 @@ change_rises k true false = (omega arith, tt)
 change_rises k false true = (omega arith, tt)
 change_rises k false false = tt
 
+-- the changes that the columns show are by rising place, and below the end
 pub shown_rises : (held now : ℕ → Bool) (k : ℕ) → (RisesFrom 0 (by_place (shown_at held now) k))
     × (AreBelow k (by_place (shown_at held now) k))
 shown_rises held now zero = (tt, tt)

@@ -96,6 +96,7 @@ module _ (q : Edge → Bool) where
   if_less true d = omega arith
   if_less false d = omega arith
 
+  -- what passes a test of the edges of each place is no more than what passes it of all
   pub no_longer : (edges : List Edge) (k : ℕ) → length (parted edges k) ≤ length (filter q edges)
   no_longer [] k = let h = nothing_parted k in omega (arith, h)
   no_longer (e ∷ es) k =
@@ -139,6 +140,7 @@ module _ (q : Edge → Bool) where
         let n = late es e r.1.1.1 ps.1.1.1 (omega (arith, l, t)) in
         omega (arith, x, y, z, n)
 
+    -- at most four edges come within less than 2,240 cycles
     pub four : (edges : List Edge) → AreInOrder edges → IsThin edges → ArePlaces edges → length (filter q edges) ≤ 4
     four [] r t ps = omega arith
     four (e ∷ es) r t ps =
@@ -172,12 +174,14 @@ module _ (starts : ℕ → ℕ) (last : ℕ) (cadence : KeepsCadenceTo starts la
   abbrev pub read_now : ℕ → ℕ → Edge → Bool
   read_now p n e = nat_le e.stamp (read_at starts p n)
 
+  -- a tick sees an edge exactly if its read finds it and the one before didn't
   pub seen_so : (n : ℕ) → n ≤ last → (e : Edge) → is_seen starts n e ≡ (read_now e.place n e && not (read_before e.place n e))
   seen_so zero b e = refl
   seen_so (suc m) b e =
       ap (λ c. read_now e.place (suc m) e && c)
       (least_or (λ j. nat_le e.stamp (read_at starts e.place j)) m (λ j l h. in_time e.stamp e.place j (omega (arith, b, l)) h))
 
+  -- the last edge that was read before a tick says whether a key was down
   pub downs_so : (edges : List Edge) (n p : ℕ) → last_of false (filter (read_before p n) (of_place p edges)) ≡ downs_before starts edges n p
   downs_so edges zero p = nothing (of_place p edges)
   downs_so edges (suc m) p = refl
@@ -245,6 +249,7 @@ module _ (starts : ℕ → ℕ) (last : ℕ) (cadence : KeepsCadenceTo starts la
       map_by_place change_of each 96
       ∙ same_by_place (λ p. map change_of (each p)) (shown_at held now) at_place 96 (omega arith)
 
+  -- the columns of each tick show the tick's edges, of a lawful history under the cadence
   pub shows : (history : KeyHistory) (n : ℕ) → n ≤ last → IsLawful history → Shows starts history.edges n
   shows history n b ok =
       let edges : List Edge = history.edges in
@@ -261,5 +266,6 @@ module _ (starts : ℕ → ℕ) (last : ℕ) (cadence : KeepsCadenceTo starts la
             (shown_rises (downs_before starts edges n) (downs_in starts edges n) 96).0;
       }
 
+-- the columns of each tick show the tick's edges: at most four, of different places
 pub edges_are_shown : EdgesShown
 edges_are_shown starts history n ok cadence = shows starts n cadence history n (omega arith) ok

@@ -18,6 +18,7 @@ module _ (P : Edge → Type 0) where
   by_places f h zero = All-nil P
   by_places f h (suc k) = All-append P (by_place f k) (f k) (by_places f h k) (h k)
 
+-- what is so of the places of all edges is so of the places of a tick's edges
 pub tick_edges_known : (Q : ℕ → Type 0) (starts : ℕ → ℕ) (edges : List Edge) (n : ℕ) → All (λ (e : Edge). Q e.place) edges
     → All (λ (c : ℕ × Bool). Q c.0) (tick_edges starts edges n)
 tick_edges_known Q starts edges n h =

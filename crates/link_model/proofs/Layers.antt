@@ -17,6 +17,7 @@ module _ (is_fn : ℕ → Bool) where
   after-append [] ys l = refl
   after-append (x ∷ xs) ys l = after-append xs ys (layers_after is_fn x l)
 
+  -- one edge more is put in its layer after those before it
   pub layered-more : (xs : List (ℕ × Bool)) (x : ℕ × Bool) (l : Layers)
       → layered is_fn (xs ++ x ∷ []) l ≡ layered is_fn xs l ++ in_layer (all_layers_after is_fn xs l) x ∷ []
   layered-more [] x l = refl
@@ -28,6 +29,7 @@ module _ (is_fn : ℕ → Bool) where
   more edges i edge within is =
       rw (add-one, take-suc edges i edge within) refl ∙ ap (λ e. take i edges ++ e ∷ []) (sym is)
 
+  -- one edge more of the list changes the layers as the definition says
   pub next_layers : (edges : List (ℕ × Bool)) (i : ℕ) (edge : ℕ × Bool) (l now then : Layers) → i < length edges
       → edge ≡ get_or edges i edge → now ≡ all_layers_after is_fn (take i edges) l → then ≡ layers_after is_fn edge now
       → then ≡ all_layers_after is_fn (take (i + 1) edges) l
@@ -35,6 +37,7 @@ module _ (is_fn : ℕ → Bool) where
       next ∙ ap (layers_after is_fn edge) so_far ∙ sym (after-append (take i edges) (edge ∷ []) l)
       ∙ ap (λ es. all_layers_after is_fn es l) (sym (more edges i edge within is))
 
+  -- one edge more of the list is put in its layer as the definition says
   pub next_edge : (edges : List (ℕ × Bool)) (i : ℕ) (edge : ℕ × Bool) (l now : Layers) (done all : List TickEdge) → i < length edges
       → edge ≡ get_or edges i edge → now ≡ all_layers_after is_fn (take i edges) l → done ≡ layered is_fn (take i edges) l
       → all ≡ done ++ in_layer now edge ∷ [] → all ≡ layered is_fn (take (i + 1) edges) l

@@ -68,6 +68,7 @@ abbrev pub last_change : List (ℕ × Bool) → ℕ → Bool → Bool
 last_change [] p before = before
 last_change (c ∷ cs) p before = last_change cs p (if c.0 == p then c.1 else before)
 
+-- the last change at a place in joined lists is that of the second list, or else of the first
 pub last_more : (xs ys : List (ℕ × Bool)) (p : ℕ) (before : Bool) → last_change (xs ++ ys) p before ≡ last_change ys p (last_change xs p before)
 last_more [] ys p before = refl
 last_more (x ∷ xs) ys p before = last_more xs ys p (if x.0 == p then x.1 else before)
@@ -108,6 +109,7 @@ held_by held now p (suc k) =
           all ∙ other_place k p (held k) (now k) (if nat_lt p k then now p else held p) h ∙ ap (λ c. if c then now p else held p) t
     ] refl
 
+-- after the changes that the columns show a key is as it is shown now
 pub held_is_now : (held now : ℕ → Bool) (p : ℕ) → p < 96 → last_change (shown held now) p (held p) ≡ now p
 held_is_now held now p l = let t : nat_lt p 96 ≡ true = grind (arith, nat_tests, l) in held_by held now p 96
     ∙ ap (λ c. if c then now p else held p) t

@@ -13,6 +13,7 @@ use Rattle.byte_time.specs.ByteTime.{is_open}
 use Rattle.link_model.specs.KeptSide.{side_of}
 use Rattle.link_model.proofs.Stretch.{count_is}
 
+-- what the program does in a cycle, with its count of events and its log, is the cycle of the definition
 pub cycle_ends : (events : List HostEvent) (now : ℕ) (m : Side UnderWay) (d d' : Desk UnderWay) (n n' : ℕ) (l l' : List Stamped)
     (o : Option HostEvent) (b : Bool) (items : List Item)
     → side_of d n l ≡ m → o ≡ slice_get events m.done → d' ≡ (cycled is_open now o d).desk → b ≡ (cycled is_open now o d).done

@@ -38,6 +38,7 @@ module _ (events : List HostEvent) (from : ℕ) (s : Side UnderWay) where
   unfolding byte_cycle
   cycle_is now m = refl
 
+  -- one cycle more leads on as quiet cycles do
   pub run_once : (now to : ℕ) (m m' : Side UnderWay) → from ≤ now → to ≡ now + 1 → m ≡ quietly events (now - from) from s
       → m' ≡ goes_on is_open events now m → m' ≡ quietly events (to - from) from s
   run_once now to m m' l t r e =
@@ -56,6 +57,7 @@ no_more : (now : ℕ) (d : Desk UnderWay) (o : Option HostEvent) → o ≡ None 
 no_more now d None e = refl
 no_more now d (Some v) e = absurd cc
 
+-- the count of events goes up by one exactly if the cycle did an event
 pub count_is : (events : List HostEvent) (now n : ℕ) (d : Desk UnderWay) (b : Bool) → b ≡ (cycled is_open now (slice_get events n) d).done
     → (if b && nat_lt n (length events) then n + 1 else n) ≡ (if (cycled is_open now (slice_get events n) d).done then n + 1 else n)
 count_is events now n d b h =

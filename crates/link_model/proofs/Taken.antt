@@ -24,6 +24,7 @@ turned_at keys at p down l false h =
     let apart : p ≢ at = grind (arith, nat_tests, h) in
     get_or-set_other keys at p down false apart ∙ ap (λ b. if b then down else is_down_at keys p) (sym h)
 
+-- edges change which keys are down, and not how many keys there are
 pub turned_long : (edges : List (ℕ × Bool)) (keys : List Bool) → length (turned_all edges keys) ≡ length keys
 turned_long [] keys = refl
 turned_long (e ∷ es) keys = turned_long es (turned e.0 e.1 keys) ∙ length-set keys e.0 e.1
@@ -51,6 +52,7 @@ more : (edges : List (ℕ × Bool)) (i : ℕ) (edge : ℕ × Bool) → i < lengt
     → take (i + 1) edges ≡ take i edges ++ edge ∷ []
 more edges i edge within is = rw (add-one, take-suc edges i edge within) refl ∙ ap (λ e. take i edges ++ e ∷ []) (sym is)
 
+-- one more edge of the list turns the keys as the definition says
 pub next_turned : (edges : List (ℕ × Bool)) (i : ℕ) (edge : ℕ × Bool) (keys now after : List Bool) → i < length edges
     → edge ≡ get_or edges i edge → now ≡ turned_all (take i edges) keys → after ≡ turned edge.0 edge.1 now
     → after ≡ turned_all (take (i + 1) edges) keys
@@ -58,6 +60,7 @@ next_turned edges i edge keys now after within is so_far next =
     next ∙ ap (turned edge.0 edge.1) so_far ∙ sym (turned_append (take i edges) (edge ∷ []) keys)
     ∙ ap (λ es. turned_all es keys) (sym (more edges i edge within is))
 
+-- one more edge of the list is copied after those that are
 pub next_copied : (edges : List (ℕ × Bool)) (i : ℕ) (edge : ℕ × Bool) (done all : List (ℕ × Bool)) → i < length edges
     → edge ≡ get_or edges i edge → done ≡ take i edges → all ≡ done ++ edge ∷ [] → all ≡ take (i + 1) edges
 next_copied edges i edge done all within is so_far next =
@@ -68,6 +71,7 @@ pub record AreWide (s : Switches) : Type 0 where
   pub read : length s.read ≡ 96
   pub settled : length s.settled ≡ 96
 
+-- after a reading the switches still have a place for each key
 pub switched_wide : (debounce : Bool) (edges : List (ℕ × Bool)) (s : Switches) → AreWide s → AreWide (switched debounce edges s)
 switched_wide debounce edges s w = record {
   read = turned_long edges s.read ∙ w.read;
@@ -109,6 +113,7 @@ fewer_to a b c d h (suc k) l =
     let one = change_count k (a k) (b k) (c k) (d k) (h k (omega (arith, l))) in
     omega (arith, x, y, less, one)
 
+-- if one reading differs only where another one does, it shows no more changes
 pub shown_fewer : (a b c d : ℕ → Bool) → ((p : ℕ) → p < 96 → differ (a p) (b p) ≡ true → differ (c p) (d p) ≡ true)
     → length (shown a b) ≤ length (shown c d)
 shown_fewer a b c d h = fewer_to a b c d h 96 (omega arith)
@@ -149,6 +154,7 @@ module _ (Q : ℕ → Type 0) (a b : ℕ → Bool) (was : (p : ℕ) → p < 96 �
       All-append At (by_place (shown_at a b) k) (change_at k (a k) (b k)) (upto k (omega (arith, l)))
       (changed k (a k) (b k) (was k (omega (arith, l))) (is k (omega (arith, l))))
 
+  -- changes are shown only at places of which it is so for what is down before or after
   pub shown_known : All At (shown a b)
   shown_known = upto 96 (omega arith)
 
@@ -173,6 +179,7 @@ turned_known Q (e ∷ es) keys h was p l is =
         let apart : q ≢ e.0 = grind (arith, nat_tests, g) in
         was q m (sym (get_or-set_other keys e.0 q e.1 false apart) ∙ down)
 
+-- the edges that the keyboard takes are of the layout's keys, if those of its reading are
 pub taken_known : (layout : KeyLayout) (debounce : Bool) (edges : List (ℕ × Bool)) (s : Switches)
     → All (λ (c : ℕ × Bool). HasEntry layout c.0) edges → AreKnown layout s
     → All (λ (c : ℕ × Bool). HasEntry layout c.0) (taken debounce edges s)
@@ -184,6 +191,7 @@ taken_known layout true edges s h known =
     (λ p l is. settles_down (is_down_at s.settled p) (is_down_at s.read p) (now p) (HasEntry layout p) is (known p l).1
     (turned_known (HasEntry layout) edges s.read h (λ q m. (known q m).0) p l))
 
+-- after a reading no key is down that the layout doesn't have, if the reading's edges are of its keys
 pub switched_known : (layout : KeyLayout) (debounce : Bool) (edges : List (ℕ × Bool)) (s : Switches)
     → All (λ (c : ℕ × Bool). HasEntry layout c.0) edges → AreKnown layout s → AreKnown layout (switched debounce edges s)
 switched_known layout debounce edges s h known p l = (

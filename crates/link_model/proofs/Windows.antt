@@ -33,6 +33,7 @@ tail_order : (e : Edge) (es : List Edge) → AreInOrder (e ∷ es) → AreInOrde
 tail_order e [] h = tt
 tail_order e (f ∷ fs) h = h.1
 
+-- of edges in order a later one has no earlier stamp
 pub in_order : (es : List Edge) → AreInOrder es → (i j : ℕ) (d : Edge) → i ≤ j → j < length es
     → (get_or es i d).stamp ≤ (get_or es j d).stamp
 in_order [] h i j d l m = absurd (omega (arith, m))
@@ -42,6 +43,7 @@ in_order (e ∷ es) h (suc i) (suc j) d l m = in_order es (tail_order e es h) i 
 
 -- what is seen of a place, among edges none of which is seen
 module _ (q : Edge → Bool) (p : ℕ) where
+  -- if no edge of a place is seen, none is among those seen of it
   pub nothing_seen : (es : List Edge)
       → ((k : ℕ) (d : Edge) → k < length es → (get_or es k d).place ≡ p → q (get_or es k d) ≡ false) → filter q (of_place p es) ≡ []
   nothing_seen [] h = refl
@@ -55,6 +57,7 @@ module _ (q : Edge → Bool) (p : ℕ) where
         | false ↦ λ g. ap (λ v. filter q v) (skip (λ (x : Edge). x.place == p) e es g) ∙ rest
       ] refl
 
+  -- what is seen of two lists is what is seen of the one and then of the other
   pub seen_apart : (xs ys : List Edge) → filter q (of_place p (xs ++ ys)) ≡ filter q (of_place p xs) ++ filter q (of_place p ys)
   seen_apart xs ys =
       ap (λ v. filter q v) (filter-append (λ (e : Edge). e.place == p) xs ys) ∙ filter-append q (of_place p xs) (of_place p ys)
@@ -81,6 +84,7 @@ module _ (before : Option ℕ) (now : ℕ) (es : List Edge) (lo hi : ℕ) (le : 
           let b : now + 16 + 16 * (place / 8) < stamp = omega (arith, a, l) in
           grind (arith, nat_tests, b)
 
+  -- the edges of a window have all those that the tick sees
   pub window_has : HasSeen before now (take (hi - lo) (drop lo es)) es
   window_has p l =
       let q : Edge → Bool = sees before now in
@@ -112,6 +116,7 @@ module _ (q : Edge → Bool) (p : ℕ) where
   one_of e true = two e (q e)
   one_of e false = refl
 
+  -- one edge more of a place is seen if it is at the place and seen
   pub seen_next : (es : List Edge) (i : ℕ) (e : Edge) (s0 before after : List (ℕ × Bool)) → i < length es → e ≡ get_or es i e
       → before ≡ s0 ++ map change_of (filter q (of_place p (take i es)))
       → after ≡ before ++ (if (e.place == p) && q e then change_of e ∷ [] else [])
@@ -133,6 +138,7 @@ pub sees_so : (starts : ℕ → ℕ) (n : ℕ) → KeepsCadenceTo starts n → (
 sees_so starts zero cadence e = seen_so starts 0 cadence 0 (omega arith) e
 sees_so starts (suc n) cadence e = seen_so starts (suc n) cadence (suc n) (omega arith) e
 
+-- some of the edges give a tick's edges, if they have all those that the tick sees
 pub tick_edges_so : (starts : ℕ → ℕ) (n : ℕ) (edges some : List Edge) → KeepsCadenceTo starts n
     → HasSeen (start_before starts n) (starts n) some edges
     → map change_of (by_place (λ p. filter (sees (start_before starts n) (starts n)) (of_place p some)) 96) ≡ tick_edges starts edges n

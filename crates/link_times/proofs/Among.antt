@@ -67,6 +67,7 @@ layered_at is_fn (x ∷ xs) edge layers (suc k) l e =
           (record { place = edge.0; down = edge.1; on_fn = r.0 }) (layered is_fn xs (layers_after is_fn x layers)) r.1,
     )
 
+-- without a debounce an edge of the history that a tick sees is among the edges that the tick takes
 pub edge_among : (layout : KeyLayout) (history : KeyHistory) (starts : ℕ → ℕ) (n : ℕ) (edge : Edge)
     → layout.debounce ≡ false → Contains history.edges edge → edge.place < 96 → is_seen starts n edge ≡ true
     → (on_fn : Bool)

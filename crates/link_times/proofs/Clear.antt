@@ -104,6 +104,7 @@ moved_clear now c p h = record {
       h.unflipped;
 }
 
+-- a cycle keeps that no input waits and no flip is pending or under way
 pub next_clear : (now : ℕ) (masked : Bool) (p : LinkEnd UnderWay) → IsClear p → IsClear (next_port now masked p)
 next_clear now masked p h =
     subst IsClear (sym (next_is now masked p h.input)) (moved_clear now (reads now masked p) p h)
@@ -142,6 +143,7 @@ arrived_plain now byte (Busy u) p e =
     subst (λ o. plain (received now (arriving o byte) p) ≡ received now (arriving o byte) (plain p)) (sym e)
     (comes_plain now byte p)
 
+-- what comes over the link depends on the output buffer, the command byte and the break mark alone
 pub happened_plain : (now : ℕ) (e : Event) (p : LinkEnd UnderWay) → IsClear p
     → plain (happened_at now e p) ≡ happened_at now e (plain p)
 happened_plain now Quiet p h = refl
@@ -169,6 +171,7 @@ arrived_clear now byte (Request asked) p e h = h
 arrived_clear now byte (Busy u) p e h =
     subst (λ o. IsClear (received now (arriving o byte) p)) (sym e) (comes_clear now byte p h)
 
+-- what comes over the link keeps that no input waits and no flip is pending or under way
 pub happened_clear : (now : ℕ) (e : Event) (p : LinkEnd UnderWay) → IsClear p → IsClear (happened_at now e p)
 happened_clear now Quiet p h = h
 happened_clear now (Begins true) p h = record { input = h.input; flip = refl; unflipped = h.flip }

@@ -60,6 +60,7 @@ IsUnflipped (Ask byte since) = Unit {0}
 IsUnflipped (Request byte) = Unit {0}
 IsUnflipped (Busy u) = u.flip ≡ None
 
+-- a byte that took no flip has none after it can't be broken off any more
 pub closed_unflipped : (l : Link UnderWay) → IsUnflipped l → IsUnflipped (closed l)
 closed_unflipped Free e = e
 closed_unflipped (Hold since) e = e
@@ -208,6 +209,7 @@ none_asked : (byte since : ℕ) (b : Bool) → IsUnflipped (if b then Request by
 none_asked byte since true = tt
 none_asked byte since false = tt
 
+-- the link by itself puts no flip into a byte under way
 pub stays_unflipped : (now : ℕ) (stop awaits : Bool) (l : Link UnderWay) → IsUnflipped l → IsUnflipped (link_after now stop awaits l)
 stays_unflipped now stop true Free u = tt
 stays_unflipped now true false Free u = tt

@@ -18,6 +18,7 @@ abbrev pub entered : List (List ℕ) → KeyQueue → KeyQueue
 entered [] q = q
 entered (code ∷ codes) q = entered codes (enter code q)
 
+-- to enter the codes of two lists, one list after the other, is to enter both joined
 pub entered_more : (xs ys : List (List ℕ)) (q : KeyQueue) → entered (xs ++ ys) q ≡ entered ys (entered xs q)
 entered_more [] ys q = refl
 entered_more (x ∷ xs) ys q = entered_more xs ys (enter x q)

@@ -132,6 +132,7 @@ module _ (events : List HostEvent) where
       let q : LinkEnd UnderWay = port_by (turn_of events now (record m { port = p })) p in
       ap (λ v. is_busy (settled now v).port.link) (unbroken is_open now q h) ∙ settled_idle now q h
 
+  -- if no byte is under way, none is after quiet cycles
   pub idle_span : (n now : ℕ) (m : Side UnderWay) → is_busy m.port.link ≡ false
       → is_busy (quietly events n now m).port.link ≡ false
   idle_span zero now m h = h

@@ -47,6 +47,7 @@ gone_reply (Some r) keys k e = by r.resets
     by true = refl
     by false = refl
 
+-- after a byte has gone no reply waits
 pub sent_reply : (keys : Keys) (k : Keyboard) (byte : ℕ) → offer k ≡ Some byte → (met kbd.Sent keys k).reply ≡ None
 sent_reply keys k byte o =
     ap (λ v. (sent_byte v keys k).reply) o
@@ -74,6 +75,7 @@ module _ (layout : KeyLayout) (history : KeyHistory) (starts : ℕ → ℕ) wher
       ∙ ap (λ v. comes_first v k ++ (left v k ++ more)) m
       ∙ ap (λ c. (if c then queued (clear k.queue) else drop 1 (waiting k)) ++ more) r
 
+  -- if each tick sends what is offered, the byte that waits as number i goes i ticks later
   pub one_byte : (i n byte : ℕ) → ((j : ℕ) → n ≤ j → j ≤ i + n → Sends layout history starts j)
       → (i ≡ 0) ⊎ (is_reset_due (keyboard_at layout history starts n).reply ≡ false)
       → slice_get (waiting (keyboard_at layout history starts n)) i ≡ Some byte
@@ -97,6 +99,7 @@ module _ (layout : KeyLayout) (history : KeyHistory) (starts : ℕ → ℕ) wher
       (inr (ap (λ v. is_reset_due v) none))
       (ap (λ v. slice_get v i) w ∙ get_dropped (waiting k) (after_at layout history starts n) i byte e))
 
+-- if each tick sends what is offered, the byte that waits as number i goes i ticks later
 pub one_byte_a_tick : (layout : KeyLayout) (history : KeyHistory) (starts : ℕ → ℕ) (n i byte : ℕ)
     → ((j : ℕ) → n ≤ j → j ≤ i + n → Sends layout history starts j)
     → (i ≡ 0) ⊎ (is_reset_due (keyboard_at layout history starts n).reply ≡ false)

@@ -29,6 +29,7 @@ gone_queue (Some r) aa keys k e a = by r.resets
 gone_queue None true keys k e a = ap (λ c. if c then k.queue else drop_first k.queue) a
 gone_queue None false keys k e a = ap (λ c. if c then k.queue else drop_first k.queue) a
 
+-- the byte that goes ends what repeats exactly if it is the reply to a reset
 pub gone_repeats : (r : Option Reply) (keys : Keys) (k : Keyboard)
     → (without_offered r keys k).repeats ≡ (if is_reset_due r then None else k.repeats)
 gone_repeats (Some r) keys k = by r.resets
@@ -38,6 +39,7 @@ gone_repeats (Some r) keys k = by r.resets
     by false = refl
 gone_repeats None keys k = refl
 
+-- the byte that goes starts the self-test anew, of 64 ticks, exactly if it is the reply to a reset
 pub gone_test : (r : Option Reply) (keys : Keys) (k : Keyboard)
     → (without_offered r keys k).test ≡ (if is_reset_due r then 64 else k.test)
 gone_test (Some r) keys k = by r.resets
@@ -56,6 +58,7 @@ aa_first true false q more = refl
 aa_first false true q more = refl
 aa_first false false q more = refl
 
+-- AA becomes due exactly if the self-test ends and none was due before
 pub aa_new : (last due : Bool) → ((if last then true else due) && not due) ≡ (last && not due)
 aa_new true true = refl
 aa_new true false = refl
@@ -67,10 +70,12 @@ pub tested_queue : (c : Bool) (k : Keyboard) → (tested_if c k).queue ≡ k.que
 tested_queue true k = refl
 tested_queue false k = refl
 
+-- a tick of the self-test leaves what repeats
 pub tested_repeats : (c : Bool) (k : Keyboard) → (tested_if c k).repeats ≡ k.repeats
 tested_repeats true k = refl
 tested_repeats false k = refl
 
+-- a tick of the self-test leaves the reply
 pub tested_reply : (c : Bool) (k : Keyboard) → (tested_if c k).reply ≡ k.reply
 tested_reply true k = refl
 tested_reply false k = refl
@@ -86,6 +91,7 @@ tested_aa k =
       | false ↦ λ e. refl
     ] refl
 
+-- a tick of the self-test makes its count one less, down to 0
 pub tested_test : (k : Keyboard) → (tested_if (not (k.test == 0)) k).test ≡ k.test - 1
 tested_test k =
     elim (k.test == 0) as (λ c. (k.test == 0) ≡ c → (tested_if (not c) k).test ≡ k.test - 1) [

@@ -129,6 +129,7 @@ module _ (layout : KeyLayout) (history : KeyHistory) (starts : ℕ → ℕ) wher
     by_test false e =
         let l : 0 < (keyboard_at layout history starts n).test = grind (arith, nat_tests, e) in l
 
+    -- a byte that is offered goes, unless one of the named causes holds it
     pub nothing_else : offer (keyboard_at layout history starts n) ≡ Some byte
         → May (meeting_at layout history starts n)
     nothing_else o =
@@ -182,6 +183,7 @@ module _ (layout : KeyLayout) (history : KeyHistory) (starts : ℕ → ℕ) wher
   goes n byte (Sent sent) t h = inl (ap (λ v. Sent v) h)
   goes n byte Cut t h = inr (inl tt)
 
+  -- a byte that was held off for some ticks is offered after them, and goes, is held off, or a byte of the host comes
   pub goes_on_at : (n count byte : ℕ) → (keyboard_at layout history starts n).test ≡ 0
       → offer (keyboard_at layout history starts n) ≡ Some byte
       → ((j : ℕ) → n ≤ j → j < count + n → IsHeldOff (meeting_at layout history starts j))
@@ -196,11 +198,13 @@ module _ (layout : KeyLayout) (history : KeyHistory) (starts : ℕ → ℕ) wher
             (nothing_else (count + n) byte w.offered),
       )
 
+-- a byte that is offered goes, unless the controller holds the clock, has a byte to send, or breaks the frame off
 pub nothing_else_holds : (layout : KeyLayout) (history : KeyHistory) (starts : ℕ → ℕ) (n byte : ℕ)
     → offer (keyboard_at layout history starts n) ≡ Some byte
     → MayMeet layout history starts n byte (meeting_at layout history starts n)
 nothing_else_holds layout history starts n byte o = nothing_else layout history starts n byte o
 
+-- a byte that was held off for some ticks is offered after them too: it goes, is held off, or a byte of the host comes
 pub goes_at_last : (layout : KeyLayout) (history : KeyHistory) (starts : ℕ → ℕ) (n count byte : ℕ)
     → (keyboard_at layout history starts n).test ≡ 0
     → offer (keyboard_at layout history starts n) ≡ Some byte

@@ -177,6 +177,7 @@ module _ (layout : KeyLayout) (history : KeyHistory) (starts : ℕ → ℕ) (n :
       ∙ ap (λ v. first ++ v) (sym (append_assoc waits all more))
       ∙ sym (append_assoc first (waits ++ all) more)
 
+  -- the code of an edge waits after what was there before
   pub comes_after : IsListedAt (length ahead) code (waiting (keyboard_at layout history starts (suc n)))
   comes_after = record { before = ahead; afterwards = rest; is = in_its_place; number = refl }
 
@@ -272,6 +273,7 @@ module _ (layout : KeyLayout) (history : KeyHistory) (starts : ℕ → ℕ) (las
           let lo : 2048 * m ≤ starts m = (cadence m (omega (arith, u, now))).least in
           omega (arith, afterwards, lo, hi, now)
 
+  -- with a host that is quiet from some tick on a key's code is read within the bound
   pub in_time : (n : ℕ) → first ≤ n → n < last → Strikes layout history starts n edge code
       → ComesInTime layout history starts last n edge code
   in_time n f l struck =
@@ -290,6 +292,8 @@ module _ (layout : KeyLayout) (history : KeyHistory) (starts : ℕ → ℕ) (las
             let k = soon_at n place i 5 struck u (cadence (i + place + suc n) u).most in omega (arith, k);
       }
 
+-- with a quiet host a key's code waits in its place, and each of its bytes is read within two ticks and 660 cycles,
+-- with a tick more for each byte before it
 pub keys_come_in_time : (layout : KeyLayout) (history : KeyHistory) (starts : ℕ → ℕ) (last n : ℕ) (edge : Edge)
     (code : List ℕ) → IsHostQuiet history → KeepsCadenceTo starts last → n < last
     → Strikes layout history starts n edge code → ComesInTime layout history starts last n edge code

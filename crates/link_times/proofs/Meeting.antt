@@ -51,11 +51,13 @@ module _ (n before : ℕ) (edge : Edge) (at : edge.stamp ≡ 2048 * n + 17 + 16 
       let c : p (suc n) ≡ true = grind (arith, nat_tests, b) in
       ap (λ v. v && none_before p (suc n)) c ∙ none_to (suc n) (omega arith)
 
+  -- an edge just after its column's read is read just at the bound, if one tick starts five cycles late
   pub met : IsMet n before edge
   met =
       let s : late last last ≡ 2048 * last + 5 = itself last in
       record { starts = late last; cadence = late_near last; seen = seen; read = omega (arith, at, s) }
 
+-- no smaller bound would do: an edge just after its column's read waits that long, if its tick starts late
 pub latency_is_met : (n before : ℕ) (edge : Edge) → edge.stamp ≡ 2048 * n + 17 + 16 * (edge.place / 8)
     → IsMet n before edge
 latency_is_met n before edge at = met n before edge at

@@ -323,6 +323,7 @@ module _ (layout : KeyLayout) (history : KeyHistory) (starts : ℕ → ℕ) (lea
         put = t.put ∙ sym (put_more false xs ys);
       })
 
+-- INT 09h has read what was put out for the bytes that arrived, each once and in order, but for one that is unread
 pub each_is_read_once : EachIsReadOnce
 each_is_read_once layout history starts n leaves = (run_put layout history starts leaves n).put
 
@@ -337,6 +338,7 @@ quiet_leaves Take q = tt
 quiet_leaves Status q = tt
 quiet_leaves (Flip bit) q = absurd q
 
+-- with a quiet host the `port` lines of the log are what was put out for the bytes that arrived
 pub port_lines_are_arrivals : PortLinesAreArrivals
 port_lines_are_arrivals layout history starts n quiet cadence =
     let m : Side UnderWay = (at_tick layout history starts n).side in

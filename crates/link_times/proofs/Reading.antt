@@ -52,6 +52,7 @@ contains_at f (y ∷ ys) x (suc k) l e =
     let b : r.0 < length (map f ys) = r.1 in
     (suc r.0, omega (arith, b), r.2)
 
+-- what a list has, the list of its images has the image of
 pub contains_map : {X Y : Type 0} (f : X → Y) (xs : List X) (x : X) → Contains xs x → Contains (map f xs) (f x)
 contains_map f xs x c = contains_at f xs x c.0 c.1 c.2
 
@@ -211,6 +212,7 @@ module _ (layout : KeyLayout) (history : KeyHistory) (d : ℕ) (quiet : AreQuiet
         ap (λ p. interrupts now p.filled (view at_read.masked p)) read_same.port
         ∙ ap (λ v. interrupts now x.port.filled (view v x.port)) read_same.masked ∙ late
 
+    -- 64 cycles after a byte has arrived INT 09h has read what was put out for it, and the log says so
     pub reads_in : (all more now : ℕ) → 64 + more ≡ all → now ≡ 672 + start
         → Contains (from_meeting host start all (Sent byte) meet).log (record { cycle = now; item = Port code })
     reads_in all more now z y =
@@ -283,6 +285,7 @@ module _ (layout : KeyLayout) (history : KeyHistory) (d : ℕ) (quiet : AreQuiet
         (record { tick = k; item = Port code })) t
         (contains_map f (at_tick layout history starts last).side.log s c)
 
+    -- in the tick in which a byte arrives INT 09h reads what is put out for it
     pub read_in : (n byte : ℕ) → first ≤ n → n < last → meeting_at layout history starts n ≡ Sent byte
         → IsReadIn layout history starts last n byte
     read_in n byte f l m = record {
@@ -300,6 +303,7 @@ read_from layout history starts first last n byte quiet cadence f l m =
     read_in layout history d (quiet_on history.host d quiet.acts) starts last first cadence
     (rests_in layout history starts last first quiet cadence) n byte f l m
 
+-- with a quiet host INT 09h reads what is put out for a byte in the tick in which it arrives
 pub reads_what_arrives : (layout : KeyLayout) (history : KeyHistory) (starts : ℕ → ℕ) (last n byte : ℕ)
     → IsHostQuiet history → KeepsCadenceTo starts last → n < last → meeting_at layout history starts n ≡ Sent byte
     → IsReadIn layout history starts last n byte

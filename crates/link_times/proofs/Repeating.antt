@@ -60,6 +60,8 @@ scans_rate true keys inhibited edges k =
     edges_rate true keys edges (repeated k.repeats keys inhibited k) ∙ steps_rate k.repeats keys inhibited k
 scans_rate false keys inhibited edges k = edges_rate false keys edges (record k { repeats = None })
 
+-- the key that repeats has a tick less to wait, and then what the tick's edges make of it; without scanning there is
+-- none
 pub scans_repeat : (on : Bool) (keys : Keys) (inhibited : Bool) (edges : List TickEdge) (k : Keyboard)
     → (edges_if on keys edges (repeated_if on keys inhibited k)).repeats
     ≡ (if on then repeats_then keys k.rate edges (waits_less k.rate k.repeats) else None)

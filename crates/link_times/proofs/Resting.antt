@@ -135,6 +135,7 @@ module _ (layout : KeyLayout) (history : KeyHistory) (d : ℕ) (quiet : AreQuiet
         same_rest 24 (232 + start) (says_lights (232 + start) w.shown lights (quietly host 232 start w.side))
         r.pc r.filled (record { port = l.port; clear = l.clear; masked = l.masked; done = l.done })
 
+    -- with a quiet host the link is at rest at the meeting too
     pub meet_same : Same d meet (rest r.pc r.filled)
     meet_same = same_rest 32 (256 + start) look r.pc r.filled look_same
 
@@ -155,6 +156,7 @@ module _ (layout : KeyLayout) (history : KeyHistory) (d : ℕ) (quiet : AreQuiet
         ∙ ends_calm [] true (Some byte) now r.pc r.filled [] (none_at r.pc now 320)
     ends_by false o now = refl
 
+    -- with a quiet host what is offered after the self-test is what the meeting sends
     pub meets : meeting_from (keyboard layout) host start w ≡ calm_meeting tested offered
     meets =
         ap (λ v. ended_as host v (288 + start) meet) begins ∙ ends_by tested offered (288 + start)
@@ -199,6 +201,7 @@ module _ (layout : KeyLayout) (history : KeyHistory) (d : ℕ) (quiet : AreQuiet
         (ends (at_tick layout history starts n) (4096 + starts n) (rests_on count (omega (arith, l))) all more
         (omega (arith, hi, lo)))
 
+    -- with a quiet host the link is at rest at each tick start from one on
     pub rests_at : (n : ℕ) → first ≤ n → n ≤ last → Rests d (at_tick layout history starts n).side
     rests_at n f l =
         let z : n - first + first ≡ n = omega (arith, f) in
@@ -209,6 +212,7 @@ module _ (layout : KeyLayout) (history : KeyHistory) (d : ℕ) (quiet : AreQuiet
         ≡ calm_meeting ((keyboard_at layout history starts n).test == 0) (offer (keyboard_at layout history starts n))
     meets_at n f l = meets (at_tick layout history starts n) (4096 + starts n) (rests_at n f l)
 
+    -- with a quiet host each tick from there on sends what is offered
     pub sends_at : (n byte : ℕ) → first ≤ n → n ≤ last
         → (keyboard_at layout history starts n).test ≡ 0 → offer (keyboard_at layout history starts n) ≡ Some byte
         → meeting_at layout history starts n ≡ Sent byte

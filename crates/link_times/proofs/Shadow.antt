@@ -29,6 +29,7 @@ pub next_quiet : (o : Option HostEvent) → ((e : HostEvent) → o ≡ Some e �
 next_quiet None g = tt
 next_quiet (Some e) g = g e refl
 
+-- if all events of a host are quiet, each next one is
 pub all_quiet : (events : List HostEvent) → All (λ event. IsQuietAct event.act) events
     → (i : ℕ) → IsQuietNext (slice_get events i)
 all_quiet events all i =
@@ -41,6 +42,7 @@ pub none_quiet : (i : ℕ) → IsQuietNext (slice_get [] i)
 none_quiet zero = tt
 none_quiet (suc i) = tt
 
+-- without events none is due
 pub none_due : (y i : ℕ) → is_due y (slice_get [] i) ≡ false
 none_due y zero = refl
 none_due y (suc i) = refl
@@ -59,6 +61,7 @@ acts_quietly true AskStatus h q = (h.bios, refl)
 acts_quietly false AskStatus h q = (h.bios, refl)
 acts_quietly c (Flip bit) h q = absurd q
 
+-- a quiet event changes the state of INT 09h at most, and nothing else of the host's
 pub event_quietly : (now : ℕ) (o : Option HostEvent) (h : Host) → IsQuietNext o
     → (b : State) × ((event_turn now o h).host ≡ record h { bios = b })
 event_quietly now None h q = (h.bios, refl)
@@ -104,6 +107,7 @@ unfolding byte_cycle goes_on
 later events d now e m h =
     done_more (is_done now (slice_get events m.done) (happened_at now e m.port).core) d m.done h
 
+-- with a quiet host a cycle changes the port as the controller does by itself, and leaves the host's mask
 pub cycle_port : (events : List HostEvent) (now : ℕ) (e : Event) (m : Side UnderWay)
     → IsQuietNext (slice_get events m.done)
     → ((byte_cycle events now e m).port ≡ next_port now m.masked (happened_at now e m.port))
@@ -137,11 +141,13 @@ module _ (events : List HostEvent) (d : ℕ) (quiet : AreQuietFrom d events) whe
         done = later events d now e a s.done;
       }
 
+  -- with a quiet host cycles leave the controller and its link as without a host
   pub same_span : (n now : ℕ) (a b : Side UnderWay) → Same d a b → Same d (quietly events n now a) (quietly [] n now b)
   same_span zero now a b s = s
   same_span (suc n) now a b s =
       same_span n (suc now) (byte_cycle events now Quiet a) (byte_cycle [] now Quiet b) (same_cycle now Quiet a b s)
 
+  -- so does the begin of a byte
   pub same_sends : (now : ℕ) (a b : Side UnderWay) → Same d a b → Same d (sends events now a) (sends [] now b)
   same_sends now a b s =
       let a1 : Side UnderWay = byte_cycle events now (Begins true) a in
@@ -152,6 +158,7 @@ module _ (events : List HostEvent) (d : ℕ) (quiet : AreQuietFrom d events) whe
       (same_cycle (288 + now) Closes a2 b2
       (same_span 287 (suc now) a1 b1 (same_cycle now (Begins true) a b s)))
 
+  -- so does a byte as a whole
   pub same_carried : (meeting : Meeting) (now : ℕ) (a b : Side UnderWay) → Same d a b
       → Same d (carried events meeting now a) (carried [] meeting now b)
   same_carried (Got byte) now a b s =

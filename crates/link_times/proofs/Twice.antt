@@ -93,16 +93,19 @@ module _ (layout : KeyLayout) (history : KeyHistory) (starts : ℕ → ℕ) wher
       ++ (all_taken_away layout history starts 0 n ++ waiting (keyboard_at layout history starts v))))
       z (all_once 0 n)
 
+-- after each tick just the right bytes wait: what waited before, less what went, and then what the tick's codes add
 pub comes_exactly : (layout : KeyLayout) (history : KeyHistory) (starts : ℕ → ℕ) (n : ℕ)
     → IsExact layout history starts n
 comes_exactly layout history starts n = exact layout history starts n
 
+-- over ticks in a row what waited and what came is what arrived, what was taken away, and what waits still
 pub all_comes_once : (layout : KeyLayout) (history : KeyHistory) (starts : ℕ → ℕ) (n count : ℕ)
     → IsPermutation (waiting (keyboard_at layout history starts n) ++ all_come layout history starts n count)
     (all_arrived layout history starts n count
     ++ (all_taken_away layout history starts n count ++ waiting (keyboard_at layout history starts (count + n))))
 all_comes_once layout history starts n count = all_once layout history starts n count
 
+-- from power-on on all that came has arrived, was taken away, or waits: nothing else arrives
 pub nothing_else_arrives : (layout : KeyLayout) (history : KeyHistory) (starts : ℕ → ℕ) (n : ℕ)
     → IsPermutation (all_come layout history starts 0 n)
     (all_arrived layout history starts 0 n

@@ -32,9 +32,11 @@ use Rattle.live_board.proofs.Stepping.{here}
 use Rattle.live_board.specs.Answers.{ItemAnswer, first_in}
 use Rattle.live_board.specs.Pasts.{Past}
 
+-- two keyboards in one past are in one state of the run
 pub states_alike : StatesAreAlike
 states_alike p a b s t = same_state (sym (here p a s) ∙ here p b t)
 
+-- a log that goes on from the same beginning has one rest
 pub same_rest : (log a b after : List Stamped) → after ≡ log ++ a → after ≡ log ++ b → a ≡ b
 same_rest log a b after h k =
     sym (drop-append_seam log a) ∙ ap (drop (length log)) (sym h ∙ k) ∙ drop-append_seam log b
@@ -52,9 +54,11 @@ reported_alike f p q a b x y s t h k =
     let same : h.0 ≡ k.0 = same_rest (log_of w.board) h.0 k.0 (log_of v.board) (h.1 w v from to) (k.1 w v from to) in
     same_some x y (sym h.2 ∙ ap (first_in f) same ∙ k.2)
 
+-- two keyboards between the same pasts answer with the same byte
 pub answers_alike : AnswersAreAlike
 answers_alike f p q a b x y s t h k = reported_alike f p q a b x y s t h k
 
+-- two keyboards between the same pasts answer with the same word, or both with none
 pub words_alike : WordsAreAlike
 words_alike f p q a b x y s t h k = reported_alike f p q a b x y s t h k
 
@@ -75,6 +79,7 @@ without_edges layout events stop order written flips = record {
   places = λ k d within. absurd (omega (arith, within));
 }
 
+-- if no key moved, a past is lawful however often and long a program uses the ports
 pub any_use_is_lawful : AnyUseIsLawful
 any_use_is_lawful layout p stop none order written flips =
     subst (λ es. IsLawfulFor layout (record { edges = es; host = p.events; end = stop })) (sym none)
@@ -103,6 +108,7 @@ log_begins layout p k s bytes stamp start low =
     let up : start.steps - p.steps + p.steps ≡ start.steps = omega (arith, order) in
     (goes_between story p.steps (start.steps - p.steps) w start.state at (ap (state_at story) up ∙ start.reached)).1
 
+-- what was said so far is the beginning of what the model says, if the past is lawful for the layout
 pub logs_agree : AnyMemoryLaw → LogsAgree
 logs_agree law layout p stop k s is bytes fine lawful =
     let both = law layout (history_of p stop) is lawful p.held fine in
@@ -145,6 +151,7 @@ numbered starts apart (suc n) =
     let next : starts n + 2016 ≤ starts (suc n) = apart n in
     omega (arith, before, next)
 
+-- so it is if keys bounced or many changed at once, by what the columns showed
 pub logs_are_shown : AnyCountLaw → LogsAreShown
 logs_are_shown law layout p k s is bytes fine ok =
     let goes = law layout p.edges p.events is ok p.held fine in

@@ -31,18 +31,22 @@ place_by bytes m = record { pc = m.pc; byte = slice_index bytes (m.pc % 2048) }
 
 -- two keyboards in one past are at one cycle, with the same processor, memory and input buffer
 module _ (p : Past) (a b : Keyboard) (s : HasPast p a) (t : HasPast p b) where
+  -- two keyboards in one past are in one state of the run
   pub same_world : s.world ≡ t.world
   same_world = states_alike p a b s t
 
+  -- they are at one cycle
   pub same_cycle : a.joint.cycle ≡ b.joint.cycle
   same_cycle = s.in_run.cycle ∙ ap (λ (w : World Beside). w.cycle) same_world ∙ sym t.in_run.cycle
 
+  -- they are at one place of the program
   pub same_place : place_of a.joint ≡ place_of b.joint
   same_place =
       let cpu = s.in_run.mcu ∙ ap (λ (w : World Beside). w.cpu) same_world ∙ sym t.in_run.mcu in
       let bytes = s.image ∙ sym t.image in
       ap (λ m. place_by a.joint.image.bytes m) cpu ∙ ap (λ v. place_by v b.joint.mcu) bytes
 
+  -- the same calls of the host must wait at both
   pub same_waits : (act : HostAct)
       → waits act a.joint.outside.desk.port.core ≡ waits act b.joint.outside.desk.port.core
   same_waits act =
@@ -84,6 +88,7 @@ module _ (p : Past) (a b : Keyboard) (s : HasPast p a) (t : HasPast p b) where
       let e : None ≡ Some has_past.world = sym none ∙ same ∙ some in
       absurd cc
 
+-- a call of the host is done at both of two keyboards in one past, or refused at both for one cause
 pub calls_alike : CallsAreAlike
 calls_alike act p a b c d (Ok x) (Ok y) s t h g = refl
 calls_alike act p a b c d (Ok x) (Err y) s t h g =
@@ -101,6 +106,7 @@ earlier p k (suc m) w h =
     let u = before (story_of p) (m + k) w (ap (state_at (story_of p)) (sym one) ∙ h) in
     earlier p k m u.0 u.1
 
+-- a run that reaches a later state isn't stuck at an earlier one
 pub no_state : (p : Past) (k n : ℕ) (w : World Beside) → state_at (story_of p) n ≡ Some w → k ≤ n
     → state_at (story_of p) k ≡ None → ⊥
 no_state p k n w at l none =
@@ -122,6 +128,7 @@ later_cycle p k n w v less from to =
 
 -- one run, from a state of so many steps and this cycle
 module _ (p : Past) (a : Keyboard) (cycles : ℕ) (watched : Bool) (s : HasPast p a) where
+  -- the state of a keyboard is that of its past's run after its steps
   pub from_here : state_at (story_of p) a.joint.steps ≡ Some s.world
   from_here = ap (state_at (story_of p)) s.steps ∙ here p a s
 
@@ -240,6 +247,7 @@ same_reason p a b c d cycles watched s t near far e f same (Stuck q) Over h g =
 same_reason p a b c d cycles watched s t near far e f same (Stuck q) (Stuck r) h g =
     ap (λ (v : Place). Stuck v) (h.1 ∙ same_place (gone_on p c.joint.steps) c d e f ∙ sym g.1)
 
+-- runs of two keyboards in one past end for one reason and after as many steps
 pub runs_end_alike : RunsEndAlike
 runs_end_alike p a b c d cycles watched x y s t h g near far =
     let same = same_steps p a b c d cycles watched x y s t h g near far in

@@ -38,6 +38,7 @@ module _ (p : Past) (a b : Keyboard) (s : HasPast p a) (t : HasPast p b) where
   same_now : s.world.cycle ≡ t.world.cycle
   same_now = ap (λ (w : World Beside). w.cycle) (states_alike p a b s t)
 
+  -- two keyboards in one past have made as many edges
   pub same_made : s.made ≡ t.made
   same_made = by (ltb s.made t.made) (ltb t.made s.made) refl refl
     where
@@ -50,9 +51,11 @@ module _ (p : Past) (a b : Keyboard) (s : HasPast p a) (t : HasPast p b) where
           (subst (λ c. AreParted c s.made p.edges) same_now s.parted) s.made_within (grind (arith, nat_tests, g)))
       by false false h g = grind (arith, nat_tests, h, g)
 
+  -- the same edges wait in both
   pub same_wait : a.due.edges.items ≡ b.due.edges.items
   same_wait = s.edges_wait ∙ ap (λ n. drop n p.edges) same_made ∙ sym t.edges_wait
 
+-- a key is let in at both of two keyboards in one past, or refused at both for one cause
 pub keys_alike : KeysAreAlike
 keys_alike place down p a b c d (Ok x) (Ok y) s t h g = refl
 keys_alike place down p a b c d (Ok x) (Err R.Early) s t h g =

@@ -103,6 +103,7 @@ module _ (p : Past) (old new : Keyboard) (end : RunEnd) (from : p.steps ≡ 0) (
       let cycle : new.joint.cycle ≡ r.has_past.world.cycle = r.has_past.in_run.cycle in
       omega (arith, early, step, cycle, zero_cycle)
 
+  -- a run of 4,096 cycles from power-on ends at stamp 0 or a cycle past it
   pub ends_at_0 : (4096 ≤ new.joint.cycle) × (new.joint.cycle ≤ 4097)
   ends_at_0 = (least end r.ends, most new.joint.steps refl)
 
@@ -150,6 +151,7 @@ module _ (law : AnyKeysLaw) (memory : AnyMemoryLaw) (layout : KeyLayout) (fill :
       absurd (let w = goes (acted (untouched fill bytes steps) (old.joint.cycle - 4096) Mask) refl refl in
       let e : None ≡ Some w.0 = sym (a.0.2 (untouched fill bytes steps) s) ∙ w.1 in cc)
 
+  -- a keyboard that was opened with a layout's image was masked at stamp 0 or 1, and agrees with the model
   pub opened_by : (k : Keyboard) → IsOpened fill bytes k → IsMasked layout fill k
   opened_by k o =
       let p : Past = untouched fill bytes 0 in
@@ -164,9 +166,12 @@ module _ (law : AnyKeysLaw) (memory : AnyMemoryLaw) (layout : KeyLayout) (fill :
   ran_on old new cycles watched end runs m =
       is_masked m.stamp new.joint.steps new m.soon (runs (masked_at fill bytes m.stamp m.steps) m.has_past).has_past
 
+-- a keyboard that was opened, or switched off and on, with a layout's image was masked at stamp 0 or 1, and has said
+-- what the model says
 pub opened_is_masked : AnyKeysLaw → AnyMemoryLaw → OpenedIsMasked
 opened_is_masked law memory layout fill k fine small o = opened_by law memory layout fill fine small k o
 
+-- so is one that was opened and run on until its interrupt line rose, or for a second
 pub ready_is_masked : AnyKeysLaw → AnyMemoryLaw → ReadyIsMasked
 ready_is_masked law memory layout k fine r =
     let m = opened_by law memory layout 0 fine (omega arith) r.opened r.is_opened in

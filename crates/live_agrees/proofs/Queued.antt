@@ -95,6 +95,7 @@ module _ (debounce : Bool) where
         (taken_now (k.joint.cycle - 4096) q.ready q.waiting e is) f,
   )
 
+-- the edges of a past stay those of a queue, whatever is pushed into it, released or handed over
 pub stays_queued : StaysQueued
 stays_queued debounce = record {
   at_first = record { calls = []; placed = tt; handed_out = refl; left = refl };
@@ -104,6 +105,7 @@ stays_queued debounce = record {
       handed_on debounce p k q (taken (k.joint.cycle - 4096) q) refl (one_call debounce p.edges q (Take (k.joint.cycle - 4096)) f tt);
 }
 
+-- a keyboard's image says whether its layout has a debounce
 pub image_says_debounce : ImageSaysDebounce
 image_says_debounce layout p k s is =
     ap (λ bytes. not (slice_index bytes debounce_at == 0)) (s.image ∙ is) ∙ is_debounced layout
@@ -123,6 +125,7 @@ with_host edges events h order written flips = record {
   thin = h.thin;
 }
 
+-- if all keys came out of a queue, what was said is the beginning of what the model says
 pub queued_agree : AnyMemoryLaw → AreLawful → QueuedLogsAgree
 queued_agree law queue debounce layout p q k s is bytes fine from places order written flips =
     let own : IsLawful (record { edges = p.edges; host = []; end = 0 }) =

@@ -34,6 +34,7 @@ abbrev meant : Kept → Result Kept Unloaded → Kept
 meant other (Ok k) = k
 meant other (Err fault) = other
 
+-- two keyboards of one past that the same bytes mean are alike
 pub loaded_alike : LoadedAreAlike
 loaded_alike bytes p a b s t h g =
     let same : kept a ≡ kept b = ap (meant (kept a)) (sym h ∙ g) in
@@ -44,6 +45,7 @@ loaded_alike bytes p a b s t h g =
       rises = ap (λ (k : Kept). k.rises) same;
     }
 
+-- of two keyboards that are alike the same bytes are saved
 pub saves_alike : SavesAreAlike
 saves_alike p a b h =
     let s = h.one in
@@ -87,6 +89,7 @@ kept_alike p q a b c d s t same h g =
     λ i. heard_all (same i) (passed ++ map said_so (items i)) in
     (h.kept ∙ heard ∙ sym g.kept, h.risen ∙ sym g.risen)
 
+-- two keyboards that are alike stay so after a call of the host
 pub answers_keep_alike : {X : Type 0} → AnsweringKeepsAlike X
 answers_keep_alike act p a b c d (Ok x) (Ok y) h f k g l =
     let cycle = same_cycle p a b h.one h.other in
@@ -105,6 +108,7 @@ answers_keep_alike act p a b c d (Err x) (Err y) h f k g l = (
   record { one = f.2 p h.one; other = g.2 p h.other; heard = k.0 ∙ h.heard ∙ sym l.0; rises = k.1 ∙ h.rises ∙ sym l.1 },
 )
 
+-- two keyboards that are alike stay so after the call of a key
 pub keys_keep_alike : KeysKeepAlike
 keys_keep_alike place down p a b c d (Ok x) (Ok y) h f k g l =
     let cycle = same_cycle p a b h.one h.other in (
@@ -167,6 +171,7 @@ all_alike p a b c d s t e end same h g =
     let rises : rises_in p a.joint.steps h.steps ≡ rises_in p b.joint.steps g.steps = λ i. rises_in p (from i) (n i) in
     (h.kept ∙ heard ∙ sym g.kept, h.risen ∙ rises ∙ sym g.risen)
 
+-- two keyboards that are alike stay so after a run
 pub runs_keep_alike : RunsKeepAlike
 runs_keep_alike p a b c d cycles watched x y h f k g l near far =
     let ends = runs_end_alike p a b c d cycles watched x y h.one h.other f g near far in
@@ -180,6 +185,7 @@ runs_keep_alike p a b c d cycles watched x y h f k g l near far =
       },
     )
 
+-- two keyboards that are alike stay so after a run that stops for what it is asked to
 pub stops_keep_alike : StopsKeepAlike
 stops_keep_alike stops p a b c d cycles steps x y h f k g l near far =
     let ends = runs_stop_alike stops p a b c d cycles steps x y h.one h.other f g near far in
@@ -210,6 +216,7 @@ with_heard p k h s = record {
   parted = s.parted;
 }
 
+-- two keyboards that are alike hand out the same of what they heard, and stay alike
 pub hands_keep_alike : HandsKeepAlike
 hands_keep_alike p a b h = (
   ap next_of h.heard,

@@ -152,6 +152,7 @@ same_reason stops p a b c d cycles steps s t near far e f same (ends.Stuck q) (e
 same_reason stops p a b c d cycles steps s t near far e f same (ends.Stuck q) (ends.Stuck r) h g =
     ap (λ (v : Place). ends.Stuck v) (h.1 ∙ same_place (gone_on p c.joint.steps) c d e f ∙ sym g.1)
 
+-- two runs from one past that stop for the same stop alike, after as many steps
 pub runs_stop_alike : RunsStopAlike
 runs_stop_alike stops p a b c d cycles steps x y s t h g near far =
     let same = same_steps stops p a b c d cycles steps x y s t h g near far in

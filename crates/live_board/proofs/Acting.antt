@@ -189,10 +189,12 @@ module _ (now p2 : ℕ) (e : HostEvent) (o : Outside) (late : e.stamp + 4096 ≤
   in_more zero at s h = h
   in_more (suc n) at s h = in_more n (at + 1) (joint_cycle (e ∷ []) p2 at s) (in_next at s h)
 
+  -- in the first cycle of a step the host's event is done
   pub in_cycles : (n : ℕ) → 0 < n → IsDone (after_cycles n now (joint_cycle (e ∷ []) p2) (beside o 0 []))
   in_cycles zero some = absurd (omega (arith, some))
   in_cycles (suc n) some = in_more n (now + 1) (joint_cycle (e ∷ []) p2 now (beside o 0 [])) in_first
 
+  -- the event that was done is answered
   pub answers : (b : Beside) → IsDone b → IsAnswered e.act b.pc.side.log
   answers b h = subst (IsAnswered e.act) (sym h.log) (first_answers h.more)
 
@@ -216,5 +218,6 @@ module _ (due : Due) (m : Machine) (e : HostEvent) (only : due.host.items ≡ e 
       (in_cycles m.cycle n.cpu.p2 e m.outside late room n.cycles (omega (arith, l, c))) in
       record { one = done.one; answered = answers m.cycle n.cpu.p2 e m.outside late room w.board done }
 
+  -- a step by one event of the host, which may act now, does it and answers it
   pub has_done : (w : World Beside) → m.cycle < w.cycle → due_step due m ≡ Some w → HasDone e.act w
   has_done w l h = by_row w (stepped m.image.bytes (seen (due_board due m) (world_of m)) m.mcu) l h

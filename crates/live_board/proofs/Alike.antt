@@ -86,6 +86,7 @@ module _ (hs more : List HostEvent) (last : ℕ) (ahead : All (λ e. last ≤ e.
       ap (λ v. after_cycles n (now + 1) (joint_cycle (hs ++ more) p2) v) (cycle_alike p2 now s (omega (arith, l)))
       ∙ cycles_alike p2 n (now + 1) (joint_cycle hs p2 now s) (omega (arith, l))
 
+  -- edges and events that aren't due yet change nothing of a step
   pub step_alike : (es es2 : List Edge) (v w : World Beside) (o : Option Stepped)
       → w.cycle ≤ last → after_step (joint_board es hs) v o ≡ Some w
       → after_step (joint_board (es ++ es2) (hs ++ more)) v o ≡ Some w
@@ -107,6 +108,7 @@ pins_are : (edges : List Edge) (p1 p2 cycle : ℕ) (s : Beside) → joint_pins e
 unfolding joint_pins
 pins_are edges p1 p2 cycle s = refl
 
+-- edges that aren't due yet change no level at the pins
 pub pins_alike : (es more : List Edge) (last p1 p2 cycle : ℕ) (s : Beside) → cycle < last → All (λ e. last ≤ e.stamp + 4096) more
     → joint_pins (es ++ more) p1 p2 cycle s ≡ joint_pins es p1 p2 cycle s
 pins_alike es more last p1 p2 cycle s l h =

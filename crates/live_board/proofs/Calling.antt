@@ -95,6 +95,7 @@ module _ (old : Keyboard) (act : HostAct) (late : 4096 ≤ old.joint.cycle) (roo
       let count = made.seen_so.cycles in
       has_done due old.joint event only (omega (arith, late)) room made.world (omega (arith, count, some)) made.step
 
+  -- the call of the host is answered in the step
   pub answered_here : IsAnswered act seen.items.items
   answered_here = subst (IsAnswered act) (sym (step_made due old.joint seen new is).seen_so.items) done_here.answered
 
@@ -119,6 +120,7 @@ module _ (old : Keyboard) (act : HostAct) (late : 4096 ≤ old.joint.cycle) (roo
         let b = s.steps in
         omega (arith, a, b)
 
+    -- after the call the keyboard has the past with the call at its end
     pub acted_on : (k : Keyboard) → k.joint ≡ new
         → k.due.edges.items ≡ drop seen.edges due.edges.items → k.due.host.items ≡ [] → HasPast (acted p (old.joint.cycle - 4096) act) k
     unfolding goes
@@ -161,6 +163,7 @@ module _ (old : Keyboard) (act : HostAct) (late : 4096 ≤ old.joint.cycle) (roo
               is run s.reached.edges_reached;
         }
 
+    -- the step says what the run of that past says there
     pub says_on : Says p (acted p (old.joint.cycle - 4096) act) seen.items.items
     says_on w v from to =
         let first : s.world ≡ w = same_state (sym (here p old s) ∙ from) in

@@ -46,11 +46,13 @@ quiet_after due tick (suc n) old new h =
 same_number : (n : ℕ) → (n == n) ≡ true
 same_number n = grind (arith, nat_tests)
 
+-- the interrupt line doesn't rise if it stays as it is
 pub steady : (i : Irq) → rose i i ≡ false
 steady i =
     ap (λ b. i.up && (not i.up || not b)) (same_number i.filled)
     ∙ (elim i.up as (λ b. (b && (not b || false)) ≡ false) [ true ↦ refl | false ↦ refl ])
 
+-- after quiet steps within its limit a run goes on, and the line hasn't risen
 pub goes_quietly : (p : Past) (old : Keyboard) (cycles : ℕ) (watched : Bool) (k : Keyboard) (tick n : ℕ) (m : Machine)
     → GoesOnSo p old cycles watched k
     → AreUneventful k.due tick n k.joint m → m.cycle ≤ old.joint.cycle + cycles → GoesOnSo p old cycles watched (record k { joint = m })
@@ -75,17 +77,21 @@ goes_quietly p old cycles watched k tick (suc n) m so h room =
 
 -- quiet steps, which end before so many cycles have passed
 module _ (k : Keyboard) (count : ℕ) (last : Machine) (quiet : AreUneventful k.due 2048 count k.joint last) where
+  -- quiet steps leave what is outside the processor
   pub same_outside : last.outside ≡ k.joint.outside
   same_outside = (quiet_after k.due 2048 count k.joint last quiet).outside
 
+  -- quiet steps leave the interrupt line
   pub same_line : irq_of last.outside.desk.port ≡ irq_of k.joint.outside.desk.port
   same_line = ap (λ (o : Outside). irq_of o.desk.port) same_outside
 
+  -- quiet steps lead to no earlier cycle
   pub only_later : k.joint.cycle ≤ last.cycle
   only_later = (quiet_after k.due 2048 count k.joint last quiet).later
 
 -- and the step behind them
 module _ (k new : Keyboard) (most : ℕ) (g : HasGone k.due 2048 most k.joint (Ok new.seen) new.joint) where
+  -- with the step after them the keyboard is at a later cycle
   pub cycles_on : 0 < new.seen.cycles → k.joint.cycle < new.joint.cycle
   cycles_on some =
       let later = only_later k g.count g.last g.quiet in
@@ -98,24 +104,29 @@ module _ (k new : Keyboard) (most : ℕ) (g : HasGone k.due 2048 most k.joint (O
     abbrev before : Keyboard
     before = record k { joint = g.last }
 
+    -- before that step the run has gone on so far
     pub so_last : GoesOnSo p old cycles watched before
     so_last = let within = g.within in goes_quietly p old cycles watched k 2048 g.count g.last so g.quiet (omega (arith, within, room))
 
     last_room : g.last.cycle < old.joint.cycle + cycles
     last_room = let within = g.within in omega (arith, within, room)
 
+    -- that step is one step more
     pub one_step : new.joint.steps ≡ suc g.last.steps
     one_step = (counted k.due g.last new.joint new.seen g.step).1
 
+    -- after it the keyboard has the past, gone on
     pub holds_on : HasPast (gone_on p new.joint.steps) new
     holds_on = one_on (gone_on p g.last.steps) before so_last.has_past new g.step g.run left same
 
+    -- if the line hasn't risen, the run goes on
     pub goes_all : (watched ≡ true → rose (irq_of k.joint.outside.desk.port) (irq_of new.joint.outside.desk.port) ≡ false)
         → GoesOnSo p old cycles watched new
     goes_all flat =
         goes_more p old cycles watched before new so_last holds_on one_step last_room
         (λ is. ap (λ x. rose x (irq_of new.joint.outside.desk.port)) (same_line k g.count g.last g.quiet) ∙ flat is)
 
+    -- if the line has risen, the run ends there and says so
     pub has_risen : (watched ≡ true) × (rose (irq_of k.joint.outside.desk.port) (irq_of new.joint.outside.desk.port) ≡ true)
         → HasRun p old cycles watched ends.Rose new
     has_risen risen = record {
@@ -137,6 +148,7 @@ pub stuck_same : (due : Due) (old new : Machine) (stuck : Stuck) (o : Option (Wo
 stuck_same due old new stuck None h = h.1
 stuck_same due old new stuck (Some w) h = absurd h
 
+-- a keyboard whose processor is stuck is at no earlier cycle than before
 pub stuck_later : (k new : Keyboard) (most : ℕ) (stuck : Stuck)
     → HasGone k.due 2048 most k.joint (Err stuck) new.joint → k.joint.cycle ≤ new.joint.cycle
 stuck_later k new most stuck g =
@@ -144,6 +156,7 @@ stuck_later k new most stuck g =
     let cycle = ap (λ (m : Machine). m.cycle) (stuck_same k.due g.last new.joint stuck (due_step k.due g.last) g.step) in
     omega (arith, later, cycle)
 
+-- if the processor is stuck within the limit, the run ends there and says so
 pub has_stuck : (k new : Keyboard) (most : ℕ) (stuck : Stuck)
     → HasGone k.due 2048 most k.joint (Err stuck) new.joint → new.due ≡ k.due → (p : Past) (old : Keyboard) (cycles : ℕ) (watched : Bool)
     → GoesOnSo p old cycles watched k → k.joint.cycle + most < old.joint.cycle + cycles → HasRun p old cycles watched (ends.Stuck stuck) new

@@ -19,6 +19,7 @@ still_ahead_events : (soon late : ℕ) (events : List HostEvent)
     → soon ≤ late → All (λ e. late ≤ e.stamp + 4096) events → All (λ e. soon ≤ e.stamp + 4096) events
 still_ahead_events soon late events l h = λ i d m. let k = h i d m in omega (arith, k, l)
 
+-- an event that isn't due before a state's cycle changes neither that state nor an earlier one
 pub grows : GrowsAtEnd
 grows s edges events zero w h ahead = h
 grows s edges events (suc k) w h ahead =

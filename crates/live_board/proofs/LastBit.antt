@@ -17,6 +17,7 @@ same_bits bits ten =
     ap (take 8) (drop-append-le 1 bits (true ∷ []) (omega (arith, ten)))
     ∙ take-append-le 8 (drop 1 bits) (true ∷ []) (omega (arith, left, ten))
 
+-- of ten bits that have come the byte is that of the frame with a right stop bit
 pub ended_is : (flip : Option ℕ) (bits frame : List Bool) (lack : Bool) (byte : ℕ) → lack ≡ (length bits == 10) → lack ≡ true
     → frame ≡ bits ++ true ∷ [] → byte ≡ value (take 8 (drop 1 frame))
     → Some (record { from_host = false; byte = byte }) ≡ ended_by (Recv flip bits)

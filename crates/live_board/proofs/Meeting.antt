@@ -80,6 +80,7 @@ module _ (stops : Stops) (p : Past) (k new : Keyboard) (s : HasPast (gone_on p k
         counter = counter_met stops.counter (d i).pc;
       }
 
+  -- whether a step meets a stop is seen from the machines before it and after it
   pub met_here : met_at stops p k.joint.steps ≡ met_by stops (irq_of k.joint.outside.desk.port) (lines_of k.joint) new
   met_here =
       ap (λ n. met_between stops (state_at (story_of p) k.joint.steps) (state_at (story_of p) n)) (sym steps)
@@ -104,6 +105,7 @@ pub record AreCounted (n : ℕ) (old new : Machine) : Type 0 where
   pub steps : new.steps ≡ old.steps + n
   pub cycles : old.cycle + n ≤ new.cycle
 
+-- quiet steps leave the PC's side and port 2, and each takes a cycle or more
 pub counted_quietly : (due : Due) (tick n : ℕ) (old new : Machine) → AreUneventful due tick n old new → AreCounted n old new
 counted_quietly due tick zero old new h =
     let steps = ap (λ (m : Machine). m.steps) h in
@@ -187,6 +189,7 @@ module _ (stops : Stops) (k new : Keyboard) (most : ℕ) (g : HasGone k.due 2048
     (p : Past) (old : Keyboard) (cycles : ℕ) (so : GoesOnSo p old cycles false k)
     (room : k.joint.cycle + most < old.joint.cycle + cycles)
     (left : new.due.edges.items ≡ drop new.seen.edges k.due.edges.items) (same : new.due.host ≡ k.due.host) where
+  -- so it is of the step after quiet ones
   pub met_last : met_at stops p g.last.steps ≡ met_by stops (irq_of k.joint.outside.desk.port) (lines_of k.joint) new
   met_last =
       let last : Keyboard = record k { joint = g.last } in
@@ -204,6 +207,7 @@ module _ (k new : Keyboard) (most : ℕ) (stuck : Stuck) (g : HasGone k.due 2048
   stuck_there : new.joint ≡ g.last
   stuck_there = stuck_same k.due g.last new.joint stuck (due_step k.due g.last) g.step
 
+  -- quiet steps before the processor is stuck meet no stop
   pub stuck_unmet : (stops : Stops) (p : Past) (old : Keyboard) (cycles : ℕ) → GoesOnSo p old cycles false k
       → AreUnmet stops p old.joint.steps k.joint.steps → (most ≡ 0) ⊎ (stops.counter ≡ None)
       → k.joint.cycle + most < old.joint.cycle + cycles → AreUnmet stops p old.joint.steps new.joint.steps
@@ -211,6 +215,7 @@ module _ (k new : Keyboard) (most : ℕ) (stuck : Stuck) (g : HasGone k.due 2048
       subst (λ (m : Machine). AreUnmet stops p old.joint.steps m.steps) (sym stuck_there)
       (last_unmet stops p old cycles k most g.count g.last so unmet alone g.quiet g.within room)
 
+  -- a run that is stuck has made no more steps than it has cycles
   pub stuck_few : new.joint.steps ≤ k.joint.steps + most
   stuck_few =
       let c = counted_quietly k.due 2048 g.count k.joint g.last g.quiet in
@@ -236,6 +241,7 @@ steps_few k new most g =
     let one = (counted k.due g.last new.joint new.seen g.step).1 in
     omega (arith, steps, cycles, within, one)
 
+-- a keyboard that has gone on by a step has made more steps
 pub steps_later : (k new : Keyboard) (most : ℕ) (g : HasGone k.due 2048 most k.joint (Ok new.seen) new.joint)
     → k.joint.steps < new.joint.steps
 steps_later k new most g =

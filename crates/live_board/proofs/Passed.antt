@@ -27,6 +27,7 @@ high_none : (o : Option Transfer) (cycle : ℕ) → passed_by o cycle true ≡ [
 high_none None cycle = refl
 high_none (Some byte) cycle = refl
 
+-- while the clock stays as it is no byte passes
 pub still_none : (o : Outside) (cycle : ℕ) → passed_by (at_fall o) cycle o.clock ≡ []
 still_none o cycle =
     elim o.clock as (λ b. passed_by (if b then ended_at o.desk.port.link else None) cycle b ≡ []) [
@@ -68,6 +69,7 @@ silent None cycle clock = refl
 silent (Some byte) cycle true = refl
 silent (Some byte) cycle false = refl
 
+-- of what happened, what was said goes on by the step's items, and a byte that passed isn't among them
 pub said_more : (before : List Happened) (o : Option Transfer) (cycle : ℕ) (clock : Bool) (items : List Stamped)
     → said_among (before ++ (passed_by o cycle clock ++ map said_so items)) ≡ said_among before ++ items
 said_more before o cycle clock items =

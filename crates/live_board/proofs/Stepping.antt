@@ -54,9 +54,11 @@ here p k s =
     subst (λ n. state_at (story_of p) n ≡ Some s.world) s.steps
     (subst (λ bytes. run_at (joint_board p.edges p.events) bytes (joint_start_of p.held) k.joint.steps ≡ Some s.world) s.image s.in_run.run)
 
+-- edges before a cycle are before a later one
 pub later_edges : (soon late : ℕ) (es : List Edge) → soon ≤ late → All (λ e. e.stamp + 4096 ≤ soon) es → All (λ e. e.stamp + 4096 ≤ late) es
 later_edges soon late es l h = λ i d m. let k = h i d m in omega (arith, k, l)
 
+-- events before a cycle are before a later one
 pub later_events : (soon late : ℕ) (es : List HostEvent)
     → soon ≤ late → All (λ e. e.stamp + 4096 ≤ soon) es → All (λ e. e.stamp + 4096 ≤ late) es
 later_events soon late es l h = λ i d m. let k = h i d m in omega (arith, k, l)
@@ -96,26 +98,33 @@ module _ (held : Cpu) (edges : List Edge) (events : List HostEvent) (due : Due) 
     (wait : due.edges.items ≡ drop made edges)
     (host : due.host.items ≡ take 2 (drop world.board.pc.side.done events))
     (is : IsJointStep due old (due_step due old) (Ok seen) new) (run : IsStepOfRun due old (Ok seen) new) where
+  -- the run of the past goes on by the step
   pub on : GoesOn held edges events made world seen new
   on =
       let h = handed edges made world.cycle due.edges.items wait in
       run held edges events made world order in_run (record { next = h.0; all = h.1; host = host })
 
+  -- the step was made, and the machine is as it leaves it
   pub step : IsMade due old seen new
   step = step_made due old seen new is
 
+  -- the machine has made one step more
   pub steps_more : new.steps ≡ old.steps + 1
   steps_more = ap (λ m. m.steps) step.after
 
+  -- the program is as it was
   pub image_same : new.image.bytes ≡ old.image.bytes
   image_same = ap (λ m. m.image.bytes) step.after
 
+  -- the machine is as many cycles later as the step took
   pub cycle_more : old.cycle + seen.cycles ≡ new.cycle
   cycle_more = step.seen_so.cycles ∙ sym (ap (λ m. m.cycle) step.after)
 
+  -- the run's next state is at no earlier cycle
   pub world_later : world.cycle ≤ on.next.cycle
   world_later = let a = in_run.cycle in let b = cycle_more in let c = on.in_run.cycle in omega (arith, a, b, c)
 
+  -- the edges that the step made are the past's
   pub edges_there : made + seen.edges ≤ length edges
   edges_there =
       let a = made_few old.cycle due.edges.items in
@@ -124,6 +133,7 @@ module _ (held : Cpu) (edges : List Edge) (events : List HostEvent) (due : Due) 
       let d : length (drop made edges) ≡ length edges - made = length-drop made edges in
       omega (arith, a, b, c, d, within)
 
+  -- the run's next state is at a later cycle
   pub world_sooner : world.cycle < on.next.cycle
   world_sooner =
       let s : Story = record { bytes = old.image.bytes; edges = edges; events = events; stop = 0; held = held } in
@@ -146,9 +156,11 @@ module _ (held : Cpu) (edges : List Edge) (events : List HostEvent) (due : Due) 
       let c : length (drop made edges) ≡ length edges - made = length-drop made edges in
       all_parted world.cycle on.next.cycle (made + seen.edges) edges world_sooner (omega (arith, a, b, c, within)) reached
 
+  -- the edges that are left are those of the past after the ones made
   pub edges_left : (items : List Edge) → items ≡ drop seen.edges due.edges.items → items ≡ drop (made + seen.edges) edges
   edges_left items e = e ∙ ap (drop seen.edges) wait ∙ drop_more made seen.edges (made + seen.edges) edges refl
 
+  -- the step did no more events than were handed in
   pub host_few : seen.host ≤ length due.host.items
   host_few = let a = done_few due old step.world step.step in let b = step.seen_so.host in omega (arith, a, b)
 
@@ -162,6 +174,7 @@ module _ (p : Past) (old : Keyboard) (s : HasPast p old) (new : Keyboard)
       let done = s.all_done in
       s.none_waits ∙ sym (ap (λ (v : List HostEvent). take 2 v) (drop_all s.world.board.pc.side.done p.events (omega (arith, done))))
 
+  -- after the step the keyboard has the past, gone on by a step
   pub one_on : HasPast (gone_on p new.joint.steps) new
   one_on =
       let on = on p.held p.edges p.events old.due old.joint new.joint new.seen s.made s.world s.made_within

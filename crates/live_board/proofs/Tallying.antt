@@ -36,6 +36,7 @@ once : (b : Bool) → (if b then 1 else 0) ≤ 1
 once true = omega arith
 once false = omega arith
 
+-- in a step the interrupt line rises once at most
 pub rise_few : (was is : Irq) → rise was is ≤ 1
 rise_few was is = once (rose was is)
 

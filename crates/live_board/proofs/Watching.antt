@@ -29,6 +29,7 @@ pub record GoesOnSo (p : Past) (old : Keyboard) (cycles : ℕ) (watched : Bool) 
   pub before : AreBefore p old.joint.steps k.joint.steps (old.joint.cycle + cycles)
   pub calm : watched ≡ true → IsCalm p old.joint.steps k.joint.steps
 
+-- before its first step a run has gone on by none
 pub goes_first : (p : Past) (old : Keyboard) (cycles : ℕ) (watched : Bool) → HasPast p old → GoesOnSo p old cycles watched old
 goes_first p old cycles watched s = record {
   has_past = subst (λ n. HasPast (gone_on p n) old) (sym s.steps) s;
@@ -37,6 +38,7 @@ goes_first p old cycles watched s = record {
   calm = λ is j l m. absurd (omega (arith, l, m));
 }
 
+-- a step of the first k + 1 is one of the first k, or the last
 pub last_or_before : (j k : ℕ) → j < suc k → (j < k) ⊎ (j ≡ k)
 last_or_before j k l =
     elim (ltb j k) as (λ b. ltb j k ≡ b → (j < k) ⊎ (j ≡ k)) [
@@ -58,6 +60,7 @@ rise_is p k new s t steps =
 module _ (p : Past) (old : Keyboard) (cycles : ℕ) (watched : Bool) (k new : Keyboard)
     (so : GoesOnSo p old cycles watched k) (t : HasPast (gone_on p new.joint.steps) new)
     (steps : new.joint.steps ≡ suc k.joint.steps) (room : k.joint.cycle < old.joint.cycle + cycles) where
+  -- with a step more all states of the run are before its last cycle
   pub before_on : AreBefore p old.joint.steps new.joint.steps (old.joint.cycle + cycles)
   before_on j w from to h =
       let to_last : j < suc k.joint.steps = omega (arith, to, steps) in
@@ -71,6 +74,7 @@ module _ (p : Past) (old : Keyboard) (cycles : ℕ) (watched : Bool) (k new : Ke
             omega (arith, room, at, c)
       ]
 
+  -- if the line didn't rise in the step, it hasn't risen in the run
   pub calm_on : (watched ≡ true → rose (irq_of k.joint.outside.desk.port) (irq_of new.joint.outside.desk.port) ≡ false)
       → watched ≡ true → IsCalm p old.joint.steps new.joint.steps
   calm_on flat is j from to =
@@ -80,6 +84,7 @@ module _ (p : Past) (old : Keyboard) (cycles : ℕ) (watched : Bool) (k new : Ke
         | inr e ↦ ap (rises p) e ∙ rise_is p k new so.has_past t steps ∙ flat is
       ]
 
+  -- if the line didn't rise in the step, the run goes on
   pub goes_more : (watched ≡ true → rose (irq_of k.joint.outside.desk.port) (irq_of new.joint.outside.desk.port) ≡ false)
       → GoesOnSo p old cycles watched new
   goes_more flat = record {
@@ -89,6 +94,7 @@ module _ (p : Past) (old : Keyboard) (cycles : ℕ) (watched : Bool) (k new : Ke
     calm = calm_on flat;
   }
 
+  -- a rise that the machines show is a rise in the run of the past
   pub rose_here : rose (irq_of k.joint.outside.desk.port) (irq_of new.joint.outside.desk.port) ≡ true
       → rises p k.joint.steps ≡ true
   rose_here is = rise_is p k new so.has_past t steps ∙ is
@@ -119,5 +125,6 @@ both_true true true h = (refl, refl)
 both_true true false h = absurd (cc h)
 both_true false b h = absurd (cc h)
 
+-- a run that watches the line says that it rose exactly if it did
 pub rose_of : (watched r : Bool) (was is : Irq) → r ≡ (watched && rose was is) → r ≡ true → (watched ≡ true) × (rose was is ≡ true)
 rose_of watched r was is log_kept risen = both_true watched (rose was is) (sym log_kept ∙ risen)

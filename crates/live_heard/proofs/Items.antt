@@ -57,6 +57,7 @@ in_step p k items =
     ∙ append-nil (bytes_among (reported_at p k))
     ∙ between (story_of p) k (state_at (story_of p) k) (state_at (story_of p) (suc k)) refl refl
 
+-- the bytes that a keyboard reports of the wires are those that the controller takes and sends, in order
 pub bytes_passed : BytesArePassed
 bytes_passed p from zero all h = ap bytes_among h
 bytes_passed p from (suc n) all h =
@@ -87,6 +88,7 @@ all_alike s from (suc n) each =
     let last = sym (each (from + n)) in
     λ i. before i ++ last i
 
+-- in a lawful past they are those that are heard on the wires, in order
 pub bytes_heard : AnyMemoryHeard → BytesAreHeard
 bytes_heard law layout p stop from n all is bytes fine lawful h =
     let image = image_of layout in

@@ -16,6 +16,7 @@ use Rattle.mcs48_asm.proofs.Shapes.{byte-suits, if_none}
 use Rattle.mcs48_asm.proofs.Entries.{shown-numeral, token-comma, one-parts}
 use Rattle.mcs48_asm.proofs.EntryLines.{word-before, good-known, good-first, plain-line}
 
+-- a line DB and a byte, as a listing has it, is read as that byte
 pub byte_alone : (place n : ℕ) → n < 256 → IsRead (codes "DB " ++ value n) place (n ∷ [])
 byte_alone place n below =
     let v : List ℕ = value n in

@@ -33,6 +33,7 @@ names_capped names = λ q. option_map capped (names q)
 lt-capped : (k n : ℕ) → k < 65536 → nat_lt k (capped n) ≡ nat_lt k n
 lt-capped k n h = grind (arith, nat_tests)
 
+-- a number up to 65,536 is kept as it is
 pub small-capped : (n : ℕ) → n ≤ 65536 → capped n ≡ n
 small-capped n h = omega arith
 
@@ -61,6 +62,7 @@ start-capped p (Origin n) = refl
 start-capped p (Data vs) = refl
 start-capped p (Equate q n) = refl
 
+-- lines with 65,536 for each large number are placed as the lines themselves, with 65,536 for each large place
 pub placed-capped : (p : ℕ) (lines : List Line) → kept_places (capped p) (map line_capped lines) ≡ map at_capped (placed p lines)
 placed-capped p [] = refl
 placed-capped p (line ∷ lines) =
@@ -126,6 +128,7 @@ value-capped (d ∷ ds) q = found (bytes_eq q d.name) d ds q (value-capped ds q)
     found true d ds q h = refl
     found false d ds q h = h
 
+-- names of lines with 65,536 for each large number mean what they meant, or 65,536
 pub names-capped : (ps : List Placed) → value_named (definitions (map at_capped ps)) ≡ names_capped (value_named (definitions ps))
 names-capped ps =
     let each : (q : List ℕ) → value_named (definitions (map at_capped ps)) q ≡ option_map capped (value_named (definitions ps) q) =
@@ -318,6 +321,7 @@ filled_again-capped earlier at =
     (λ k h. ap (λ b. b && is_filled (map at_capped earlier) k) (covers-capped at k h)
     ∙ ap (λ b. covers at k && b) (filled-capped earlier k h))
 
+-- a line at a place of the memory has the same fault if large numbers are kept as 65,536
 pub fault-capped : (names : Meanings) (earlier : List Placed) (place : ℕ) (line : Line) → place ≤ 2048
     → fault_after (names_capped names) (map at_capped earlier)
     (at_capped (record { start = start_of place line.statement; line = line }))

@@ -53,6 +53,7 @@ onto-parts c w ws p ps comma none are =
     go (q ∷ qs) [] ps h = absurd (cc)
     go (q ∷ qs) (v ∷ vs) ps h = cc
 
+-- the tokens between commas are the tokens of the text's parts between commas
 pub parts-tokens : (text : List ℕ) → parts_of (tokens_of text) ≡ map tokens_of (slice_split is_comma text)
 parts-tokens [] = refl
 parts-tokens (c ∷ cs) =

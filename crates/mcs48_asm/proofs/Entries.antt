@@ -55,6 +55,7 @@ known-number : (a : Bool) (o : Option ℕ) (n : ℕ) → o ≡ Some n → (a || 
 known-number true o n h = refl
 known-number false o n h = ap is_some h
 
+-- a number as listings write it is a token that listings have, with # before it or without
 pub shown-numeral : (numeral : List ℕ) (n : ℕ) → IsNumeral (48 ∷ numeral) n → (is_shown (48 ∷ numeral) ≡ true)
     × (is_shown (35 ∷ 48 ∷ numeral) ≡ true)
 shown-numeral numeral n is =
@@ -68,6 +69,7 @@ shown-numeral numeral n is =
       and_from _ _ is.word (and_from _ _ (and_from _ _ refl (and_from _ _ refl plain)) all),
     )
 
+-- each operand of a listing is written as a token that listings have
 pub shown : (place : ℕ) (operand : Operand) → IsListed place operand → is_shown (operand_text place operand) ≡ true
 shown place (Is word) h = h
 shown place (Register r) h =
@@ -210,10 +212,12 @@ said_all place [] = fixed 0
 said_all place (operand ∷ []) = said_by place operand
 said_all place (operand ∷ other ∷ others) = joined (said_by place operand) (said_by place other)
 
+-- a token that isn't a comma alone isn't taken for one
 pub token-comma : (text : List ℕ) → is_token text ≡ true → is_comma_token text ≡ false
 token-comma [] h = refl
 token-comma (c ∷ cs) h = not-true (is_comma c) (and_parts (not (is_comma c)) _ (and_parts (not (is_blank c)) _ h).1).0
 
+-- one token that is no comma is one part
 pub one-parts : (t : List ℕ) → is_comma_token t ≡ false → parts_of (t ∷ []) ≡ (t ∷ []) ∷ []
 one-parts t h = slice_split-cons_no is_comma_token t [] h
 
@@ -225,6 +229,7 @@ comma-free : (place : ℕ) (operand : Operand) → IsListed place operand → is
 comma-free place operand h =
     token-comma (operand_text place operand) (and_parts (is_token (operand_text place operand)) _ (shown place operand h)).0
 
+-- three operands or more aren't two at most
 pub too-many : (n : ℕ) → nat_le (suc (suc (suc n))) 2 ≡ true → ⊥
 too-many n h = let no : suc (suc (suc n)) ≤ 2 = leb-true (suc (suc (suc n))) 2 h in omega (arith, no)
 
@@ -232,6 +237,7 @@ or-left : (a : Bool) → (a || false) ≡ true → a ≡ true
 or-left true h = refl
 or-left false h = h
 
+-- the operands of a listing are read by a form of the same kinds as what they say
 pub read-same : (place : ℕ) (forms operands : List Operand) → all_same forms operands ≡ true
     → nat_le (length operands) 2 ≡ true → AllListed place operands
     → read_all forms (operand_tokens place operands) ≡ Some (said_all place operands)
@@ -273,6 +279,7 @@ one-too-few : (f g : Operand) (gs : List Operand) (t : List ℕ) → read_parts 
 one-too-few f g [] t = refl
 one-too-few f g (h ∷ hs) t = refl
 
+-- the operands of a listing aren't read by a form that differs from them
 pub read-unlike : (place : ℕ) (forms operands : List Operand) → any_unlike forms operands ≡ true
     → nat_le (length operands) 2 ≡ true → AllListed place operands
     → read_all forms (operand_tokens place operands) ≡ None

@@ -101,12 +101,14 @@ tail-is place (o ∷ u ∷ []) few all =
     }
 tail-is place (o ∷ u ∷ w ∷ ws) few all = absurd (too-many (length ws) few)
 
+-- words as listings have them are names or numbers
 pub good-known : (words : List (List ℕ)) → list_all is_good_word words ≡ true → list_all is_known_word words ≡ true
 good-known [] h = refl
 good-known (w ∷ ws) h =
     let both = and_parts (is_good_word w) (list_all is_good_word ws) h in
     and_from _ _ (and_parts (is_known_word w) _ both.0).0 (good-known ws both.1)
 
+-- the first word of a listing's line isn't EQU
 pub good-first : (words : List (List ℕ)) → list_all is_good_word words ≡ true → bytes_eq (first_of words) (codes "EQU") ≡ false
 good-first [] h = refl
 good-first (w ∷ ws) h =
@@ -178,6 +180,7 @@ word-line place (c ∷ cs) first operands h few hit all =
           ),
     )
 
+-- the line of a listing that an entry of the table writes says the entry's instruction
 pub entry-line : (place : ℕ) (entry : Entry) → is_entry entry ≡ true → AllListed place entry.operands
     → IsPlain (entry_text place entry)
     × (line_of (entry_text place entry) ≡ said (instruction_with entry.first (said_all place entry.operands)))

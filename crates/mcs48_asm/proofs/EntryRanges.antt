@@ -94,6 +94,7 @@ unfolding instructions is_instruction
 controls Nop = (refl, tt)
 controls op = (refl, tt)
 
+-- each operation's entry in the table is one that listings have, and its numbers are in their ranges
 pub entries : (op : Op) → IsOp op → IsRight (entry_of op)
 entries (Moves op) within = moves op within
 entries (Alu op) within = alus op within

@@ -13,6 +13,7 @@ use Rattle.mcs48_asm.specs.Statements.{Data, values_of}
 use Rattle.mcs48_asm.specs.Capped.{value_capped, statement_capped}
 use Rattle.mcs48_asm.specs.Kept.{kept_value, kept_part}
 
+-- a name in the map has the value that is kept for it
 pub lookup-kept : (entries : List (Bor (List ℕ) × ℕ)) (name : List ℕ)
     → lookup (λ (key : Bor (List ℕ)). bytes_eq name key.now) entries ≡ kept_value entries name
 lookup-kept [] name = refl
@@ -45,6 +46,7 @@ or_none : (o : Option ℕ) → o ≡ option_or o None
 or_none (Some x) = refl
 or_none None = refl
 
+-- to add a value for a name that has one changes no name's value
 pub present : (entries : List (Bor (List ℕ) × ℕ)) (name other : List ℕ) (value : ℕ) (b : Bool)
     → (b ≡ true → other ≡ name) → is_some (kept_value entries name) ≡ true
     → kept_value entries other ≡ option_or (kept_value entries other) (cond b (Some value) None)
@@ -62,6 +64,7 @@ pub none_kept : (found : Option (Bor ℕ)) (entries : List (Bor (List ℕ) × �
 none_kept None entries name h k = sym h
 none_kept (Some x) entries name h k = absurd (cc)
 
+-- if the map finds a name, a value is kept for it
 pub some_kept : (found : Option (Bor ℕ)) (entries : List (Bor (List ℕ) × ℕ)) (name : List ℕ)
     → option_copied found ≡ kept_value entries name → is_some found ≡ true → is_some (kept_value entries name) ≡ true
 some_kept None entries name h k = absurd (cc)
@@ -88,12 +91,14 @@ kept_parts : (parts : List (List ℕ)) → map kept_part parts ≡ map value_cap
 kept_parts [] = refl
 kept_parts (part ∷ parts) = ap (λ more. kept_part part ∷ more) (kept_parts parts)
 
+-- if all parts of a DB line write values, the kept values are the line's data
 pub data-kept : (parts : List (List ℕ)) → is_some (values_of (map tokens_of parts)) ≡ true
     → Some (Data (map kept_part parts)) ≡ option_map statement_capped (option_map Data (values_of (map tokens_of parts)))
 data-kept parts h =
     ap (λ values. Some (Data values)) (kept_parts parts)
     ∙ sym (ap (λ values. option_map statement_capped (option_map Data values)) (values_of-parts parts h))
 
+-- if a part of a DB line writes no value, the line has no data
 pub data-none : (values : Option (List Value)) → is_some values ≡ false → None ≡ option_map statement_capped (option_map Data values)
 data-none None h = refl
 data-none (Some x) h = absurd (cc)

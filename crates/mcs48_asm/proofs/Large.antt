@@ -152,6 +152,7 @@ answers ps (Some x) is capped_is same =
     ∙ sym (ap (λ names. outcome_of names (map at_capped ps)) (names-capped ps)
     ∙ ap (λ f. image_unless f (image_of (names_capped (value_named (definitions ps))) (map at_capped ps))) capped_is)
 
+-- the answer for a source is the same if 65,536 is kept for each larger number and place
 pub large-numbers : (lines : List Line) → answer_of (placed 0 lines) ≡ answer_of (kept_places 0 (map line_capped lines))
 large-numbers lines =
     let ps = placed 0 lines in

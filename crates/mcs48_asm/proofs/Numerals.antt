@@ -39,6 +39,7 @@ two-are a b n ha hb e = grind (arith, nat_tests)
 three-are : (a b c n : ℕ) → a < 16 → b < 16 → c < 16 → n ≡ (a * 16 + b) * 16 + c → three_digits a b c ≡ Some n
 three-are a b c n ha hb hc e = grind (arith, nat_tests)
 
+-- a byte as a listing writes it is read as the byte
 pub value-number : (n : ℕ) → n < 256 → number_of (value n) ≡ Some n
 value-number n h =
     two-in (hex_digit (n / 16)) (hex_digit (n % 16))
@@ -46,6 +47,7 @@ value-number n h =
     ∙ ap (two_digits (n / 16)) (digit-back (n % 16) (omega arith))
     ∙ two-are (n / 16) (n % 16) n (omega arith) (omega arith) (omega arith)
 
+-- an address as a listing writes it is read as the address
 pub address-number : (a : ℕ) → a < 2048 → number_of (address a) ≡ Some a
 address-number a h =
     three-in (hex_digit (a / 256 % 16)) (hex_digit (a % 256 / 16)) (hex_digit (a % 256 % 16))

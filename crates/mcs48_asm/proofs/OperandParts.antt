@@ -14,26 +14,31 @@ by-parts : (operand : Operand) (operands : List Operand) (text : List ℕ) (part
     → read_parts (operand ∷ operands) (map tokens_of parts) ≡ read_all (operand ∷ operands) (tokens_of text)
 by-parts operand operands text parts cut = sym (ap (read_parts (operand ∷ operands)) (parts-tokens text ∙ ap (map tokens_of) cut))
 
+-- a text without a comma is read by a form of one operand as that operand
 pub read_one-one : (operand : Operand) (text : List ℕ) → slice_split is_comma text ≡ text ∷ []
     → read operand (tokens_of text) ≡ read_all (operand ∷ []) (tokens_of text)
 read_one-one operand text one = by-parts operand [] text (text ∷ []) one
 
+-- a text with a comma isn't read by a form of one operand
 pub read_one-more : (operand : Operand) (text front back : List ℕ)
     → slice_split is_comma text ≡ front ∷ slice_split is_comma back → None ≡ read_all (operand ∷ []) (tokens_of text)
 read_one-more operand text front back split =
     let more = split-is_cons is_comma back in
     by-parts operand [] text (front ∷ more.first ∷ more.rest) (split ∙ ap (λ rest. front ∷ rest) more.is)
 
+-- a text without a comma isn't read by a form of two operands
 pub read_two-one : (first second : Operand) (text : List ℕ) → slice_split is_comma text ≡ text ∷ []
     → None ≡ read_all (first ∷ second ∷ []) (tokens_of text)
 read_two-one first second text one = by-parts first (second ∷ []) text (text ∷ []) one
 
+-- a text with one comma is read by a form of two operands, a part each
 pub read_two-two : (first second : Operand) (text front back : List ℕ)
     → slice_split is_comma text ≡ front ∷ slice_split is_comma back → slice_split is_comma back ≡ back ∷ []
     → both (read first (tokens_of front)) (read second (tokens_of back)) ≡ read_all (first ∷ second ∷ []) (tokens_of text)
 read_two-two first second text front back split other =
     by-parts first (second ∷ []) text (front ∷ back ∷ []) (split ∙ ap (λ rest. front ∷ rest) other)
 
+-- a text with two commas isn't read by a form of two operands
 pub read_two-more : (first second : Operand) (text front back middle last : List ℕ)
     → slice_split is_comma text ≡ front ∷ slice_split is_comma back → slice_split is_comma back ≡ middle ∷ slice_split is_comma last
     → None ≡ read_all (first ∷ second ∷ []) (tokens_of text)

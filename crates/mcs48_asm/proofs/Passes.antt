@@ -71,6 +71,7 @@ sound None false false false false true f h = absurd (cc)
 sound None false false false false false true h = absurd (cc)
 sound None false false false false false false h = record { numbers = refl; within = refl; apart = refl }
 
+-- a line without a fault has no refused number, ends within the memory, and fills no place again
 pub sound-line : (names seen : Meanings) (f : ℕ → Bool) (at : Placed) → fault_of names seen f at ≡ None
     → IsSound (is_refused names at) (is_past_end at) (is_filled_again f at)
 sound-line names seen f at h =
@@ -85,6 +86,7 @@ places-none f k h l =
     ≡ true = list_any_at f places k 0 (rw (length-range_with_len 0 2048) l)
     (ap f (get_or-range_with_len 0 2048 k 0 l ∙ zero-add k) ∙ t) in absurd (cc))
 
+-- if an and is false and its first part true, the second part is false
 pub and_true : (a b : Bool) → (a && b) ≡ false → a ≡ true → b ≡ false
 and_true true b h t = h
 and_true false b h t = absurd (cc)

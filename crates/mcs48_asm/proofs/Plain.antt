@@ -47,23 +47,30 @@ uncut p q none (c ∷ cs) all =
     ap (λ b. take (cond (not b) (1 + prefix_len (λ x. not (q x)) cs) 0) (c ∷ cs)) (none c both.0)
     ∙ ap (λ n. take n (c ∷ cs)) (one-add (prefix_len (λ x. not (q x)) cs)) ∙ ap (λ rest. c ∷ rest) (uncut p q none cs both.1)
 
+-- a character of a listing is in upper case already
 pub plain-upper : (c : ℕ) → is_plain c ≡ true → to_ascii_uppercase c ≡ c
 plain-upper c h = grind (arith, nat_tests)
 
+-- a character of a listing is allowed in a source
 pub plain-allowed : (c : ℕ) → is_plain c ≡ true → is_allowed c ≡ true
 plain-allowed c h = grind (arith, nat_tests)
 
+-- a character of a listing begins no comment
 pub plain-semicolon : (c : ℕ) → is_plain c ≡ true → is_semicolon c ≡ false
 plain-semicolon c h = grind (arith, nat_tests)
 
+-- a character of a listing ends no label
 pub plain-colon : (c : ℕ) → is_plain c ≡ true → is_colon c ≡ false
 plain-colon c h = grind (arith, nat_tests)
 
+-- a character of a listing isn't LF
 pub plain-newline : (c : ℕ) → is_plain c ≡ true → (c == 10) ≡ false
 plain-newline c h = grind (arith, nat_tests)
 
+-- a character of a listing isn't CR
 pub plain-return : (c : ℕ) → is_plain c ≡ true → (c == 13) ≡ false
 plain-return c h = grind (arith, nat_tests)
 
+-- letters, digits and _ are characters of listings
 pub word-plain : (c : ℕ) → is_word_character c ≡ true → is_plain c ≡ true
 word-plain c h = grind (arith, nat_tests)

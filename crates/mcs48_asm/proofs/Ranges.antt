@@ -7,16 +7,19 @@ use Rattle.std.specs.List.{list_any, range_with_len}
 use Rattle.std.proofs.lemmas.Bool.Decides.{nat_tests}
 use Rattle.mcs48_asm.specs.Places.{places}
 
+-- some place from one on passes a test exactly if this one does or a later one
 pub any_range-step : (f : ℕ → Bool) (n place : ℕ) → place < n
     → list_any f (range_with_len place (n - place)) ≡ (f place || list_any f (range_with_len (place + 1) (n - (place + 1))))
 any_range-step f n place h =
     let e : n - place ≡ suc (n - (place + 1)) = omega arith in
     ap (λ k. list_any f (range_with_len place k)) e
 
+-- if this place fails the test, some place passes exactly if a later one does
 pub any_range-false : (f : ℕ → Bool) (n place : ℕ) → place < n → f place ≡ false
     → list_any f (range_with_len place (n - place)) ≡ list_any f (range_with_len (place + 1) (n - (place + 1)))
 any_range-false f n place h t = any_range-step f n place h ∙ ap (λ b. b || list_any f (range_with_len (place + 1) (n - (place + 1)))) t
 
+-- past the last place none passes
 pub any_range-end : (f : ℕ → Bool) (n place : ℕ) → n ≤ place → list_any f (range_with_len place (n - place)) ≡ false
 any_range-end f n place h =
     let e : n - place ≡ 0 = omega arith in
@@ -45,6 +48,7 @@ pub places-of : (n : ℕ) → n ≡ 2048 → range_with_len 0 n ≡ places
 unfolding places
 places-of n e = ap (range_with_len 0) e
 
+-- a search from place 0 to 2,048 is one over all places
 pub any_places : (f : ℕ → Bool) (n : ℕ) → n ≡ 2048 → list_any f (range_with_len 0 n) ≡ list_any f places
 any_places f n e = ap (list_any f) (places-of n e)
 
@@ -55,6 +59,7 @@ any_range-alike f g place zero h = refl
 any_range-alike f g place (suc n) h =
     rw (h place (omega arith)) (ap (λ b. g place || b) (any_range-alike f g (place + 1) n (λ k l. h k (omega (arith, l)))))
 
+-- tests that say the same of each place find the same
 pub any_places-alike : (f g : ℕ → Bool) → ((k : ℕ) → k < 2048 → f k ≡ g k) → list_any f places ≡ list_any g places
 unfolding places
 any_places-alike f g h = any_range-alike f g 0 2048 h

@@ -28,6 +28,7 @@ none-first (form ∷ forms) all name long =
     ap (λ b. b || list_any (λ form. bytes_eq form.word name) forms) (other-length form.word name both.0 long)
     ∙ none-first forms both.1 name long
 
+-- a name of more than five characters isn't reserved
 pub reserved_long : (name : List ℕ) → nat_le (length name) 5 ≡ false → is_reserved name ≡ false
 unfolding is_reserved reserved is_instruction instructions
 reserved_long name long = ap (λ b. b || is_instruction name) (none-held reserved refl name long) ∙ none-first instructions refl name long

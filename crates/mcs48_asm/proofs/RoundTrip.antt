@@ -34,6 +34,7 @@ reads_at memory bytes place =
     let n : ℕ = slice_index memory (place + 1) in
     row_at-reads (row_of b n) b n place (bytes place) (row_reads b (bytes place) place n (bytes (place + 1)))
 
+-- the listing of each program memory assembles to that memory
 pub round_trip : (memory : List ℕ) → length memory ≡ 2048 → All (λ byte. byte < 256) memory → assembly_of (listing_of memory) ≡ Ok memory
 round_trip memory long all =
     let bytes = byte_below memory all in

@@ -33,6 +33,7 @@ bare text place opcode plain line =
 abbrev pub Suits : ℕ → Role → ℕ → Type 0
 Suits place role n = (names : Meanings) → (is_past names role (Number n) ≡ false) × (is_outside names place role (Number n) ≡ false)
 
+-- if a number isn't refused and the jump is in its page, only later faults are left
 pub if_none : (refused off : Bool) (late : Option Flaw) → refused ≡ false → off ≡ false
     → (if refused then Some Misfit else (if off then Some OffPage else late)) ≡ late
 if_none refused off late no_refusal no_jump = rw (no_refusal, no_jump) refl
@@ -56,6 +57,7 @@ with_number text place opcode role n first second plain line suits bytes =
           (ap (λ b. (b || false) || false || false || false || false) (suits names).0) (ap (λ b. b || false) (suits names).1);
     }
 
+-- a byte is no refused number, and no jump
 pub byte-suits : (place n : ℕ) → n < 256 → Suits place role.Byte n
 byte-suits place n below names = (le-ltb 255 n (omega arith), refl)
 
@@ -63,9 +65,11 @@ byte-suits place n below names = (le-ltb 255 n (omega arith), refl)
 pub target-below : (place n : ℕ) → place + 2 ≤ 2048 → n < 256 → target place n < 2048
 target-below place n fits below = omega arith
 
+-- the low byte of a target is the jump's byte
 pub target-low : (place n : ℕ) → n < 256 → target place n % 256 ≡ n
 target-low place n below = omega arith
 
+-- a jump's target in a listing is an address in its page
 pub target-suits : (place n : ℕ) → place + 2 ≤ 2048 → n < 256 → Suits place role.Target (target place n)
 target-suits place n fits below names =
     let page : target place n / 256 ≡ (place + 1) / 256 = omega arith in

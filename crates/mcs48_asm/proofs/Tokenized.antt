@@ -14,9 +14,11 @@ use Rattle.mcs48_asm.specs.Tokens.{words_of, goes_on, before_tokens, tokens_of}
 pub word-blank : (c : ℕ) → is_word_character c ≡ true → is_blank c ≡ false
 word-blank c h = grind (arith, nat_tests)
 
+-- a letter, a digit or _ isn't a comma
 pub word-comma : (c : ℕ) → is_word_character c ≡ true → is_comma c ≡ false
 word-comma c h = grind (arith, nat_tests)
 
+-- a comma isn't a letter, a digit or _
 pub comma-word : (c : ℕ) → is_comma c ≡ true → is_word_character c ≡ false
 comma-word c h = grind (arith, nat_tests)
 
@@ -27,15 +29,18 @@ comma-blank c h = grind (arith, nat_tests)
 pub before-blank : (c : ℕ) (g : Bool) (ts : List (List ℕ)) → is_blank c ≡ true → before_tokens c g ts ≡ ts
 before-blank c g ts h = ap (λ b. cond b ts (cond (g && not (is_comma c)) (onto_first c ts) ((c ∷ []) ∷ ts))) h
 
+-- a character that is no blank, before a text that doesn't go on with a letter, is a token of its own
 pub before-apart : (c : ℕ) (ts : List (List ℕ)) → is_blank c ≡ false → before_tokens c false ts ≡ (c ∷ []) ∷ ts
 before-apart c ts h = ap (λ b. cond b ts ((c ∷ []) ∷ ts)) h
 
+-- a comma is a token of its own
 pub before-comma : (c : ℕ) (g : Bool) (ts : List (List ℕ)) → is_comma c ≡ true → before_tokens c g ts ≡ (c ∷ []) ∷ ts
 before-comma c true ts h =
     ap (λ b. cond b ts (cond (true && not (is_comma c)) (onto_first c ts) ((c ∷ []) ∷ ts))) (comma-blank c h)
     ∙ ap (λ b. cond (true && not b) (onto_first c ts) ((c ∷ []) ∷ ts)) h
 before-comma c false ts h = before-apart c ts (comma-blank c h)
 
+-- a character that is neither blank nor comma is joined to the token after it, if the text goes on with a letter
 pub before-joined : (c : ℕ) (ts : List (List ℕ)) → is_blank c ≡ false → is_comma c ≡ false → before_tokens c true ts ≡ onto_first c ts
 before-joined c ts h k = ap (λ b. cond b ts (cond (true && not (is_comma c)) (onto_first c ts) ((c ∷ []) ∷ ts))) h
     ∙ ap (λ b. cond (true && not b) (onto_first c ts) ((c ∷ []) ∷ ts)) k
@@ -63,6 +68,7 @@ abbrev pub is_token : List ℕ → Bool
 is_token [] = false
 is_token (c ∷ cs) = not (is_blank c) && (not (is_comma c) && list_all is_word_character cs)
 
+-- a token before a text that doesn't go on with a letter is the first token
 pub token-before : (text rest : List ℕ) → is_token text ≡ true → goes_on rest ≡ false → tokens_of (text ++ rest) ≡ text ∷ tokens_of rest
 token-before [] rest h ends = absurd (cc)
 token-before (c ∷ cs) rest h ends =
@@ -70,6 +76,7 @@ token-before (c ∷ cs) rest h ends =
     let second = and_parts (not (is_comma c)) _ first.1 in
     token-run c cs rest (not-true (is_blank c) first.0) (not-true (is_comma c) second.0) second.1 ends
 
+-- a token alone is one token
 pub token-one : (text : List ℕ) → is_token text ≡ true → tokens_of text ≡ text ∷ []
 token-one text h = ap tokens_of (sym (append-nil text)) ∙ token-before text [] h refl
 
@@ -107,6 +114,7 @@ pub kept : (c : ℕ) (cs : List ℕ) (parts : List (List ℕ)) → filter is_wor
 kept c cs parts = let some : is_word (c ∷ cs) ≡ true = grind (arith, nat_tests) in
     ap (λ b. cond b ((c ∷ cs) ∷ filter is_word parts) (filter is_word parts)) some
 
+-- letters before a text that doesn't go on with one are the first word
 pub words-run : (c : ℕ) (cs rest : List ℕ) → list_all is_word_character (c ∷ cs) ≡ true → goes_on rest ≡ false
     → words_of ((c ∷ cs) ++ rest) ≡ (c ∷ cs) ∷ words_of rest
 words-run c cs rest all ends =
@@ -141,6 +149,7 @@ split-before (c ∷ cs) m rest h = go (is_between c) (split-before cs m rest h)
     go true more = ap (λ parts. [] ∷ parts) more
     go false more = ap (onto_first c) more ∙ onto-append c cs (slice_split is_between rest)
 
+-- a character of no word parts the words before it from those after it
 pub words-before : (text : List ℕ) (m : ℕ) (rest : List ℕ) → is_word_character m ≡ false
     → words_of (text ++ m ∷ rest) ≡ words_of text ++ words_of rest
 words-before text m rest h = ap (filter is_word) (split-before text m rest (ap not h))

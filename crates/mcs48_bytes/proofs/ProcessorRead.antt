@@ -128,6 +128,7 @@ fits m pc pre sp =
     let r = are_read m sp in
     all_three _ _ _ (ap (λ n. nat_lt n 4096) counter ∙ near) few r.one
 
+-- a processor is read from its bytes
 pub processor_read : (s : List ℕ) (m : Cpu) → s ≡ processor_bytes m → m.pc < 4096 → m.pre < 32 → m.sp < 8
     → processor_in s m.ram ≡ Some m
 processor_read s m e pc pre sp =

@@ -191,6 +191,7 @@ control_coded : (op : ControlOp) → IsCoded (Control op)
 control_coded Nop = (refl, refl)
 control_coded op = (refl, refl)
 
+-- the bytes of each operation are read as that operation, with its length
 pub coded : (op : Op) → IsOp op → IsCoded op
 coded (Moves op) within = move_coded op within
 coded (Alu op) within = alu_coded op within
@@ -210,6 +211,7 @@ coded_operation op within code is =
     rw is (weakened (row_of_code (code_of op)) (λ d. (d.op ≡ op) × (d.len ≡ (code_of op).len)) (λ d. d.op ≡ op)
     (λ d parts. parts.0) (coded op within))
 
+-- the bytes of each operation are read with its length
 pub coded_length : (op : Op) → IsOp op → (code : Code) → code ≡ code_of op →
     IsSomeAnd (row_of_code code) (λ d. d.len ≡ code.len)
 coded_length op within code is =

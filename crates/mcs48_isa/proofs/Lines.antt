@@ -30,6 +30,7 @@ end_of-zero bytes i h zero_there =
     end_of-take bytes i h
     ∙ ap (λ t. if t then end_of (take i bytes) else suc (length (take i bytes))) (eq-eqb (slice_index bytes i) 0 zero_there)
 
+-- up to a byte that isn't 00 a program ends after that byte
 pub end_of-other : (bytes : List ℕ) (i : ℕ) → i < length bytes → slice_index bytes i ≢ 0 → end_of (take (i + 1) bytes) ≡ i + 1
 end_of-other bytes i h other =
     let no : nat_eq (slice_index bytes i) 0 ≡ false = grind (arith, nat_tests) in
@@ -59,6 +60,7 @@ some_size : (row : Option Decoded) → IfSome row (λ d. 0 < d.len) → 0 < size
 some_size (Some d) some = some
 some_size None some = lit< tt
 
+-- an instruction of the listing, or a byte alone, ends within the 2,048 places
 pub size_within : (row : Option Decoded) (place : ℕ) → place < 2048 → IfSome row (λ d. place + d.len ≤ 2048) → place + size_of row ≤ 2048
 size_within (Some d) place below within = within
 size_within None place below within = omega arith

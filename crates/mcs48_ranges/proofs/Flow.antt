@@ -29,21 +29,26 @@ use Rattle.mcs48_ranges.proofs.Parts.{read_byte, status_small, with_a, with_pc, 
 use Rattle.mcs48_ranges.proofs.Parts.{and_byte}
 use Rattle.mcs48_ranges.proofs.Moves.{alu_fine, unary_fine, move_fine}
 
+-- a place in the counter's page is in the 4,096 places of the program
 pub page_fine : (m : Cpu) (n : ℕ) → n < 256 → IsFine m → in_page m.pc n < 4096
 page_fine m n l h = let k : m.pc < 4096 = h.pc in omega (arith, l, k)
 
+-- a jump within the page, made or not, keeps all ranges
 pub branch_fine : (c : Bool) (m : Cpu) (n : ℕ) → n < 256 → IsFine m → IsFine (branch c n m)
 branch_fine true m n l h = with_pc m (in_page m.pc n) (page_fine m n l h) h
 branch_fine false m n l h = past_fine m h
 
+-- the bit of the memory bank is 0 or 1
 pub bank_small : (m : Cpu) (mb svc : Bool) → bank_bit (record m { mb = mb; svc = svc }) ≤ 1
 bank_small m false svc = omega arith
 bank_small m true true = omega arith
 bank_small m true false = omega arith
 
+-- a far jump goes to a place of the program's 4,096
 pub far_fine : (m : Cpu) (to : ℕ) → to < 2048 → 2048 * bank_bit m + to < 4096
 far_fine m to l = let k : bank_bit m ≤ 1 = bank_small m m.mb m.svc in omega (arith, l, k)
 
+-- to push the counter and the status keeps all ranges
 pub pushed_fine : (m : Cpu) → IsFine m → IsFine (pushed m)
 pushed_fine m h =
     let s : high_status m < 16 = status_small m in
@@ -54,12 +59,14 @@ pushed_fine m h =
     let two = with_cell (record m { ram = ram }) (9 + 2 * m.sp) (16 * high_status m + m.pc / 256) high one in
     with_sp (record m { ram = set ram (9 + 2 * m.sp) (16 * high_status m + m.pc / 256) }) ((m.sp + 1) % 8) (omega arith) two
 
+-- to return keeps all ranges
 pub returned_fine : (m : Cpu) → IsFine m → IsFine (returned m)
 returned_fine m h =
     let low : get_or m.ram (8 + 2 * popped m) 0 < 256 = read_byte m.ram (8 + 2 * popped m) h.ram in
     with_pc (record m { sp = popped m }) (popped_high m % 16 * 256 + get_or m.ram (8 + 2 * popped m) 0)
     (omega (arith, low)) (with_sp m (popped m) (omega arith) h)
 
+-- each operation that jumps, calls or returns keeps all ranges
 pub flow_fine : (op : FlowOp) (bytes : List ℕ) (pins : Pins) (m : Cpu) → All IsByte bytes → small_flow op ≡ true
     → IsFine m → IsFine (flow op bytes pins m)
 flow_fine (Jmp to) bytes pins m b s h = with_pc m (2048 * bank_bit m + to) (far_fine m to (lt_of to 2048 s)) h
@@ -88,11 +95,13 @@ flow_fine (Jf1 to) bytes pins m b s h = branch_fine m.f1 m to (lt_of to 256 s) h
 flow_fine (Jtf to) bytes pins m b s h = branch_fine m.tf m to (lt_of to 256 s) h
 flow_fine (Jni to) bytes pins m b s h = branch_fine (not pins.int_pin) m to (lt_of to 256 s) h
 
+-- bytes in the three port latches keep all ranges
 pub with_ports : (m : Cpu) (x y z : ℕ) → x < 256 → y < 256 → z < 256 → IsFine m
     → IsFine (record m { p1 = x; p2 = y; bus = z })
 with_ports m x y z a b c h =
     record { pc = h.pc; a = h.a; ram = h.ram; long = h.long; t = h.t; pre = h.pre; p1 = a; p2 = b; bus = c; sp = h.sp }
 
+-- each operation of a port keeps all ranges
 pub port_fine : (op : PortOp) (pins : Pins) (m : Cpu) → IsFinePins pins → small_port op ≡ true → IsFine m
     → IsFine (port op pins m)
 port_fine InP1 pins m p s h = with_a m (bit_and m.p1 pins.p1) (and_byte m.p1 pins.p1 h.p1) h
@@ -118,12 +127,14 @@ port_fine (MovdPA k) pins m p s h = h
 port_fine (OrldPA k) pins m p s h = h
 port_fine (AnldPA k) pins m p s h = h
 
+-- each operation of control keeps all ranges
 pub control_fine : (op : ControlOp) (m : Cpu) → IsFine m → IsFine (control op m)
 control_fine Nop m h = h
 control_fine StrtT m h =
     record { pc = h.pc; a = h.a; ram = h.ram; long = h.long; t = h.t; pre = omega arith; p1 = h.p1; p2 = h.p2; bus = h.bus; sp = h.sp }
 control_fine op m h = h
 
+-- each operation keeps all ranges
 pub effect_fine : (op : Op) (bytes : List ℕ) (pins : Pins) (m : Cpu) → All IsByte bytes → IsFinePins pins
     → small op ≡ true → IsFine m → IsFine (effect op bytes pins m)
 effect_fine (Moves op) bytes pins m b p s h = move_fine op bytes m b s h

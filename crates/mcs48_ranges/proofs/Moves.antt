@@ -25,6 +25,7 @@ use Rattle.mcs48_ranges.proofs.Operands.{small_move, small_alu}
 use Rattle.mcs48_ranges.proofs.Parts.{read_byte, digit_small, with_a, with_cell, with_sp, past_fine, register_byte, indirect_byte}
 use Rattle.mcs48_ranges.proofs.Parts.{lt_of, digits_byte, psw_byte, and_byte}
 
+-- each sum and each logical operation on A keeps all ranges
 pub alu_fine : (op : AluOp) (m : Cpu) → small_alu op ≡ true → IsFine m → IsFine (alu op m)
 alu_fine (AddR r) m s h = with_a m ((m.a + register r m) % 256) (omega arith) h
 alu_fine (AddI i) m s h = with_a m ((m.a + indirect i m) % 256) (omega arith) h
@@ -42,6 +43,7 @@ alu_fine (XrlR r) m s h = with_a m (bit_xor m.a (register r m)) (xor_of_8 m.a (r
 alu_fine (XrlI i) m s h = with_a m (bit_xor m.a (indirect i m)) (xor_of_8 m.a (indirect i m) h.a (indirect_byte i m h)) h
 alu_fine (XrlN n) m s h = with_a (past m) (bit_xor m.a n) (xor_of_8 m.a n h.a (lt_of n 256 s)) (past_fine m h)
 
+-- each operation of one operand keeps all ranges
 pub unary_fine : (op : UnaryOp) (m : Cpu) → IsFine m → IsFine (unary op m)
 unary_fine IncA m h = with_a m ((m.a + 1) % 256) (omega arith) h
 unary_fine (IncR r) m h = with_cell m (bank_start m.rb + r) ((register r m + 1) % 256) (omega arith) h
@@ -67,6 +69,7 @@ unary_fine CplF0 m h = with_a m m.a h.a h
 unary_fine ClrF1 m h = with_a m m.a h.a h
 unary_fine CplF1 m h = with_a m m.a h.a h
 
+-- each move keeps all ranges
 pub move_fine : (op : MoveOp) (bytes : List ℕ) (m : Cpu) → All IsByte bytes → small_move op ≡ true → IsFine m
     → IsFine (move op bytes m)
 move_fine (MovAN n) bytes m b s h = with_a (past m) n (lt_of n 256 s) (past_fine m h)

@@ -79,6 +79,7 @@ gives_low op = true
 low : (r : ℕ) → r < 8 → ltb r 8 ≡ true
 low r h = grind (arith, nat_tests, h)
 
+-- a register that an instruction of the set names is one of the eight
 pub operands_low : (op : Op) → IsOp op → gives_low op ≡ true
 operands_low (Moves (MovRN r n)) o = low r o
 operands_low (Unary (IncR r)) o = low r o

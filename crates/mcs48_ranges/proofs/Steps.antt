@@ -33,6 +33,7 @@ pre_small Timer Counter c m k l = l
 pre_small Off after c m k l = l
 pre_small Counter after c m k l = l
 
+-- what the timer does in a step of at most two cycles keeps all ranges
 pub timer_fine : (before : Count) (c : ℕ) (pins : Pins) (m : Cpu) → c ≤ 2 → IsFine m
     → IsFine (after_timer before c pins m)
 timer_fine before c pins m k h = record {

@@ -149,6 +149,7 @@ module _ (layout : KeyLayout) (history : KeyHistory) (starts : ℕ → ℕ) wher
       (carried history.host begins (288 + start) later)
       (carries history.host begins (288 + start) wrong later (met_so n wrong (at_start_so n)))
 
+  -- at each tick the controller's count of resends is that of the bytes that came wrong in a row
   pub counted : (n : ℕ) → IsCounted layout history starts n
   counted n =
       let w : Whole LayeredKeyboard = at_tick layout history starts n in

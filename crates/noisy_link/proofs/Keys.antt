@@ -85,6 +85,7 @@ sent_by (Some reply) keys byte k r e = by reply.resets
     by true = record { test = refl; last = refl }
     by false = record { test = e; last = refl }
 
+-- after a byte is sent it is the one that the keyboard sends again if it is asked for it
 pub last_sent : (keys : Keys) (edges : List TickEdge) (byte : ℕ) (k : Keyboard)
     → k.test ≡ 0 → offer k ≡ Some byte → IsLastSent (pause k) (asked_for byte k) (ticked keys kbd.Sent edges k)
 last_sent keys edges byte k e o =
@@ -128,6 +129,7 @@ untested Ready keys k = refl
 untested WantRate keys k = refl
 untested WantLights keys k = refl
 
+-- after FE (hexadecimal) the keyboard offers the last byte that it sent
 pub resends : (keys : Keys) (edges : List TickEdge) (byte : ℕ) (k : Keyboard)
     → IsLastSent 0 byte k → Replies byte (ticked keys (kbd.Got 0xfe true) edges k)
 resends keys edges byte k h =

@@ -28,6 +28,7 @@ turn_of now next d = turn now d.port.filled next (host_of d)
 abbrev pub IsRequest : ℕ → LinkEnd UnderWay → Type 0
 IsRequest byte p = p.link ≡ Request byte
 
+-- a byte that is requested stays so while nothing comes over the link
 pub request_stays : (byte : ℕ) → Stays (IsRequest byte)
 request_stays byte now next d h = ap (λ (l : Link UnderWay). (after_turn now (turn_of now next d) (record d.port { link = l })).link) h
 
@@ -45,6 +46,7 @@ settles_ask : (byte since now : ℕ) (next : Option HostEvent) (d : Desk UnderWa
     → (cycled is_open now next d).desk.port.link ≡ (if nat_le (since + 64) now then Request byte else Ask byte since)
 settles_ask byte since now next d h = ap (λ (l : Link UnderWay). (after_turn now (turn_of now next d) (record d.port { link = l })).link) h
 
+-- a byte that is asked for stays so, or is requested, while nothing comes over the link
 pub asked_stays : (byte since : ℕ) → Stays (IsAsked byte since)
 asked_stays byte since now next d (inl h) =
     asked_by byte since now (nat_le (since + 64) now) (cycled is_open now next d).desk.port.link (settles_ask byte since now next d h)
@@ -58,6 +60,7 @@ late_request byte since now next d late (inl h) =
     settles_ask byte since now next d h ∙ ap (λ b. if b then Request byte else Ask byte since) t
 late_request byte since now next d late (inr h) = request_stays byte now next d h
 
+-- a byte that was asked for 64 cycles ago or earlier is requested
 pub requested : (byte since : ℕ) (events : List HostEvent) (n now : ℕ) (m : Side UnderWay)
     → 1 ≤ n → since + 64 ≤ now → IsAsked byte since m.port → IsRequest byte (quietly events n now m).port
 requested byte since events zero now m some late h = absurd (omega (arith, some))
@@ -73,6 +76,7 @@ pub record AwaitsReply (p : LinkEnd UnderWay) : Type 0 where
 with_both : (p : LinkEnd UnderWay) (l : Link UnderWay) → p.link ≡ l → p.awaits ≡ true → p ≡ record p { link = l; awaits = true }
 with_both p l h a = ap (λ v. record p { link = v }) h ∙ ap (λ v. record p { link = l; awaits = v }) a
 
+-- while a reply is awaited and nothing comes over the link, the link stays free
 pub awaits_stays : Stays AwaitsReply
 awaits_stays now next d h =
     let t : Turn = turn_of now next d in

@@ -52,6 +52,7 @@ one_more all a r g k r' g' k' h e =
     (swaps r (g ++ k) r' (g' ++ k'))
     (IsPermutation-append_right (r ++ r') ((g ++ k) ++ (g' ++ k')) ((g ++ g') ++ (k ++ k')) (swaps g k g' k')))
 
+-- each byte that was taken off the line came right, was given up, or was asked for again
 pub parted : (layout : KeyLayout) (history : KeyHistory) (starts : ℕ → ℕ) (n count : ℕ)
     → IsPermutation (all_arrived layout history starts n count)
     (all_right layout history starts n count

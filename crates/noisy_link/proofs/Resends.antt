@@ -96,6 +96,7 @@ broken_so false now p = refl
 abbrev pub Counts : ℕ → LinkEnd UnderWay → Type 0
 Counts resends p = p.core.resends ≡ resends
 
+-- while nothing comes over the link the count of resends stays
 pub counts_stay : (resends : ℕ) → Stays (Counts resends)
 counts_stay resends now next d h =
     let p : LinkEnd UnderWay = port_by (turn now d.port.filled next (host_of d)) d.port in

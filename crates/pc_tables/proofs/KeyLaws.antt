@@ -14,6 +14,7 @@ just : (k : ℕ) (o : Option ℕ) → is_just k o ≡ true → o ≡ Some k
 just k (Some n) h = ap (λ x. Some x) (eqb-true n k h)
 just k None h = absurd cc
 
+-- there are 84 keys
 pub key_count : length keys ≡ 84
 unfolding keys
 key_count = refl
@@ -51,23 +52,30 @@ scans-within : (k : ℕ) → k < 84 → is_within 85 (scan_at k) ≡ true
 unfolding keys
 scans-within = at_each (λ k. is_within 85 (scan_at k)) 84 refl
 
+-- a key's code is that key's alone
 pub own-code-of : (k code : ℕ) → k < 84 → code ≡ code_at k → key_with_code code ≡ Some k
 own-code-of k code l e = ap key_with_code e ∙ own-code k l
 
+-- a key's code isn't 00
 pub code-some : (k code : ℕ) → k < 84 → code ≡ code_at k → 0 < code
 code-some k code l e = omega (arith, is_within-some 133 (code_at k) (codes-within k l))
 
+-- a key's code is below 85 (hexadecimal), so none is a prefix
 pub code-range : (k code : ℕ) → k < 84 → code ≡ code_at k → code < 133
 code-range k code l e = omega (arith, is_within-range 133 (code_at k) (codes-within k l))
 
+-- a key's scan code is that key's alone
 pub own-scan-of : (k scan : ℕ) → k < 84 → scan ≡ scan_at k → key_with_scan scan ≡ Some k
 own-scan-of k scan l e = ap key_with_scan e ∙ own-scan k l
 
+-- a key's scan code isn't 00
 pub scan-some : (k scan : ℕ) → k < 84 → scan ≡ scan_at k → 0 < scan
 scan-some k scan l e = omega (arith, is_within-some 85 (scan_at k) (scans-within k l))
 
+-- a key's scan code is below 55 (hexadecimal), so none is a break
 pub scan-range : (k scan : ℕ) → k < 84 → scan ≡ scan_at k → scan < 85
 scan-range k scan l e = omega (arith, is_within-range 85 (scan_at k) (scans-within k l))
 
+-- a key's name is that key's alone
 pub own-name-of : (k : ℕ) (name : List ℕ) → k < 84 → name ≡ name_at k → key_with_name name ≡ Some k
 own-name-of k name l e = ap key_with_name e ∙ own-name k l

@@ -201,6 +201,7 @@ module _ (keys : Keys) (edges : List TickEdge) (k : Keyboard) where
       ];
     }
 
+    -- in a tick each byte that waited arrives, is taken away, or waits on
     pub passes_by : (meeting : Meeting) → (k.test ≡ 0) ⊎ (meeting ≡ Idle)
         → ((byte : ℕ) → meeting ≡ Sent byte → offer k ≡ Some byte)
         → Passes meeting k (ticked keys (met_as meeting) edges k)

@@ -115,6 +115,7 @@ module _ (keys : Keys) (k : Keyboard) where
   met_line (Sent byte) c o = sent_line byte (o byte refl) c
   met_line Cut c o = subsequence_self (line k)
 
+  -- in a tick that clears nothing what waited after the reply arrives in its order, or waits still
   pub ticked_line : (meeting : Meeting) (edges : List TickEdge) → ClearsNothing meeting k
       → ((byte : ℕ) → meeting ≡ Sent byte → offer k ≡ Some byte)
       → IsSubsequence (line k) (arrived meeting ++ line (ticked keys (met_as meeting) edges k))

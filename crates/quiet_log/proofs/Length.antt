@@ -138,6 +138,7 @@ module _ (events : List HostEvent) where
       let s = c.said in
       quietly_within rest (609 + start) (4 + k) _ (record { said = omega (arith, s); done = c.done })
 
+  -- after n ticks the log has at most four items for each of them and four for each event that is done
   pub run_within : {S : Type 0} (kb : KeyboardMachine S) (edges : List Edge) (starts : ℕ → ℕ) (n : ℕ)
       → IsWithin events (4 * n) (whole_at kb edges events starts n).side
   run_within kb edges starts zero =
@@ -148,6 +149,7 @@ module _ (events : List HostEvent) where
       let s = h.said in
       record { said = omega (arith, s); done = h.done }
 
+-- a log has at most four items for each tick and four for each event of the host
 pub length_law : LengthLaw
 length_law layout history starts =
     let h = run_within history.host (keyboard layout) history.edges (listed starts) (length starts - 1) in
@@ -167,6 +169,7 @@ ticks_most starts stop (suc n) e c l =
     let s = (c n (omega arith)).least in
     omega (arith, e, b, s)
 
+-- the log of an accepted history has fewer than 800,000 items
 pub limit_law : LimitLaw
 limit_law layout history starts a c l =
     let n = ticks_most (listed starts) history.end (length starts - 1) a.end_in_range c l in

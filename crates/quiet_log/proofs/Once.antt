@@ -92,6 +92,7 @@ nothing_arrives now byte (Ask b since) p h = (refl, refl)
 nothing_arrives now byte (Request b) p h = (refl, refl)
 nothing_arrives now byte (Busy u) p h = absurd cc
 
+-- a byte arrives in one cycle of a tick alone, if it is still under way there, and is sent then, or cut
 pub arrival_law : ArrivalLaw
 arrival_law = record {
   arrives = λ byte. refl;
@@ -148,6 +149,7 @@ idle_in_test : (tested : Bool) (offer : Option ℕ) (earlier later : Link UnderW
 idle_in_test true o earlier later = inl refl
 idle_in_test false o earlier later = inr refl
 
+-- while the self-test goes on nothing passes in a tick
 pub tested_or_idle : (layout : KeyLayout) (events : List HostEvent) (start : ℕ) (w : Whole LayeredKeyboard)
     → (w.keys.keyboard.test ≡ 0) ⊎ (meeting_from (keyboard layout) events start w ≡ Idle)
 tested_or_idle layout events start w =

@@ -140,6 +140,7 @@ first : (o : Option Effect) {p : Effect} → AreShort o → IsShort p → IsShor
 first None h g = g
 first (Some o) h g = h.each o refl
 
+-- of a byte INT 09h says two items at most, and none of them is a byte that it read
 pub short_fed : (byte : ℕ) (s : State) → IsShort (fed byte s)
 unfolding fed
 short_fed byte s =

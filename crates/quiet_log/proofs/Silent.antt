@@ -115,6 +115,7 @@ module _ (keys : Keys) (edges : List TickEdge) (k : Keyboard) (silent : IsSilent
         | inr r ↦ inr ((rest_adds keys meeting edges k).reply ∙ ap (λ (v : Keyboard). v.reply) e ∙ r)
       ]
 
+  -- while the self-test goes on a tick leaves no reply waiting
   pub silent_by : (meeting : Meeting) → (k.test ≡ 0) ⊎ (meeting ≡ Idle)
       → ((byte : ℕ) → meeting ≡ Sent byte → offer k ≡ Some byte)
       → IsSilentInTest (ticked keys (met_as meeting) edges k)

@@ -183,6 +183,7 @@ module _ (events : List HostEvent) where
       stays s n now (λ y l u.
       undue_cycle events y s (h y l u) ∙ full_stays y since q since log (early since y (omega (arith, e, u))))
 
+  -- in cycles in which no event is due a hold with an empty output buffer stays for 64 cycles
   pub empty_span : (since : ℕ) (q : Pc) (filled : ℕ) (log : List Stamped) (n now : ℕ) → now + n ≤ since + 64
       → IsUndue q now n
       → quietly events n now (side (Hold since) false q filled log) ≡ side (Hold since) false q filled log

@@ -38,6 +38,7 @@ of_input (Some input) = 4
 abbrev pub weight : ControllerState → ℕ
 weight c = of_output c.output_full + of_input c.input
 
+-- a full output buffer is worth three items at most
 pub output_most : (b : Bool) → of_output b ≤ 3
 output_most true = omega arith
 output_most false = omega arith
@@ -191,6 +192,7 @@ still : (b : Bool) (n m : ℕ) → n ≤ m → (b ≡ true → n < m) → (if b 
 still true n m h g = let k = g refl in omega (arith, k)
 still false n m h g = h
 
+-- a cycle in which nothing comes over the link keeps what is said within four for each event that is done
 pub goes_within : {F : Type 0} (breaks : F → Bool) (events : List HostEvent) (now k : ℕ) (s : Side F) → IsWithin events k s
     → IsWithin events k (goes_on breaks events now s)
 unfolding goes_on

@@ -226,6 +226,7 @@ module _ (stamp : ℕ) where
   cycles_kept p2 zero now s k = k
   cycles_kept p2 (suc n) now s k = cycles_kept p2 n (now + 1) (joint_cycle events p2 now s) (cycle_kept p2 now s k)
 
+  -- once INT 09h is masked, cycles leave a byte in the output buffer, and nothing is read
   pub cycles_keep : (p2 n now : ℕ) (s : Beside) → IsKept s.pc.side → s.pc.side.done ≡ 1
       → Keeps s.pc.side (after_cycles n now (joint_cycle events p2) s).pc.side
   cycles_keep p2 zero now s k done = record { done = done; reads = refl; stays = λ full. refl }

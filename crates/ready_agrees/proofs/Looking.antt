@@ -54,10 +54,12 @@ module _ {F : Type 0} where
       ap (λ (t : Settled F). record { port = moves_link now t.port; did = t.did })
       (none_taken now (held_since now p.awaits p.link) p.core.output_full p.core.input p e)
 
+  -- without an input the controller settles by moving its link alone
   pub settles : (breaks : F → Bool) (now : ℕ) (p : LinkEnd F) → p.core.input ≡ None
       → settled now (broken_off breaks now p) ≡ record { port = moves_link now p; did = Nothing }
   settles breaks now p e = ap (settled now) (unbroken_off breaks now p e) ∙ alone now p e
 
+  -- after it the output buffer still fits the link
   pub moved_fits : (now : ℕ) (p : LinkEnd F) → p.core.input ≡ None → Fits p → Fits (moves_link now p)
   moved_fits now p e h = subst (λ (t : Settled F). Fits t.port) (alone now p e) (keeps_empty now p h)
 
@@ -145,6 +147,7 @@ at_edge now dat (Request byte) false p e h is f = still_empty p (Busy (Send byte
 at_edge now dat (Busy w) true p e h is f = absurd cc
 at_edge now dat (Busy w) false p e h is f = in_frame now dat w p e is
 
+-- a look at the wires leaves a full output buffer, the command byte, and an input buffer that is empty
 pub looks_at : (now : ℕ) (clock : Bool) (line : Lines) (p : LinkEnd Wire) → p.core.input ≡ None → Fits p
     → Looks p (port_looked now clock line p)
 looks_at now clock line p e h =

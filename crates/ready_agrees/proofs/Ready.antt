@@ -335,6 +335,7 @@ module _ (stuck : NeverStuck) (logs : LogsAgree) (use_any : AnyUseIsLawful) (fil
       core_is : k.joint.outside.desk.port.core ≡ e.world.board.pc.side.port.core
       core_is = ap (λ (o : Outside). o.desk.port.core) e.in_run.outside
 
+      -- a run of a second from an opened keyboard ends at the rise of the line, with AA put out
       pub put_out : (end ≡ Rose) × HasPutOut layout k
       unfolding is_masked
       put_out = (
@@ -368,6 +369,7 @@ module _ (stuck : NeverStuck) (logs : LogsAgree) (use_any : AnyUseIsLawful) (fil
         },
       )
 
+  -- so it is of each keyboard that is ready
   pub ready_by : (k : Keyboard) (r : IsReady bytes k) → (r.end ≡ Rose) × HasPutOut layout k
   ready_by k r =
       let o = r.is_opened in
@@ -377,5 +379,6 @@ module _ (stuck : NeverStuck) (logs : LogsAgree) (use_any : AnyUseIsLawful) (fil
       put_out o.middle r.opened ends.0 ends.1 o.ran.has_past t k r.end
       (r.ran (masked_at 0 bytes (o.middle.joint.cycle - 4096) (suc o.middle.joint.steps)) t)
 
+-- a keyboard that is ready has put out the AA of its self-test, and the rise of the interrupt line ended its run
 pub ready : NeverStuck → LogsAgree → AnyUseIsLawful → FillsAreFine → PromptLaw → EachIsReadOnce → ReadyHasPutOut
 ready stuck logs use_any fills prompt reads layout k fine r = ready_by stuck logs use_any fills prompt reads layout fine k r

@@ -52,6 +52,7 @@ module _ (p : Past) where
             (ap is_up (sym next) ∙ up);
       }
 
+  -- if the line is down in one state and up in a later one, it rises in a step between them
   pub rises_between : (i j : ℕ) → i ≤ j → is_up i ≡ false → is_up j ≡ true → Rises i j
   rises_between i j l down up =
       let sum : j - i + i ≡ j = omega (arith, l) in

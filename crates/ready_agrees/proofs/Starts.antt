@@ -40,6 +40,7 @@ pub record AtStarts (layout : KeyLayout) (stamp : ℕ) : Type 0 where
   pub there : (n start : ℕ) (s : StartsAt layout stamp n start)
       → IsThere s.state (at_tick layout (masked_history stamp) starts n)
 
+-- at each tick start of an opened keyboard's run the PC's side and the keyboard are the model's
 pub model_at_starts : (layout : KeyLayout) (stamp : ℕ) → IsKeyLayout layout → IsLawfulFor layout (masked_history stamp)
     → IsFine (filled 0) → AtStarts layout stamp
 model_at_starts layout stamp fine ok small =
@@ -66,6 +67,7 @@ pub empty_by : (full : Bool) (output : ℕ) → (if full then output ∷ [] else
 empty_by true output h = absurd cc
 empty_by false output h = refl
 
+-- if what is unread is one byte, the output buffer is full and has it
 pub full_by : (full : Bool) (output byte : ℕ) → (if full then output ∷ [] else []) ≡ byte ∷ [] → (full ≡ true) × (output ≡ byte)
 full_by true output byte h = (refl, cc h)
 full_by false output byte h = absurd cc

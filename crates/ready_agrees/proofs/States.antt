@@ -30,6 +30,7 @@ module _ (bytes : List ℕ) (stamp : ℕ) where
       subst (λ (b : Beside). Keeps stamp w.board.pc.side b.pc.side) board
       (cycles_keep stamp n.cpu.p2 n.cycles w.cycle w.board k done)
 
+  -- in each state of the run no input waits, and INT 09h is masked once the event is done
   pub kept_at : (k : ℕ) (w : World Beside) → state_at story k ≡ Some w → IsKept stamp w.board.pc.side
   kept_at zero w h =
       subst (λ (u : World Beside). IsKept stamp u.board.pc.side) (same_state h)
@@ -57,6 +58,7 @@ module _ (bytes : List ℕ) (stamp : ℕ) where
       (step_keeps u v (stepped bytes (seen (joint_board [] (events stamp)) u) u.cpu) (joined story (d + k) u v last.1 there)
       (kept_at (d + k) u last.1) so_far.done)
 
+  -- after the mask a byte in the output buffer stays from state to state, and nothing is read
   pub keeps_between : (i j : ℕ) (w v : World Beside) → i ≤ j → state_at story i ≡ Some w → state_at story j ≡ Some v
       → w.board.pc.side.done ≡ 1 → Keeps stamp w.board.pc.side v.board.pc.side
   keeps_between i j w v l h g done =

@@ -88,6 +88,7 @@ module _ (layout : KeyLayout) (stamp : ℕ) (starts : ℕ → ℕ) where
       ap (λ w. meeting_from (keyboard layout) (events stamp) (4096 + starts 64) w) (is_at true 0 (W 64) ended)
       ∙ sent stamp layout (4096 + starts 64) 0 (W 64).side ended.side
 
+  -- at tick start 64 AA waits, and nothing else
   pub waits_for_it : waiting (W 64).keys.keyboard ≡ 0xaa ∷ []
   waits_for_it = ap (λ (k : LayeredKeyboard). waiting k.keyboard) ended.keys
 
@@ -112,9 +113,11 @@ module _ (layout : KeyLayout) (stamp : ℕ) (starts : ℕ → ℕ) where
       ∙ ap (λ k. arrived (meeting_at layout (masked_history stamp) starts k)) same
       ∙ ap arrived (meets_idle n (omega (arith, l)))
 
+  -- in the first 64 ticks nothing arrives
   pub nothing_before : all_arrived layout (masked_history stamp) starts 0 64 ≡ []
   nothing_before = none_arrived 64 (omega arith)
 
+  -- in the first 65 ticks AA arrives, and nothing else
   pub then_aa : all_arrived layout (masked_history stamp) starts 0 65 ≡ 0xaa ∷ []
   then_aa =
       ap (λ v. v ++ arrived (meeting_at layout (masked_history stamp) starts 64)) nothing_before ∙ ap arrived sends_it

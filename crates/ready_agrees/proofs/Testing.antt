@@ -37,6 +37,7 @@ none_of_place : (q : Edge → Bool) (k : ℕ) → by_place (λ p. filter q (of_p
 none_of_place q zero = refl
 none_of_place q (suc k) = ap (λ v. v ++ []) (none_of_place q k)
 
+-- without edges no tick sees one
 pub none_seen : (starts : ℕ → ℕ) (n : ℕ) → tick_edges starts [] n ≡ []
 none_seen starts n =
     ap (map change_of) (none_of_place (is_seen starts n) 96)
@@ -62,6 +63,7 @@ testing rate aa_due test = record (at_power_on rate) { test = test; aa_due = aa_
 abbrev pub untouched : Keyboard → LayeredKeyboard
 untouched k = record { keyboard = k; layers = no_layers; switches = all_open }
 
+-- without edges a tick changes the keyboard alone, and neither layers nor switches
 pub ticks_untouched : (layout : KeyLayout) (meeting : Meeting) (k : Keyboard)
     → (keyboard layout).ticked meeting [] (untouched k) ≡ untouched (ticked (keys_of layout) (met_as meeting) [] k)
 ticks_untouched layout meeting k =
@@ -161,6 +163,7 @@ module _ (stamp : ℕ) where
       inr (ap (λ v. goes_on is_open events now (with_event now e v)) h
       ∙ ap (goes_on is_open events now) (becomes true 1) ∙ goes_masked to now)
 
+  -- quiet cycles leave the PC's side as at power-on, but for the mask
   pub quiet_still : (o : Option Bool) (n now : ℕ) (s : Side UnderWay) → IsStill o s → IsStill o (quietly events n now s)
   quiet_still o zero now s h = h
   quiet_still o (suc n) now s h =
@@ -208,6 +211,7 @@ module _ (stamp : ℕ) where
     begins_idle : (m : ℕ) → (m == 0) ≡ false → meeting_by (m == 0) None look.port.link meet.port.link ≡ Idle
     begins_idle m some = ap (λ b. meeting_by b None look.port.link meet.port.link) some
 
+    -- so does a tick of the self-test
     pub idle_side : (m : ℕ) → (m == 0) ≡ false
         → IsStill None (whole_tick (keyboard layout) events [] start rest (at false m)).side
     idle_side m some =

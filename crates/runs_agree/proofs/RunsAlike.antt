@@ -41,6 +41,7 @@ same_steps s a b p q =
     let second = none_shorter s b a q p in
     grind (arith, first, second)
 
+-- a story has one run
 pub runs_alike : (s : Story) (a b : Outcome) → IsOutcome s a → IsOutcome s b → AreAlike a b
 runs_alike s a b p q =
     let steps = same_steps s a b p q in

@@ -58,6 +58,7 @@ module _ (s : Story) (t : KeepsTimeFrom (joint_start_of s.held) s.bytes s.edges 
         | false ↦ λ f. grind (arith, nat_tests, f)
       ] refl
 
+  -- the run on the board says what the layout's run says, or its beginning
   pub says_so : (board : Outcome) (run : layout.Outcome) → IsOutcome s board → layout.IsOutcome s run → SaysRun s board run
   says_so board run p q =
       let over = ends_over board.steps p.world board.end p.ends in

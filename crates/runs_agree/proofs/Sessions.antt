@@ -123,6 +123,7 @@ module _ (s : Story) (t : KeepsTimeFrom (joint_start_of s.held) s.bytes s.edges 
             walked_to n (suc k) (stepped_to w (record { steps = k; probes = probes })).probes (one_more k l w next) (omega (arith, m))
       ] refl
 
+  -- a session isn't over before the run's end
   pub ends_afterwards : EndsAfter d run.steps
   ends_afterwards = record {
     goes_on = λ k below. ap is_none (next_before k below).1;

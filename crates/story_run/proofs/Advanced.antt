@@ -38,6 +38,7 @@ module _ (u : Halt) (s : Story) (first : List Watch) (old new : Course) (after :
   going : IsGoing u s last
   going = g.onward.going
 
+  -- the events that the last step took can be counted: they are of the history
   pub countable : IsCountable (history_of s) new.ahead new.seen
   countable =
       let on = going.run_so_far.on in
@@ -52,6 +53,7 @@ module _ (u : Halt) (s : Story) (first : List Watch) (old new : Course) (after :
         host = host_taken s last new.joint new.seen on lawful.thin lawful.edges_in_order t.step t.run;
       })
 
+  -- what the feed has handed out is still what is in hand
   pub taken_now : (fed : Fed) → HasTaken fed old.ahead → HasTaken fed new.ahead
   taken_now fed taken = subst (λ (a : Ahead). HasTaken fed a) (sym (g.stepped.ahead ∙ g.onward.ahead)) taken
 
@@ -61,6 +63,7 @@ module _ (u : Halt) (s : Story) (first : List Watch) (old new : Course) (after :
   cycles_now : (last.joint.cycle < new.joint.cycle) × (new.joint.cycle < last.joint.cycle + 3)
   cycles_now = next_cycle u s last new going g.stepped
 
+  -- after the steps the machine is at a later cycle
   pub later : old.joint.cycle < new.joint.cycle
   later = let so_far = g.onward.cycle in let now = cycles_now.0 in omega (arith, so_far, now)
 
@@ -98,6 +101,7 @@ module _ (u : Halt) (s : Story) (first : List Watch) (old new : Course) (after :
         let to = going.run_so_far.on.in_run.cycle in
         all_in_less start.run_so_far.on.world.cycle w.cycle new.joint.cycle items (omega (arith, so_far, from, to)) until
 
+    -- once what the last step took is counted, the run is at a report
     pub at_report : IsAtReport u.ending u.wires s old.joint.steps counted
     at_report =
         let more = later in

@@ -21,6 +21,7 @@ use Rattle.story_run.specs.Advance.{IsEnding}
 use Rattle.story_run.specs.Gliding.{IsGoing, IsHeldUp, IsSilent}
 use Rattle.story_run.specs.Running.{GoesOnTo, is_over, place_of}
 
+-- if no step follows a state, the processor is stuck there
 pub stuck_where_none : (s : Story) (w : World Beside)
     → joint_step (joint_board s.edges s.events) s.bytes w ≡ None → sticks s.bytes w.cpu ≡ true
 stuck_where_none s w none = sym (none_step s.edges s.events s.bytes w) ∙ ap is_none none
@@ -61,9 +62,11 @@ module _ (u : Halt) (s : Story) (first : List Watch) (old new : Course) (after :
   no_step : joint_step (joint_board s.edges s.events) s.bytes on_now.world ≡ None
   no_step = sym (ap (step_on (joint_board s.edges s.events) s.bytes) there) ∙ none
 
+  -- of the steps before the processor is stuck nothing is to be reported
   pub still_quiet : IsSilent u.ending u.wires s old.joint.steps new.joint.steps
   still_quiet = subst (λ (k : ℕ). IsSilent u.ending u.wires s old.joint.steps k) (sym steps_same) h.onward.quiet
 
+  -- a run whose processor is stuck has come to its end
   pub stuck_end : IsEnding u.ending s new (ends.Stuck stuck)
   stuck_end = record {
     run_so_far = record { on = on_now; goes_on = subst (GoesOnTo u.ending s) (sym steps_same) going.run_so_far.goes_on };

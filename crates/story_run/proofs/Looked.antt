@@ -8,6 +8,7 @@ use Rattle.story_run.specs.Looking.{BrokeOff, HaveLookedAtSome}
 use Rattle.story_run.specs.Running.{GoesOnTo}
 
 module _ (s t : Story) (same : s ≡ t) (before after : List Watch) where
+  -- probes that have looked in a run have looked in the same run by another name
   pub looked_by : (k n : ℕ) → n ≡ k → after ≡ looks s k before → after ≡ looks t n before
   looked_by k n number h = h ∙ ap (λ (v : Story). looks v k before) same ∙ ap (λ (m : ℕ). looks t m before) (sym number)
 
@@ -20,5 +21,6 @@ module _ (s t : Story) (same : s ≡ t) (before after : List Watch) where
   pub some_looked_to_break : (e : Ending) (broken : ℕ → Type 0) → BrokeOff e s broken before after → HaveLookedAtSome e t before after
   some_looked_to_break e broken h = some_looked e (suc h.last) h.goes_on h.looked
 
+  -- a run that broke off broke off by another name, too
   pub broke_by : (e : Ending) (broken : Story → ℕ → Type 0) → BrokeOff e s (broken s) before after → BrokeOff e t (broken t) before after
   broke_by e broken h = subst (λ (v : Story). BrokeOff e v (broken v) before after) same h

@@ -36,6 +36,7 @@ first_cycle e s c h first =
     let same = h.on.in_run.cycle in
     omega (arith, zero, same)
 
+-- before the first step the probes have looked at nothing
 pub first_looked : (s : Story) (c : Course) (probes : List Watch) → c.joint.steps ≡ 0 → probes ≡ looks s c.joint.steps probes
 first_looked s c probes first = sym (ap (λ (k : ℕ). looks s k probes) first)
 
@@ -74,6 +75,7 @@ broke_off e wires s k broken first new after b looked h = record {
   looked = looked ∙ ap (λ (n : ℕ). looks s n first) b.steps;
 }
 
+-- a machine at power-on, with the first events of an accepted history in hand, is ready to run
 pub ready_at_start : (e : Ending) (fill : ℕ) (bytes : List ℕ) (h : KeyHistory) (fed : Fed) (c : Course)
     → IsOnCourse (filled_story fill bytes h) c → fed.history ≡ h → c.joint.steps ≡ 0 → HasTaken fed c.ahead
     → IsAccepted h → IsTimely e (filled_story fill bytes h)

@@ -7,17 +7,20 @@ use Rattle.joint_run.specs.Run.{World}
 use Rattle.story_run.specs.declared.ending.Ending.TheVariants.{TickStart, Stamp}
 use Rattle.story_run.specs.Running.{is_over}
 
+-- a run that ends at a stamp is over exactly if its cycle has reached the stamp
 pub reached_at : (s : Story) (w : World Beside) (stop cycle : ℕ) (answer : Bool)
     → answer ≡ nat_le (4096 + stop) cycle → s.stop ≡ stop → w.cycle ≡ cycle
     → answer ≡ is_over Stamp s w
 reached_at s w stop cycle answer is at_stop at_cycle =
     is ∙ ap (λ (n : ℕ). nat_le (4096 + n) cycle) (sym at_stop) ∙ ap (nat_le (4096 + s.stop)) (sym at_cycle)
 
+-- at a tick start a run that ends at one is over exactly if its cycle has reached the stamp
 pub over_at_tick : (s : Story) (w : World Beside) (stop cycle : ℕ) (tick answer : Bool) → tick ≡ starts_tick s w → tick ≡ true
     → answer ≡ nat_le (4096 + stop) cycle → s.stop ≡ stop → w.cycle ≡ cycle → answer ≡ is_over TickStart s w
 over_at_tick s w stop cycle tick answer decides on is at_stop at_cycle =
     reached_at s w stop cycle answer is at_stop at_cycle
     ∙ ap (λ b. b && nat_le (4096 + s.stop) w.cycle) (sym on ∙ decides)
 
+-- a run that ends at a tick start isn't over between two
 pub open_off_tick : (s : Story) (w : World Beside) (tick : Bool) → tick ≡ starts_tick s w → tick ≡ false → false ≡ is_over TickStart s w
 open_off_tick s w tick decides off = ap (λ b. b && nat_le (4096 + s.stop) w.cycle) (sym off ∙ decides)

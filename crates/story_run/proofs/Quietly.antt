@@ -35,6 +35,7 @@ then_starts : (e : Ending) (s : Story) (k n m : ℕ) → AreSameStarts e s k n �
 then_starts TickStart s k n m a b = b ∙ a
 then_starts Stamp s k n m a b = tt
 
+-- of no steps nothing is to be reported
 pub none_quiet : (e : Ending) (wires : Bool) (s : Story) (k : ℕ) → IsSilent e wires s k k
 none_quiet e wires s k = record {
   later = omega arith;
@@ -43,6 +44,7 @@ none_quiet e wires s k = record {
   levels = λ on j l m. let same : j ≡ k = omega (arith, l, m) in ap (lines_at s) same;
 }
 
+-- if nothing is to be reported of some steps and of those after them, nothing is of all of them
 pub then_quiet : (e : Ending) (wires : Bool) (s : Story) (k n m : ℕ) → IsSilent e wires s k n → IsSilent e wires s n m → IsSilent e wires s k m
 then_quiet e wires s k n m a b =
     let first = a.later in
@@ -75,15 +77,18 @@ module _ (u : Halt) (s : Story) (old new : Course) (g : IsGoing u s old) (t : Is
   abbrev with_ahead : Ahead → Course
   with_ahead ahead = record { joint = new.joint; ahead = ahead; seen = new.seen; fill = new.fill }
 
+  -- after a step, with its events counted, the machine is in its run
   pub on_with : (ahead : Ahead) → IsFed s.edges s.events ahead → ahead.made ≡ old.ahead.made + new.seen.edges
       → ahead.done ≡ old.ahead.done + new.seen.host → IsOnCourse s (with_ahead ahead)
   on_with ahead fed made done =
       on_again s old new.joint new.seen g.run_so_far.on g.accepted.lawful.thin g.accepted.lawful.edges_in_order t.step t.run
       new.fill ahead t.some t.few fed made done
 
+  -- the step is one step more
   pub next_step : new.joint.steps ≡ suc old.joint.steps
   next_step = one_more_step s old new.joint new.seen g.run_so_far.on g.accepted.lawful.thin g.accepted.lawful.edges_in_order t.step t.run
 
+  -- the step takes one or two cycles
   pub next_cycle : (old.joint.cycle < new.joint.cycle) × (new.joint.cycle < old.joint.cycle + 3)
   next_cycle =
       let a = cycle_more s old new.joint new.seen g.run_so_far.on g.accepted.lawful.thin g.accepted.lawful.edges_in_order t.step t.run in
@@ -169,6 +174,7 @@ module _ (u : Halt) (s : Story) (old new : Course) (g : IsGoing u s old) (t : Is
               ∙ sym (lines_here s old g.run_so_far.on)
         ] refl
 
+    -- if the next step can follow at once, the run goes on and nothing is to be reported
     pub one_onward : IsOnward u s old new
     one_onward = record {
       going = goes_still;

@@ -11,6 +11,7 @@ use Rattle.story_run.proofs.Said.{all_in_less, all_in_more}
 use Rattle.story_run.proofs.Steps.{log_grows, says_after}
 
 module _ (e : Ending) (wires : Bool) (s : Story) (k : ℕ) (c : Course) (b : IsAtReport e wires s k c) where
+  -- the last step led to the state that the machine is at
   pub led_to : state_at s (suc b.last) ≡ Some b.run_so_far.on.world
   led_to = subst (λ (n : ℕ). state_at s n ≡ Some b.run_so_far.on.world) b.steps (here s c b.run_so_far.on)
 
@@ -18,6 +19,7 @@ module _ (e : Ending) (wires : Bool) (s : Story) (k : ℕ) (c : Course) (b : IsA
   pub says_seen : step_says s b.last ≡ c.seen.items.items
   says_seen = says_after s b.last c.seen.items.items (sym (ap (log_at s) b.steps) ∙ b.said)
 
+  -- the last step put what it says after the log
   pub log_grown : log_at s (suc b.last) ≡ log_at s b.last ++ step_says s b.last
   log_grown = log_grows s b.last b.run_so_far.on.world led_to
 

@@ -25,10 +25,12 @@ pub record Said (from to : ℕ) (before after : List Stamped) : Type 0 where
   pub afterwards : after ≡ before ++ more
   pub each : AreIn from to more
 
+-- items before a cycle are before a later one
 pub all_in_more : (a b c : ℕ) (xs : List Stamped) → b ≤ c → AreIn a b xs → AreIn a c xs
 all_in_more a b c [] l h = h
 all_in_more a b c (x ∷ xs) l h = let k = h.0.1 in ((h.0.0, omega (arith, k, l)), all_in_more a b c xs l h.1)
 
+-- items from a cycle on are from an earlier one on
 pub all_in_less : (a b c : ℕ) (xs : List Stamped) → a ≤ b → AreIn b c xs → AreIn a c xs
 all_in_less a b c [] l h = h
 all_in_less a b c (x ∷ xs) l h = let k = h.0.0 in ((omega (arith, k, l), h.0.1), all_in_less a b c xs l h.1)
@@ -43,6 +45,7 @@ all_in_both : (a b : ℕ) (xs ys : List Stamped) → AreIn a b xs → AreIn a b 
 all_in_both a b [] ys h k = k
 all_in_both a b (x ∷ xs) ys h k = (h.0, all_in_both a b xs ys h.1 k)
 
+-- what was said in some cycles and in those after them was said in all of them
 pub said_then : (a b c : ℕ) (x y z : List Stamped) → a ≤ b → b ≤ c → Said a b x y → Said b c y z → Said a c x z
 said_then a b c x y z l m h k = record {
   more = h.more ++ k.more;

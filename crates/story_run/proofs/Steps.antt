@@ -88,15 +88,18 @@ module _ (s : Story) where
       let said : Said w.cycle v.cycle (log_of w.board) (log_of v.board) = step_said k w v h g in
       (said.more, said.each, ap logged g ∙ said.afterwards ∙ ap (λ (o : Option (World Beside)). logged o ++ said.more) (sym h))
 
+  -- what a step says is what the log has more after it
   pub says_after : (k : ℕ) (more : List Stamped) → log_at s (suc k) ≡ log_at s k ++ more → step_says s k ≡ more
   says_after k more h = ap (drop (length (log_at s k))) h ∙ drop-append_seam (log_at s k) more
 
+  -- the log after a step is the log before it and what the step says
   pub log_grows : (k : ℕ) (v : World Beside) → state_at s (suc k) ≡ Some v → log_at s (suc k) ≡ log_at s k ++ step_says s k
   log_grows k v g =
       let from = before k v g in
       let adds = step_adds k from.0 v from.1 g in
       adds.2 ∙ ap (λ (l : List Stamped). log_at s k ++ l) (sym (says_after k adds.0 adds.2))
 
+  -- what a step says is of its own cycles
   pub says_in : (k : ℕ) (w v : World Beside) → state_at s k ≡ Some w → state_at s (suc k) ≡ Some v → AreIn w.cycle v.cycle (step_says s k)
   says_in k w v h g =
       let adds = step_adds k w v h g in

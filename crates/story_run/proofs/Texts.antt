@@ -29,9 +29,11 @@ pub record IsSaidTo (x y : Shown) (text rest : List ℕ) : Type 0 where
   pub said : IsSaid x y front
   pub whole : front ++ rest ≡ text
 
+-- before the first line of a text nothing is said and all of it is left
 pub none_yet : (x : Shown) (text : List ℕ) → IsSaidTo x x text text
 none_yet x text = record { front = []; lines = inl refl; said = none_said x; whole = refl }
 
+-- if nothing of a text is left, all of it is said
 pub all_said : (x y : Shown) (text rest : List ℕ) → IsSaidTo x y text rest → rest ≡ [] → IsSaid x y text
 all_said x y text rest h none =
     subst (λ t. IsSaid x y t) (sym (append-nil h.front) ∙ ap (λ t. h.front ++ t) (sym none) ∙ h.whole) h.said
@@ -45,6 +47,7 @@ module _ (x y z : Shown) (text rest line after : List ℕ) (h : IsSaidTo x y tex
     front_lines : AreLines (h.front ++ line)
     front_lines = lines_after h.front line h.lines (inr ends)
 
+    -- once the next line is said, so much more of the text is said
     pub line_said : IsSaid y z line → IsSaidTo x z text after
     line_said k = record {
       front = h.front ++ line;
@@ -53,6 +56,7 @@ module _ (x y z : Shown) (text rest line after : List ℕ) (h : IsSaidTo x y tex
       whole = afterwards;
     }
 
+    -- if a put of the next line fails, the text is broken off
     pub line_cut : IsBrokenOff y z line → IsBrokenOff x z text
     line_cut k =
         subst (λ t. IsBrokenOff x z t) afterwards
@@ -73,11 +77,13 @@ module _ (text added : ℕ → List ℕ) (k last n : ℕ) (put : List ℕ) (m : 
   said_still : IsSaid first now (text last)
   said_still = subst (λ v. IsSaid first now v) (sym m.still) so_far
 
+  -- once what a step adds is said, the text up to after that step is said
   pub said_further : IsSaid now next put → IsSaid first next (text n)
   said_further said =
       subst (λ v. IsSaid first next v) (ap (λ v. text last ++ v) m.is ∙ sym m.more ∙ ap text (sym m.steps))
       (said_then_said first now next (text last) put m.lines said_still said)
 
+  -- if a put of what a step adds fails, the text is broken off after what was said before
   pub broken_further : IsBrokenOff now next put → IsBrokenAfter first next (text last) (added last)
   broken_further broken =
       record { between = now; said = said_still; broken = subst (λ v. IsBrokenOff now next v) m.is broken }
@@ -96,6 +102,7 @@ module _ (text added : ℕ → List ℕ) (most : ℕ) (more : (k : ℕ) → k < 
         ap text e ∙ more (m + k) (omega (arith, l)) ∙ ap (λ v. v ++ new) before.1 ∙ append_assoc (text k) before.0 new,
       )
 
+  -- the text after the first steps is the beginning of the text after all
   pub later : (k : ℕ) → k ≤ most → (rest : List ℕ) × (text most ≡ text k ++ rest)
   later k l =
       let m = most - k in

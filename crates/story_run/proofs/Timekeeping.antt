@@ -93,6 +93,7 @@ near_end : (e : Ending) (s : Story) (k : ℕ) (w : World Beside)
 near_end TickStart s k w time on there open_now = still_near s time k w on there open_now
 near_end Stamp s k w time on there open_now = let l : w.cycle < 4096 + s.stop = grind (arith, nat_tests, open_now) in omega (arith, l)
 
+-- a run that keeps its time is always before cycle 2^30
 pub soon : (u : Halt) (s : Story) (c : Course) → IsGoing u s c → c.joint.cycle < 2 ^ 30
 soon u s c g =
     let near = near_end u.ending s c.joint.steps g.run_so_far.on.world g.timely g.run_so_far.goes_on (here s c g.run_so_far.on) g.not_over in
@@ -105,6 +106,7 @@ before_end : (e : Ending) (s : Story) (w : World Beside) → e ≡ Stamp → is_
 before_end TickStart s w is off = absurd (cc is)
 before_end Stamp s w is off = grind (arith, nat_tests, off)
 
+-- a run that ends at a stamp is before that stamp as long as it goes on
 pub before_stamp : (u : Halt) (s : Story) (c : Course) → IsGoing u s c → u.ending ≡ Stamp → c.joint.cycle < 4096 + u.stop
 before_stamp u s c g is =
     let before = before_end u.ending s g.run_so_far.on.world is g.not_over in

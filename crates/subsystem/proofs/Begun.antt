@@ -90,6 +90,7 @@ not_early false early = refl
 none_first : (s : Story) → KeepsTimeFrom (joint_start_of s.held) s.bytes s.edges s.events → starts_among s 1 ≡ []
 none_first s t = not_early (starts_tick s (joint_start_of s.held)) (λ on. t.none_early 0 (joint_start_of s.held) refl on)
 
+-- before the first step of a run that keeps its time no tick start is noted, and there was none
 pub begins : (s : Story) → KeepsTimeFrom (joint_start_of s.held) s.bytes s.edges s.events → (it : Starts) → it.stamps.items ≡ []
     → HasNoted TickStart s 0 it
 begins s t it none = record { ending = refl; starts = none ∙ sym (none_first s t) }

@@ -62,6 +62,7 @@ module _ (s : Story) (t : KeepsTimeFrom (joint_start_of s.held) s.bytes s.edges 
       ∙ ap (λ (o : Option (World Beside)). lines_of all (logged o)) (sym h.reached)
       ∙ ap (λ (v : List ℕ). lines_of v (log_at s k)) (sym same)
 
+  -- a run with this log, these tick starts and this end is an outcome
   pub ends : (run : Outcome) → run.log ≡ lines_of run.starts (log_at s k) → run.starts ≡ starts_among s (suc k)
       → run.end ≡ w.cpu → run.steps ≡ k → run.cycles ≡ w.cycle → IsOutcome s run
   ends run log items end_is steps cycles =
@@ -93,5 +94,6 @@ module _ (s : Story) (t : KeepsTimeFrom (joint_start_of s.held) s.bytes s.edges 
         log = log ∙ ap (λ (o : Option (World Beside)). lines_of run.starts (logged o)) h.reached;
       }
 
+  -- a run that is over after so many steps has an outcome
   pub comes_to : IsOutcome s (outcome_at s k w)
   comes_to = ends (outcome_at s k w) refl refl refl refl refl

@@ -40,6 +40,7 @@ line_later starts next s l =
     ap (λ (n : ℕ). record { tick = begun (listed (starts ++ next ∷ [])) s.cycle n - 1; item = s.item }) (one_longer starts next)
     ∙ ap (λ (n : ℕ). record { tick = n - 1; item = s.item }) (begun_later starts next s.cycle l)
 
+-- a tick start that comes later changes no line of the log before it
 pub lines_later : (starts : List ℕ) (next to : ℕ) (log : List Stamped) → to ≤ 4096 + next → AreIn 0 to log
     → map (line_so_far (starts ++ next ∷ [])) log ≡ map (line_so_far starts) log
 lines_later starts next to [] l h = refl
@@ -54,6 +55,7 @@ line_now : (starts : List ℕ) (s : Stamped)
     → ((j : ℕ) → j < length starts → 4096 + listed starts j ≤ s.cycle) → line_so_far starts s ≡ in_tick (length starts - 1) s
 line_now starts s h = ap (λ (n : ℕ). record { tick = n - 1; item = s.item }) (all_begun starts s.cycle h)
 
+-- items said after the last tick start are in its tick
 pub lines_now : (starts : List ℕ) (from to : ℕ) (items : List Stamped)
     → ((j : ℕ) → j < length starts → 4096 + listed starts j ≤ from) → AreIn from to items
     → map (in_tick (length starts - 1)) items ≡ map (line_so_far starts) items
@@ -70,6 +72,7 @@ line_whole starts s l =
     let e : length starts ≡ suc (length starts - 1) = omega (arith, l) in
     ap (λ (n : ℕ). record { tick = begun (listed starts) s.cycle n - 1; item = s.item }) e
 
+-- with a tick start or more the lines so far are the lines of the log
 pub lines_whole : (starts : List ℕ) (log : List Stamped) → 0 < length starts → map (line_so_far starts) log ≡ lines_of starts log
 lines_whole starts [] l = refl
 lines_whole starts (s ∷ log) l =

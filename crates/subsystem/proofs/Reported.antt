@@ -102,6 +102,7 @@ module _ (s : Story) (k : ℕ) (c : Course) (b : IsAtReport TickStart false s k 
   same : starts_among s c.joint.steps ≡ starts
   same = ap (starts_among s) b.steps ∙ b.quiet.starts
 
+  -- what is reported of a step is known from the tick starts that were noted
   pub one_more_by : IsOneMore s k c b.last b.run_so_far.on.world starts
   one_more_by =
       let silent = b.quiet.later in
@@ -124,6 +125,7 @@ module _ (s : Story) (k : ℕ) (c : Course) (b : IsAtReport TickStart false s k 
             ∙ ap (λ (o : Option (World Beside)). starts_among s c.joint.steps ++ start_stamp s o) (sym (here s c b.run_so_far.on));
       }
 
+-- what is reported of a step is the tick start to which it led and the lines of what it said
 pub one_more : (e : Ending) (s : Story) (k : ℕ) (c : Course) (it : Starts) (b : IsAtReport e false s k c) → HasNoted e s k it
     → IsOneMore s k c b.last b.run_so_far.on.world it.stamps.items
 one_more TickStart s k c it b noted =

@@ -29,11 +29,13 @@ pub none_noted : (s : Story) (w : World Beside) (b : Bool) (xs : List ℕ)
     → b ≡ starts_tick s w → b ≡ false → xs ≡ xs ++ start_stamp s (Some w)
 none_noted s w b xs decides off = sym (append-nil xs) ∙ ap (λ v. xs ++ (if v then (w.cycle - 4096) ∷ [] else [])) (sym off ∙ decides)
 
+-- the stamp that is noted at a tick start is that of the state
 pub one_noted : (s : Story) (w : World Beside) (b : Bool) (xs : List ℕ) (cycle : ℕ) → b ≡ starts_tick s w → b ≡ true → w.cycle ≡ cycle
     → xs ++ (cycle - 4096) ∷ [] ≡ xs ++ start_stamp s (Some w)
 one_noted s w b xs cycle decides on same =
     ap (λ (n : ℕ). xs ++ (n - 4096) ∷ []) (sym same) ∙ ap (λ v. xs ++ (if v then (w.cycle - 4096) ∷ [] else [])) (sym on ∙ decides)
 
+-- the lines of a step are its items in the tick that is counted
 pub lines_by : (c : Course) (starts : List ℕ) (tick : ℕ) (items : List Stamped) → tick ≡ length starts - 1 → items ≡ c.seen.items.items
     → map (in_tick tick) items ≡ lines_of_step c starts
 lines_by c starts tick items last same = ap (λ n. map (in_tick n) items) last ∙ ap (map (in_tick (length starts - 1))) same

@@ -8,6 +8,7 @@ use Rattle.std.proofs.Math.Seq.{get_or-append_seam}
 use Rattle.board_terms.specs.Cadence.{begun, listed}
 use Rattle.mcs48_core.specs.Status.{digit}
 
+-- with one tick start more the list is one longer
 pub one_longer : (starts : List ℕ) (next : ℕ) → length (starts ++ next ∷ []) ≡ suc (length starts)
 one_longer starts next = length-append starts (next ∷ []) ∙ add-one (length starts)
 
@@ -26,11 +27,13 @@ each_with P starts next all one j below =
           subst (P j) (sym (get_or_append_left starts (next ∷ []) 0 j m)) (all j m)
     ] refl
 
+-- what is so of each tick start, and of the next one if it comes, is so of each of all
 pub each_with_if : (P : ℕ → ℕ → Type 0) (b : Bool) (starts : List ℕ) (next : ℕ) → AreEach P starts → (b ≡ true → P (length starts) next)
     → AreEach P (starts ++ (if b then next ∷ [] else []))
 each_with_if P true starts next all one = each_with P starts next all (one refl)
 each_with_if P false starts next all one = subst (AreEach P) (sym (append-nil starts)) all
 
+-- the list of starts is one longer exactly if a start comes
 pub longer_if : (b : Bool) (starts : List ℕ) (next : ℕ) → length (starts ++ (if b then next ∷ [] else [])) ≡ length starts + digit b
 longer_if true starts next = let e = one_longer starts next in omega (arith, e)
 longer_if false starts next = let e = ap length (append-nil starts) in omega (arith, e)
@@ -73,6 +76,7 @@ begun_below f cycle (suc n) h =
     let on : nat_le (4096 + f n) cycle ≡ true = grind (arith, nat_tests, last) in
     ap (λ b. begun f cycle n + (if b then 1 else 0)) on ∙ ap (λ b. b + 1) earlier ∙ add-one n
 
+-- if all tick starts are at most at a cycle, all have begun by it
 pub all_begun : (starts : List ℕ) (cycle : ℕ)
     → ((j : ℕ) → j < length starts → 4096 + listed starts j ≤ cycle) → begun (listed starts) cycle (length starts) ≡ length starts
 all_begun starts cycle h = begun_below (listed starts) cycle (length starts) h

@@ -22,6 +22,7 @@ run_starts s run h =
     h.starts ∙ ap (λ (o : Option (World Beside)). starts_among s run.steps ++ start_stamp s o) h.reached
     ∙ ap (λ b. starts_among s run.steps ++ (if b then (h.world.cycle - 4096) ∷ [] else [])) h.at
 
+-- a run's list of tick starts has one more than those that its states before the end show
 pub run_last : (s : Story) (run : Outcome) → IsOutcome s run → length run.starts ≡ suc (length (starts_among s run.steps))
 run_last s run h = ap length (run_starts s run h) ∙ one_longer (starts_among s run.steps) (h.world.cycle - 4096)
 
@@ -81,6 +82,7 @@ module _ (s : Story) (t : KeepsTimeFrom (joint_start_of s.held) s.bytes s.edges 
         let reaches = h.last.reaches in
         omega (arith, last, early, reaches)
 
+    -- the tick starts of a run keep the cadence
     pub keeps_cadence : KeepsCadenceTo (listed run.starts) (length run.starts - 1)
     keeps_cadence n l = t.near n (listed run.starts n) (starts_at n l)
 

@@ -36,6 +36,7 @@ module _ (lines : PortLinesAreArrivals) (layout : KeyLayout) (keys contacts : Li
   abbrev history : KeyHistory
   history = clean_history c.seen host
 
+  -- what INT 09h has read is what was put out for the bytes that arrived in the model under clean keys
   pub reads : (n stamp : ℕ) (s : IsStart (joint_board contacts host) TICK (image_of layout) from n stamp)
       → bytes_read (log_of s.state.board) ≡ put_out_for false (all_arrived (undebounced layout) history c.starts 0 n)
   reads n stamp s =
@@ -45,6 +46,7 @@ module _ (lines : PortLinesAreArrivals) (layout : KeyLayout) (keys contacts : Li
       (λ (s : Stamped). record { tick = tick_of c.starts n s.cycle; item = s.item }) m.log)
       ∙ lines (undebounced layout) history c.starts n quiet (λ k l. near layout keys contacts host from c k)
 
+-- with switches that settle late each stroke of a key is read once, if the host only takes words and reads the status
 pub strokes_are_read : EdgesAreTakenOnce → ComesExactly → NothingElseArrives → PortLinesAreArrivals → StrokesAreRead
 strokes_are_read taken exact arrives lines layout keys contacts host from c sw quiet =
     let history : KeyHistory = clean_history c.seen host in

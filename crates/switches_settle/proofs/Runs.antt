@@ -49,6 +49,7 @@ module _ (layout : KeyLayout) (keys contacts : List Edge) (host : List HostEvent
   typed : TypesAs layout keys host starts V
   typed = types_as layout keys contacts host starts on cadence sw V es refl (λ n. refl) reading
 
+  -- a run under contacts that settle late is the model's under clean keys
   pub clean : RunsClean layout keys contacts host from
   clean = record {
     goes_on = goes.goes_on;
@@ -64,10 +65,13 @@ module _ (layout : KeyLayout) (keys contacts : List Edge) (host : List HostEvent
     log = λ n stamp s. goes.log n stamp s ∙ ap (λ (m : Side UnderWay). m.log) (typed.like n).side;
   }
 
+-- with a debounce the run under contacts that settle late is the model's under clean keys, if each tick shows few
+-- changes
 pub run_clean : AsShown → SwitchesRunClean
 run_clean law layout keys contacts host fine on ok sw few m small =
     clean layout keys contacts host on sw (switched_on contacts host m) (law layout contacts host fine ok few m small)
 
+-- so it is if in each window of 2,225 cycles at most four places have edges
 pub bounces_run_clean : AsShown → BouncesShowFew → BouncesRunClean
 bounces_run_clean law shows layout keys contacts host fine on ok sw few m small =
     run_clean law layout keys contacts host fine on ok sw (λ n. shows contacts few n) m small

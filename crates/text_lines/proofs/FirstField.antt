@@ -9,6 +9,7 @@ pub fields-blank : (first : ℕ) (others : List ℕ) → is_blank first ≡ true
 unfolding fields
 fields-blank first others blank = rw blank refl
 
+-- an empty text has no field
 pub fields-empty : (text : List ℕ) → length text ≡ 0 → fields text ≡ []
 unfolding fields
 fields-empty [] h = refl

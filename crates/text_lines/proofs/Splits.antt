@@ -24,13 +24,16 @@ place_is p xs i h =
     let both = some_of (ltb (position_or_len p xs) (length xs)) (position_or_len p xs) i h in
     (ltb-true (position_or_len p xs) (length xs) both.0, both.1)
 
+-- the first mark of a text is in the text
 pub is_within : (p : ℕ → Bool) (xs : List ℕ) (i : ℕ) → position p xs ≡ Some i → i < length xs
 is_within p xs i h = let both = place_is p xs i h in omega (arith, both.0, both.1)
 
+-- a text without a mark goes on to its end
 pub none_passes : (p : ℕ → Bool) (xs : List ℕ) → position p xs ≡ None → length xs ≤ position_or_len p xs
 none_passes p xs h = ltb-false (position_or_len p xs) (length xs)
     (none_of (ltb (position_or_len p xs) (length xs)) (position_or_len p xs) h)
 
+-- a text without a mark is one part
 pub split_none : (p : ℕ → Bool) (xs : List ℕ) → position p xs ≡ None → slice_split p xs ≡ xs ∷ []
 split_none p xs h = slice_split_none p xs
     (λ k d within. let all = none_passes p xs h in fails_before_first p xs k d (omega (arith, all, within)))
@@ -38,6 +41,7 @@ split_none p xs h = slice_split_none p xs
 tail_whole : (xs : List ℕ) (n : ℕ) → take (length xs - n) (drop n xs) ≡ drop n xs
 tail_whole xs n = take_all (length xs - n) (drop n xs) (omega (arith, length-drop n xs))
 
+-- a text with a mark is the part before it, and then the parts of what follows
 pub split_some : (p : ℕ → Bool) (xs : List ℕ) (i : ℕ) → position p xs ≡ Some i
     → slice_split p xs ≡ take i xs ∷ slice_split p (take (length xs - (i + 1)) (drop (i + 1) xs))
 split_some p xs i h =

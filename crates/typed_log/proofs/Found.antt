@@ -8,6 +8,7 @@ use Rattle.layout_reader.specs.declared.entry.Entry.{Entry}
 use Rattle.layout_reader.specs.Entries.{IsEntry}
 use Rattle.layout_reader.specs.Layouts.{AreEntries, places_of, entry_at}
 
+-- a place is equal to itself
 pub same_place : (n : ℕ) → (n == n) ≡ true
 same_place n = grind (arith, nat_tests)
 
@@ -63,6 +64,7 @@ pub record Found (p : Entry → Bool) (es : List Entry) (e : Entry) : Type 0 whe
   pub is : IsEntry e
   pub own : entry_at e.place es ≡ Some e
 
+-- what a search finds in a layout passes the test and is the entry at its place
 pub found : (p : Entry → Bool) (e : Entry) (es : List Entry) → AreEntries es → find p es ≡ Some e → Found p es e
 found p e es are f =
     record { passes = passes_in p e es f; is = entry_in p e es are.each f; own = own_in p e es are.own_places f }

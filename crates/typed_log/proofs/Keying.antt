@@ -40,6 +40,7 @@ abbrev pub IsLong : Option Repeat → Type 0
 IsLong None = Unit {0}
 IsLong (Some r) = (r.count == 1) ≡ false
 
+-- if the key that repeats isn't due yet, it waits a tick less, and the tick's edges do the rest
 pub waits : (keys : Keys) (edges : List TickEdge) (rate last : ℕ) (bytes : List ℕ) (started : Bool)
     (rep : Option Repeat)
     (held : List Bool) → IsLong rep
@@ -61,6 +62,7 @@ pressed_at rate place = Some (record { place = place; count = delay rate; on_fn 
 
 module _ (keys : Keys) (rate last : ℕ) (bytes : List ℕ) (started : Bool) (rep : Option Repeat) (held : List Bool)
     (place code : ℕ) (at : keys.code false place ≡ code) (fn : keys.is_fn place ≡ false) where
+  -- a press enters the key's code and begins to repeat, if there is room
   pub presses : nat_lt 16 (length bytes + length (code ∷ [])) ≡ false
       → edges_if true keys (edge place true ∷ []) (typing rate last bytes started rep held)
       ≡ typing rate last (bytes ++ code ∷ []) started (pressed_at rate place) (turned place true held)
@@ -78,6 +80,7 @@ module _ (keys : Keys) (rate last : ℕ) (bytes : List ℕ) (started : Bool) (re
         queue = if b then record q { overrun = true } else record q { bytes = bytes ++ code ∷ [] };
       }) room
 
+  -- the release of a key that only makes enters nothing
   pub ends_silently : keys.make_only place ≡ true
       → edges_if true keys (edge place false ∷ []) (typing rate last bytes started rep held)
       ≡ typing rate last bytes started (ended_at place rep) (turned place false held)
@@ -92,6 +95,7 @@ module _ (keys : Keys) (rate last : ℕ) (bytes : List ℕ) (started : Bool) (re
         queue = if b then q else enter (release (keys.code false place)) q;
       }) only
 
+  -- the release of a key enters F0 and its code, if there is room
   pub ends : keys.make_only place ≡ false → nat_lt 16 (length bytes + length (0xf0 ∷ code ∷ [])) ≡ false
       → edges_if true keys (edge place false ∷ []) (typing rate last bytes started rep held)
       ≡ typing rate last (bytes ++ 0xf0 ∷ code ∷ []) started (ended_at place rep) (turned place false held)
@@ -121,17 +125,20 @@ set_none place l =
     ap (λ b. set (replicate 96 false) place b) (sym (none_pressed place l))
     ∙ set-get_or (replicate 96 false) place false
 
+-- the press of a key that isn't Fn, with Fn up, leaves the layers
 pub layers_of_press : (is_fn : ℕ → Bool) (place : ℕ) → place < 96 → is_fn place ≡ false
     → all_layers_after is_fn ((place, true) ∷ []) no_layers ≡ no_layers
 layers_of_press is_fn place l fn =
     ap (λ b. record { fn_down = if b then true else false; pressed_in = set (replicate 96 false) place false }) fn
     ∙ ap (λ v. record { fn_down = false; pressed_in = v }) (set_none place l)
 
+-- the release of a key that isn't Fn leaves the layers
 pub layers_of_release : (is_fn : ℕ → Bool) (place : ℕ) → is_fn place ≡ false
     → all_layers_after is_fn ((place, false) ∷ []) no_layers ≡ no_layers
 layers_of_release is_fn place fn =
     ap (λ b. record { fn_down = if b then false else false; pressed_in = replicate 96 false }) fn
 
+-- with Fn up the release of a key is an edge in the base layer
 pub release_layered : (is_fn : ℕ → Bool) (place : ℕ) → place < 96
     → layered is_fn ((place, false) ∷ []) no_layers ≡ edge place false ∷ []
 release_layered is_fn place l =
@@ -143,16 +150,20 @@ set_set [] i a b = refl
 set_set (x ∷ xs) zero a b = refl
 set_set (x ∷ xs) (suc i) a b = ap (λ v. x ∷ v) (set_set xs i a b)
 
+-- a key that is pressed and released leaves the held keys
 pub struck : (held : List Bool) (place : ℕ) → get_or held place false ≡ false
     → turned place false (turned place true held) ≡ held
 struck held place up =
     set_set held place true false ∙ ap (λ b. set held place b) (sym up) ∙ set-get_or held place false
 
+-- with no key down a key is up
 pub up_at_first : (place : ℕ) → place < 96 → get_or all_up place false ≡ false
 up_at_first place l = none_pressed place l
 
+-- with one other key down a key is up
 pub up_beside : (place other : ℕ) → place < 96 → place ≢ other → get_or (turned other true all_up) place false ≡ false
 up_beside place other l apart = get_or-set_other all_up other place true false apart ∙ none_pressed place l
 
+-- the delay before a key repeats is at least 49 ticks
 pub delay_long : (rate : ℕ) → 49 ≤ delay rate
 delay_long rate = omega arith

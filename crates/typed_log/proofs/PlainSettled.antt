@@ -200,6 +200,7 @@ module _ (layout : KeyLayout) (h : KeyHistory) (ss : List Stroke) (edges : h.edg
       start [] f.breaks)
       (no_edges layout [] None all_up) (omega arith) (refl, tt) more (append-nil more))
 
+  -- with a debounce a plain stroke leads from rest to rest, and its word is taken
   pub plain_settled : Rest layout h ss edges host fit m words
       → Rest layout h ss edges host fit (suc m) (words ++ Some w ∷ [])
   plain_settled r =

@@ -37,6 +37,7 @@ pub record IsPlain (code scan w : ℕ) : Type 0 where
 abbrev pub waiting : ℕ → ℕ → Option Repeat
 waiting place count = Some (record { place = place; count = count; on_fn = false })
 
+-- the release of the key that repeats ends its repeat
 pub ended_self : (place count : ℕ) → ended_at place (waiting place count) ≡ None
 ended_self place count = ap (λ b. if b then None else waiting place count) (same_place place)
 
@@ -205,6 +206,7 @@ module _ (layout : KeyLayout) (h : KeyHistory) (ss : List Stroke) (edges : h.edg
       (no_edges layout [] None all_up) (omega arith) (refl, tt) (words ++ Some w ∷ [])
       (append-nil (words ++ Some w ∷ [])))
 
+  -- without a debounce a plain stroke leads from rest to rest, and its word is taken
   pub plain_stroke : Rest layout h ss edges host fit m words
       → Rest layout h ss edges host fit (suc m) (words ++ Some w ∷ [])
   plain_stroke r =

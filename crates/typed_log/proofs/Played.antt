@@ -211,6 +211,7 @@ module _ (layout : KeyLayout) (ss : List Stroke) (fit : AllFit layout.entries ss
     number_in_range = omega (arith, l, few_edges 0 ss, few_takes 0 ss);
   }
 
+  -- the history of strokes whose keys the layout has is accepted and quiet
   pub playable : IsPlayable layout (planned ss)
   unfolding planned
   playable = record {
@@ -230,6 +231,7 @@ module _ (layout : KeyLayout) (ss : List Stroke) (fit : AllFit layout.entries ss
     };
   }
 
+-- the history of the strokes of a text of at most 10,000 bytes is accepted and quiet
 pub strokes_are_playable : StrokesArePlayable
 strokes_are_playable layout text ss is l h =
     let a : AreStrokes layout.entries text ss = strokes_are layout is text ss h in

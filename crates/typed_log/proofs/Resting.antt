@@ -92,10 +92,12 @@ module _ (layout : KeyLayout) (h : KeyHistory) (ss : List Stroke) (edges : h.edg
         (omega (arith, z, l))
         (λ o u. tests_are n j o z)
 
+    -- a tick of a stroke sees nothing, if no edge of the stroke is in it
     pub none_then : (n j : ℕ) → n ≡ j + (80 + 10 * m) → j < 10 → seen_by (λ o. j == o) (stroke_start m) s ≡ []
         → tick_edges even h.edges n ≡ []
     none_then n j z l empty = sees_none h.edges n (seen_then n j z l ∙ empty)
 
+    -- a tick of a stroke sees the one edge of the stroke that is in it
     pub one_then : (n j : ℕ) (e : Edge) → n ≡ j + (80 + 10 * m) → j < 10 → e.place < 96
         → seen_by (λ o. j == o) (stroke_start m) s ≡ e ∷ [] → tick_edges even h.edges n ≡ change_of e ∷ []
     one_then n j e z l p one = sees_one h.edges n e p (seen_then n j z l ∙ one)

@@ -33,6 +33,7 @@ module _ (f g : ℕ → Bool) where
       ap (λ v. v ++ change_at k (f k) (g k)) (none_to k (λ p l. h p (omega (arith, l))))
       ∙ change_none k (f k) (g k) (h k (omega arith))
 
+  -- if all keys are as they were, nothing is shown
   pub shown_none : ((p : ℕ) → p < 96 → f p ≡ g p) → shown f g ≡ []
   shown_none h = none_to 96 h
 
@@ -55,6 +56,7 @@ module _ (f g : ℕ → Bool) where
             ∙ ap (λ v. (q, d) ∷ v) (change_none k (f k) (g k) (h k (omega arith) apart))
       ] refl
 
+  -- if one key has changed, its change alone is shown
   pub shown_one : (q : ℕ) (d : Bool) → q < 96 → f q ≡ not d → g q ≡ d → ((p : ℕ) → p < 96 → p ≢ q → f p ≡ g p)
       → shown f g ≡ (q, d) ∷ []
   shown_one q d l was is h = one_to q d was is 96 l h
@@ -116,6 +118,7 @@ takes_none debounce seen held on =
       switches = ap (λ es. record { read = turned_all seen held; settled = turned_all es held }) (none_taken seen held);
     })
 
+-- with a debounce a tick takes the edge that the tick before saw, if the key stays as it was seen
 pub takes_one : (debounce : Bool) (q : ℕ) (d : Bool) (seen : List (ℕ × Bool)) (held held' : List Bool) → debounce ≡ true
     → length held ≡ 96 → q < 96 → is_down_at held q ≡ not d → turned q d held ≡ held'
     → is_down_at (turned_all seen held') q ≡ d → Takes debounce ((q, d) ∷ []) seen ((q, d) ∷ []) seen held held'

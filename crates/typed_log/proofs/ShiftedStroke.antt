@@ -259,6 +259,7 @@ module _ (layout : KeyLayout) (h : KeyHistory) (ss : List Stroke) (edges : h.edg
       (under_shift_key left) start [] f.breaks')
       (no_edges layout [] None all_up) (omega arith) (refl, tt) more (append-nil more))
 
+  -- without a debounce a stroke under shift leads from rest to rest, and its word is taken
   pub shifted_stroke : Rest layout h ss edges host fit m words
       → Rest layout h ss edges host fit (suc m) (words ++ Some w ∷ [])
   shifted_stroke r =

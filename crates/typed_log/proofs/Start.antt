@@ -164,6 +164,7 @@ module _ (layout : KeyLayout) (h : KeyHistory) (ss : List Stroke) (edges : h.edg
       (waits_on count n (omega (arith, z)) (omega (arith, l)))
       (none_before_first layout h ss edges host fit n (omega (arith, l))) tt (omega (arith, l))
 
+  -- after the first eighty ticks the keyboard is at rest, and no word is taken yet
   pub at_rest : Rest layout h ss edges host fit 0 []
   at_rest =
       let e : 80 ≡ 80 + 10 * 0 = omega arith in

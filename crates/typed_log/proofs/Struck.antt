@@ -69,6 +69,7 @@ AreStrokes es [] (s ∷ ss) = ⊥
 AreStrokes es (byte ∷ text) [] = ⊥
 AreStrokes es (byte ∷ text) (s ∷ ss) = Types es (character byte) s × AreStrokes es text ss
 
+-- the strokes that a layout has for a text type its characters, one by one
 pub strokes_are : (layout : KeyLayout) → IsKeyLayout layout → (text : List ℕ) (ss : List Stroke)
     → strokes_of layout text ≡ Some ss → AreStrokes layout.entries text ss
 strokes_are layout is [] [] h = tt
@@ -85,6 +86,7 @@ strokes_are layout is (byte ∷ text) ss h =
     by (Some s) None ss f g h = absurd cc
     by None b ss f g h = absurd cc
 
+-- a text has as many strokes as bytes
 pub lengths : (es : List Entry) (text : List ℕ) (ss : List Stroke) → AreStrokes es text ss → length ss ≡ length text
 lengths es [] [] a = refl
 lengths es [] (s ∷ ss) a = absurd a
@@ -130,6 +132,7 @@ abbrev pub Fits : List Entry → Stroke → Type 0
 Fits es (Plain key) = IsTaken es key.place
 Fits es (Shifted shift key) = AreApart es shift.place key.place
 
+-- a key under shift isn't at the place of the shift key
 pub apart_of : (es : List Entry) (c : ℕ) (shift key : Entry) → IsUnderShift es c shift key
     → (shift.place == key.place) ≡ false
 apart_of es c shift key u =
@@ -155,6 +158,7 @@ abbrev pub AllFit : List Entry → List Stroke → Type 0
 AllFit es [] = Unit {0}
 AllFit es (s ∷ ss) = Fits es s × AllFit es ss
 
+-- the keys of a text's strokes are at places of the matrix that the layout takes
 pub all_fit : (es : List Entry) (text : List ℕ) (ss : List Stroke) → AreStrokes es text ss → AllFit es ss
 all_fit es [] [] a = tt
 all_fit es [] (s ∷ ss) a = absurd a

@@ -43,6 +43,7 @@ pub no_prefix : (k : ℕ) → k < 84 → (code_at k == 0xf0) ≡ false
 unfolding keys
 no_prefix = tests_by 84 (λ k. code_at k == 0xf0) (λ k. false) refl
 
+-- the controller makes a key's scan code of the code that the key sends
 pub scan_is : (k : ℕ) → k < 84 → translated (code_at k) ≡ Some (scan_at k)
 unfolding keys scan_codes translated
 scan_is = at_table (λ k. translated (code_at k)) (λ k. Some (scan_at k)) 84 refl
@@ -76,6 +77,7 @@ plain_makes k w l e z =
     (λ k. on_word (word_of base k) (λ w. entered w start))
     84 refl k l) e z
 
+-- the break of a key that types a character enters nothing
 pub plain_breaks : (k w : ℕ) → k < 84 → word_of base k ≡ Some w → (w % 256 == 0) ≡ false → fed (broken k) start
     ≡ quiet start
 unfolding keys words letter_on reverses fed marks on_sysreq alt_broken on_shift_key locks lock_made on_lock_key
@@ -104,11 +106,13 @@ shift_table f g h k l s =
     ∙ at_table (λ k. if is_shift k then f k else quiet start) (λ k. if is_shift k then g k else quiet start) 84 h k l
     ∙ ap (λ b. if b then g k else quiet start) s
 
+-- the make of a shift key puts its shift down, and enters nothing
 pub shift_makes : (k : ℕ) → k < 84 → is_shift k ≡ true → fed (scan_at k) start ≡ quiet (under_shift_key (is_left k))
 unfolding keys words letter_on reverses fed marks on_sysreq alt_broken on_shift_key locks lock_made on_lock_key
     without_words in_pause with_alt with_ctrl alone
 shift_makes = shift_table (λ k. fed (scan_at k) start) (λ k. quiet (under_shift_key (is_left k))) refl
 
+-- the break of a shift key puts its shift up, and enters nothing
 pub shift_breaks : (k : ℕ) → k < 84 → is_shift k ≡ true → fed (broken k) (under_shift_key (is_left k)) ≡ quiet start
 unfolding keys words letter_on reverses fed marks on_sysreq alt_broken on_shift_key locks lock_made on_lock_key
     without_words in_pause with_alt with_ctrl alone
@@ -125,6 +129,7 @@ shifted_makes_by left k w l e z h =
     (at_table (λ k. on_word (word_of shifted k) (λ w. fed (scan_at k) (under_shift_key left)))
     (λ k. on_word (word_of shifted k) (λ w. entered w (under_shift_key left))) 84 h k l) e z
 
+-- under shift the make of a key enters the key's shifted word
 pub shifted_makes : (left : Bool) (k w : ℕ) → k < 84 → word_of shifted k ≡ Some w → (w % 256 == 0) ≡ false
     → fed (scan_at k) (under_shift_key left) ≡ entered w (under_shift_key left)
 unfolding keys words letter_on reverses fed marks on_sysreq alt_broken on_shift_key locks lock_made on_lock_key
@@ -144,6 +149,7 @@ shifted_breaks_by left k w l e z h =
     (at_table (λ k. on_word (word_of shifted k) (λ w. fed (broken k) (with_word left w)))
     (λ k. on_word (word_of shifted k) (λ w. quiet (with_word left w))) 84 h k l) e z
 
+-- under shift the break of a key enters nothing
 pub shifted_breaks : (left : Bool) (k w : ℕ) → k < 84 → word_of shifted k ≡ Some w → (w % 256 == 0) ≡ false
     → fed (broken k) (with_word left w) ≡ quiet (with_word left w)
 unfolding keys words letter_on reverses fed marks on_sysreq alt_broken on_shift_key locks lock_made on_lock_key

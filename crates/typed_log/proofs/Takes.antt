@@ -50,6 +50,7 @@ module _ (events : List HostEvent) where
   abbrev pub IsUndueTo : ℕ → ℕ → Type 0
   IsUndueTo done stop = (e : HostEvent) → slice_get events done ≡ Some e → stop ≤ e.stamp + 4096
 
+  -- cycles in which no event is due change nothing of the PC's side
   pub undue : (n now stop : ℕ) (q : Pc) → n + now ≡ stop → IsUndueTo q.done stop → pc_after events n now q ≡ q
   undue zero now stop q z u = refl
   undue (suc n) now stop q z u =
@@ -57,6 +58,7 @@ module _ (events : List HostEvent) where
       (waits_now now (slice_get events q.done) q (λ e g. omega (arith, z, u e g)))
       ∙ undue n (suc now) stop q (omega (arith, z)) u
 
+  -- and nothing is said in them
   pub undue_silent : (n now stop : ℕ) (q : Pc) → n + now ≡ stop → IsUndueTo q.done stop → items_in events n now q ≡ []
   undue_silent zero now stop q z u = refl
   undue_silent (suc n) now stop q z u =
@@ -86,12 +88,14 @@ module _ (events : List HostEvent) where
       let k : nat_le (t + 14336 + 4096) now ≡ true = grind (arith, nat_tests, at) in
       ap (λ v. items_now now v q) is ∙ ap (λ b. if b then Taken (first_word q.bios) ∷ [] else []) k
 
+  -- in the cycle in which a take is due a word is taken
   pub taken : (n now stop t : ℕ) (q : Pc) → suc n + now ≡ stop → slice_get events q.done ≡ Some (take_of t)
       → t + 18432 ≡ now → IsUndueTo (q.done + 1) stop → pc_after events (suc n) now q ≡ took q
   taken n now stop t q z is at u =
       ap (λ v. pc_after events n (suc now) v) (takes_now now t (slice_get events q.done) q is at)
       ∙ undue n (suc now) stop (took q) (omega (arith, z)) u
 
+  -- and it is said which word
   pub taken_says : (n now stop t : ℕ) (q : Pc) → suc n + now ≡ stop → slice_get events q.done ≡ Some (take_of t)
       → t + 18432 ≡ now → IsUndueTo (q.done + 1) stop → items_in events (suc n) now q ≡ Taken (first_word q.bios) ∷ []
   taken_says n now stop t q z is at u =
@@ -109,6 +113,7 @@ take_at k (suc i) (s ∷ ss) l =
     let z : i + suc k ≡ suc i + k = omega arith in
     take_at (suc k) i ss (omega (arith, l)) ∙ ap (λ n. Some (take_of (stroke_start n))) z
 
+-- each take of a text's strokes comes 14,336 cycles after the start of its stroke
 pub take_only : (k i : ℕ) (ss : List Stroke) (e : HostEvent) → slice_get (takes_from k ss) i ≡ Some e
     → e.stamp ≡ stroke_start (i + k) + 14336
 take_only k i [] e h = absurd cc

@@ -207,6 +207,7 @@ module _ (layout : KeyLayout) (ok : IsKeyLayout layout) (h : KeyHistory) (ss : L
       (omega (arith, l))
       (one_stroke m (character byte) s characters here (omega (arith, l)) a.0 r))
 
+  -- after all strokes of a text the words that were taken have its characters
   pub all_typed : (text : List ℕ) → AreStrokes layout.entries text ss → Typed (length ss) (characters_of text)
   all_typed text a =
       strokes_on 0 text ss [] a (λ i. let x : i ≡ i + 0 = omega arith in ap (λ v. slice_get ss v) x) (omega arith)
@@ -223,6 +224,7 @@ module _ (layout : KeyLayout) (ok : IsKeyLayout layout) (h : KeyHistory) (ss : L
       subst (λ v. Says text v) e (record
       { nothing_lost = t.rest.is.kept; taken = ap (λ v. map (option_map low_byte) v) t.rest.is.taken_so_far ∙ t.low })
 
+-- the log of the strokes of a text says the text
 pub strokes_say_text : StrokesSayText
 unfolding planned
 strokes_say_text layout text ss is l h =

@@ -108,6 +108,7 @@ module _ (edges : List Edge) (n : ℕ) where
       by_seen ∙ ap (λ v. map change_of (by_place (λ p. of_place p v) 96)) h
       ∙ ap (λ v. map change_of v) (none_by_place 96)
 
+  -- a tick that sees one edge of all has that edge alone
   pub sees_one : (e : Edge) → e.place < 96 → filter (is_seen even n) edges ≡ e ∷ [] → tick_edges even edges n
       ≡ change_of e ∷ []
   sees_one e l h =

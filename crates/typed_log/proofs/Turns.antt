@@ -99,6 +99,7 @@ module _ (keys : Keys) (rate last : ℕ) where
         ap (λ b. if b then record { byte = None; mark = true } else coded mark code (translated code)) np
         ∙ ap (λ o. coded mark code o) is
 
+    -- a code that is sent is translated, put out and read by INT 09h
     pub code_passes : (bytes : List ℕ) (mark : Bool) (out done : ℕ) (bios after : State) (items : List Item)
         → fed (put mark) bios ≡ record { after = after; items = items }
         → Passes keys rate
@@ -144,6 +145,7 @@ pub record Moves (layout : KeyLayout) (edges : List (ℕ × Bool)) (bytes : List
       ≡ typing layout.rate last bytes' started rep' held'
 
 module _ (layout : KeyLayout) where
+  -- without edges the queue, what repeats and the held keys stay
   pub no_edges : (bytes : List ℕ) (rep : Option Repeat) (held : List Bool)
       → Moves layout [] bytes rep held bytes rep held
   no_edges bytes rep held = record { layers = refl; turns = refl; keyed = λ last started. refl }
@@ -156,6 +158,7 @@ module _ (layout : KeyLayout) where
     pub fn_is : is_fn_place layout place ≡ false
 
   module _ (place code : ℕ) (bytes : List ℕ) (rep : Option Repeat) (held : List Bool) where
+    -- the press of a key enters its code, and the key repeats and is held
     pub press_moves : (only : Bool) → IsKeyAt place code only → nat_lt 16 (length bytes + length (code ∷ [])) ≡ false
         → Moves layout ((place, true) ∷ []) bytes rep held (bytes ++ code ∷ []) (pressed_at layout.rate place)
         (turned place true held)
@@ -166,6 +169,7 @@ module _ (layout : KeyLayout) where
           presses (keys_of layout) layout.rate last bytes started rep held place code k.code_is k.fn_is room;
     }
 
+    -- the release of a key that only makes ends its repeat and its hold
     pub silent_moves : IsKeyAt place code true
         → Moves layout ((place, false) ∷ []) bytes rep held bytes (ended_at place rep) (turned place false held)
     silent_moves k = record {
@@ -178,6 +182,7 @@ module _ (layout : KeyLayout) where
           k.only_is;
     }
 
+    -- the release of a key enters F0 and its code, and ends its repeat and its hold
     pub break_moves : IsKeyAt place code false → nat_lt 16 (length bytes + length (0xf0 ∷ code ∷ [])) ≡ false
         → Moves layout ((place, false) ∷ []) bytes rep held (bytes ++ 0xf0 ∷ code ∷ []) (ended_at place rep)
         (turned place false held)
@@ -269,6 +274,7 @@ module _ (layout : KeyLayout) (h : KeyHistory) (ss : List Stroke) (host : h.host
   said_is : items_of_meeting (meets (keyboard layout) (at_work next layout.rate before rep held)) before.pc ≡ items
   said_is = ap (λ v. items_of_meeting v before.pc) met ∙ p.said
 
+  -- a tick of a stroke leads to the next one, by the edges that it takes
   pub turn_by : n < 86 + 10 * before.pc.done → AreKept items → (words' : List (Option ℕ)) → words ++ taken_of items
       ≡ words'
       → Reached (keyboard layout) h ss host (suc n) (at_work next' layout.rate (with_bytes after bytes') rep' held') words'
@@ -282,6 +288,7 @@ module _ (layout : KeyLayout) (h : KeyHistory) (ss : List Stroke) (host : h.host
       (ap (λ v. v ++ []) said_is ∙ append-nil items)
       kept)
 
+  -- so does the tick in which a word is taken
   pub taking_by : n ≡ 86 + 10 * before.pc.done → before.pc.done < length ss
       → AreKept (items ++ Taken (first_word after.pc.bios) ∷ []) → (words' : List (Option ℕ))
       → words ++ taken_of (items ++ Taken (first_word after.pc.bios) ∷ []) ≡ words'
@@ -316,11 +323,13 @@ module _ (layout : KeyLayout) (h : KeyHistory) (ss : List Stroke) (host : h.host
   takes : Takes layout.debounce [] edges edges [] held held'
   takes = takes_all layout.debounce edges held held' off m.turns
 
+  -- without a debounce a tick takes the edges that it sees
   pub turn : n < 86 + 10 * before.pc.done → AreKept items → (words' : List (Option ℕ)) → words ++ taken_of items
       ≡ words'
       → Reached (keyboard layout) h ss host (suc n) (at_work [] layout.rate (with_bytes after bytes') rep' held') words'
   turn = turn_by layout h ss host n before after words items [] edges edges [] rep rep' held held' bytes' r sees takes long p m
 
+  -- so does the tick in which a word is taken
   pub taking_turn : n ≡ 86 + 10 * before.pc.done → before.pc.done < length ss
       → AreKept (items ++ Taken (first_word after.pc.bios) ∷ []) → (words' : List (Option ℕ))
       → words ++ taken_of (items ++ Taken (first_word after.pc.bios) ∷ []) ≡ words'

@@ -35,6 +35,7 @@ nine a b c d e f g h i =
     (afterwards (line a ++ line b) c
     (afterwards (line a) b (one a))))))))
 
+-- the header of a dump is of whole lines
 pub header_is_lines : AreLines header
 header_is_lines =
     nine (codes "$timescale 100 ns $end") (codes "$scope module kbd $end") (codes "$var wire 1 c clock $end")
@@ -73,6 +74,7 @@ added_is_lines : (o : Option (World Beside)) (ear : Ear) → AreLines (text_in o
 added_is_lines None ear = inl refl
 added_is_lines (Some w) ear = sample_is_lines (sample_in w) ear
 
+-- what each step adds to a dump is of whole lines
 pub changes_are_lines : (s : Story) (k : ℕ) → AreLines (changes_to s k)
 changes_are_lines s zero = inl refl
 changes_are_lines s (suc k) =

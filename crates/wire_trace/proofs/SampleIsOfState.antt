@@ -52,6 +52,7 @@ module _ (e : Ending) (s : Story) (k : ℕ) (c : Course) (b : IsAtReport e true 
   still : HearAlike (heard_to s b.last) (heard_to s k) × (changes_to s b.last ≡ changes_to s k)
   still = still_to s k (h.levels ∙ ap (λ (a : Ear). Some (wires_at a.last)) h.all) b.last b.quiet.later (b.quiet.levels refl)
 
+  -- the machine's cycle is later than that of the last sample
   pub rises_now : (cycle : ℕ) → cycle ≡ c.joint.cycle → is_later_than cycle old.last ≡ true
   rises_now cycle now =
       let later = b.later in

@@ -26,6 +26,7 @@ pub record HearAlike (a b : Ear) : Type 0 where
 with_falls : Sample → List Fall → Ear
 with_falls x falls = record { last = Some x; falls = falls }
 
+-- two ears that hear the next sample alike are the same after it
 pub alike_heard : (x : Sample) (a b : Ear) → HearAlike a b → heard x a ≡ heard x b
 unfolding with_falls
 alike_heard x a b h =
@@ -33,6 +34,7 @@ alike_heard x a b h =
     (ap (λ (l : Lines). if is_fall l x.lines then with_fall (fall_at x) a.falls else a.falls) h.wires
     ∙ ap (λ (f : List Fall). if is_fall (wires_at b.last) x.lines then with_fall (fall_at x) f else f) h.falls)
 
+-- for two ears that hear the next sample alike a dump gets the same text
 pub alike_text : (x : Sample) (a b : Ear) → HearAlike a b → sample_text x a ≡ sample_text x b
 alike_text x a b h =
     let same : completed x a ≡ completed x b =
@@ -96,6 +98,7 @@ module _ (s : Story) (k : ℕ) (level : lines_at s k ≡ Some (wires_at (heard_t
       subst IsStill (sym e)
       (one_still (m + k) before (state_at s (suc (m + k))) (levels (suc (m + k)) (omega arith) (omega arith)))
 
+  -- as long as the wires keep their levels, the dump's text stays, and what is heard next is the same
   pub still_to : (n : ℕ) → k ≤ n → ((j : ℕ) → k ≤ j → j ≤ n → lines_at s j ≡ lines_at s k) → IsStill n
   still_to n l levels =
       let m = n - k in

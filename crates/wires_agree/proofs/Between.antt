@@ -54,6 +54,7 @@ module _ {F : Type 0} (opens : F → Bool) where
   after_free now stop awaits (Request byte) h = refl
   after_free now stop awaits (Busy x) h = h
 
+  -- if no byte is under way, none is after a cycle in which nothing comes over the link
   pub stays_free : (events : List HostEvent) (now : ℕ) (s : Side F) → is_busy s.port.link ≡ false
       → is_busy (goes_on opens events now s).port.link ≡ false
   unfolding goes_on
@@ -74,6 +75,7 @@ look_still now dat true p (Request byte) h = refl
 look_still now dat true p (Busy x) h = absurd cc
 look_still now dat false p l h = refl
 
+-- between frames a look at the wires changes nothing while the keyboard lets the clock go
 pub looks_still : (now : ℕ) (latch : Lines) (b : Pc) → latch.clk ≡ true → is_busy b.side.port.link ≡ false
     → (looked now (wires latch b) b).side ≡ b.side
 looks_still now latch b up h =
@@ -89,6 +91,7 @@ unfolding board_cycle byte_cycle
 one_cycle events now latch b up h =
     ap (λ s. seen_in_bytes (goes_on is_breakable events now s)) (looks_still now latch b up h) ∙ sym (in_bytes_same events now b.side)
 
+-- between frames no byte begins in a cycle in which the keyboard lets the clock go
 pub one_free : (events : List HostEvent) (now : ℕ) (latch : Lines) (b : Pc) → latch.clk ≡ true → is_busy b.side.port.link ≡ false
     → is_busy (board_cycle events now latch b).side.port.link ≡ false
 unfolding board_cycle

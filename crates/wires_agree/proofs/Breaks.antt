@@ -16,6 +16,7 @@ pub record Pulls (begin : ℕ) (l : Link Wire) : Type 0 where
   pub from : begin ≤ since
   pub is : pulled l ≡ Some since
 
+-- after a cycle a byte under way is still so, or was broken off in that cycle, and the controller pulls the clock
 pub busy_or_breaks : {F : Type 0} (breaks : F → Bool) (events : List HostEvent) (now : ℕ) (s : Side F) (x : F) → s.port.link ≡ Busy x
     → Stays breaks x now (goes_on breaks events now s).port.link
 unfolding goes_on

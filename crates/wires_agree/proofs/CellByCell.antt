@@ -93,6 +93,7 @@ module _ (events : List HostEvent) (latch : ℕ → Lines) (now : ℕ) (bits : �
       by_case true e = before i (grind (arith, nat_tests, e))
       by_case false e = let same : k ≡ i = grind (arith, nat_tests, e, l) in subst IsOn same on
 
+  -- a byte that can be broken off isn't in its tenth cell
   pub not_last : (k : ℕ) → k < 10 → is_breakable (w k) ≡ true → suc k < 10
   not_last k l opens = by_case (nat_lt k 9) refl
     where

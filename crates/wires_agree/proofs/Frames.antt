@@ -29,6 +29,7 @@ fall now line b h l =
     ap (λ c. record b.side { port = if c && not line.clk then edge_at now line.dat b.side.port.link b.side.port else b.side.port }) h
     ∙ ap (λ c. record b.side { port = if not c then edge_at now line.dat b.side.port.link b.side.port else b.side.port }) l
 
+-- a cycle in byte time is what comes over the link, and then the cycle of the host and the controller
 pub event_by : (events : List HostEvent) (now : ℕ) (e : Event) (m : Side UnderWay)
     → byte_cycle events now e m ≡ goes_on is_open events now (record m { port = happened_at now e m.port })
 unfolding byte_cycle

@@ -102,6 +102,7 @@ module _ (events : List HostEvent) (latch : ℕ → Lines) (now byte : ℕ) (bit
         },
       )
 
+-- in each cell of a frame for the keyboard the controller puts the frame's next bit on the data wire
 pub frame_shown : FrameShown
 frame_shown events latch now byte bits b is here high k n below short =
     ap (λ l. (drive l).dat) (level events latch now byte bits b is (record { link_is = here; clock_is = high }) k n below short)

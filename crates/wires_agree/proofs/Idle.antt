@@ -31,6 +31,7 @@ idle_closed from k now p h = by_case (from && (k == 8))
     by_case true = ap (λ l. record p { link = l }) (at_link p.link h)
     by_case false = refl
 
+-- while no byte is under way, an edge after the first brings nothing in byte time
 pub idle_edge : (events : List HostEvent) (from : Bool) (k now : ℕ) (m : Side UnderWay) → is_busy m.port.link ≡ false
     → byte_cycle events now (at_edge from (suc k)) m ≡ byte_cycle events now Quiet m
 idle_edge events from k now m h =
@@ -38,6 +39,7 @@ idle_edge events from k now m h =
     ∙ ap (λ p. goes_on is_open events now (record m { port = p })) (idle_closed from k now m.port h)
     ∙ sym (event_by events now Quiet m)
 
+-- while the controller pulls the clock, no byte is under way in byte time
 pub idle_seen : (l : Link Wire) (h : ℕ) → pulled l ≡ Some h → is_busy (link_by without_bits l) ≡ false
 idle_seen Free h e = refl
 idle_seen (Hold since) h e = refl

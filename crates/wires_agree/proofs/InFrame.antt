@@ -50,6 +50,7 @@ module _ (events : List HostEvent) (latch : ℕ → Lines) (now : ℕ) (bits : �
       let z : j ≡ k = grind (arith, nat_tests, e, f) in
       subst (λ i. Agrees i n) z (off.in_cell n short)
 
+  -- up to the cell at whose look the controller pulls the clock, byte time is what the wires are
   pub in_sent : (k n : ℕ) → k < 10 → n ≤ 31 → ((i : ℕ) → i < k → lets_look events latch now b i ≡ true) → Agrees k n
   in_sent k n below short lets =
       elim (holds_so events latch now bits is b q Free w true at (sent_way bits b.side.port) k below) [
@@ -67,15 +68,18 @@ afterwards_low events latch now n b m afterwards is down =
     ∙ (low_span events latch n (321 + now) (board_cycles events latch 321 now b) down afterwards.low afterwards.free).0
     ∙ ap (λ v. quietly events n (321 + now) v) is
 
+-- in each cycle of the keyboard's frame byte time is what the wires are without their bits
 pub sent_in_bytes : SentInBytes
 sent_in_bytes events latch now bits b is here high k n below short lets =
     in_sent events latch now bits b is (record { link_is = here; clock_is = high }) k n below short lets
 
+-- in each cycle of a frame for the keyboard byte time is what the wires are without their bits
 pub got_in_bytes : GotInBytes
 got_in_bytes events latch now byte bits b is here high k n below short =
     ((through events latch now byte bits b is (record { link_is = here; clock_is = high }) k below).up_to_here k
     (omega arith)).in_cell n short
 
+-- after the keyboard's eleventh edge its byte has arrived in byte time as on the wires
 pub sent_ends : SentEndsInBytes
 sent_ends events latch now byte n bits b is right here high flip lets down =
     let at : IsAt b Free true = record { link_is = here; clock_is = high } in
@@ -93,6 +97,7 @@ sent_ends events latch now byte n bits b is right here high flip lets down =
           absurd (cc (lets j o.few, pulled_is_low (board_cycles events latch (32 * j + 18) now b).side.port.link o.since o.pulls))
     ]
 
+-- after the eleventh edge of a frame for the keyboard the byte has passed in byte time as on the wires
 pub got_ends : GotEndsInBytes
 got_ends events latch now byte n bits b is here high down =
     let e = got_frame events latch now byte bits b is (record { link_is = here; clock_is = high }) in

@@ -26,6 +26,7 @@ cycle_once events now latch b h =
     let line : Lines = wires latch b in
     goes_once events now (looked now line b).side (look_begins (b.clock && not line.clk) now line.dat b.side.port h)
 
+-- each pull of the clock by the controller lasts at least 64 cycles
 pub pulls_last : PullsLast
 pulls_last events latch now n b high low l =
     let next : Pc = board_cycle events now (latch now) b in

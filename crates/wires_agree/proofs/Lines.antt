@@ -5,6 +5,7 @@ use Rattle.board_terms.specs.declared.lines.Lines.{Lines}
 use Rattle.ctl_wire.specs.Wires.{Pc, board_cycle}
 use Rattle.wires_agree.specs.Cycles.{board_cycles}
 
+-- if the keyboard drives the same in n cycles, the PC's side is the same after them
 pub same_lines : (events : List HostEvent) (one other : ℕ → Lines) (n now : ℕ) (b : Pc)
     → ((o : ℕ) → now ≤ o → o < now + n → one o ≡ other o)
     → board_cycles events one n now b ≡ board_cycles events other n now b

@@ -51,6 +51,7 @@ module _ (events : List HostEvent) (latch : ℕ → Lines) (start rest : ℕ) (a
       ∙ ap (λ j. board_cycles events latch rest j at609) q
 
   module _ (up : IsUp latch (256 + start) (288 + start)) (idle : is_busy at256.side.port.link ≡ false) where
+    -- from the look up to the meeting the keyboard lets the clock go
     pub up288 : (o : ℕ) → 256 + start ≤ o → o < 256 + start + 32 → (latch o).clk ≡ true
     up288 o l u = up o (omega (arith, l)) (omega (arith, u))
 
@@ -184,18 +185,22 @@ module _ (events : List HostEvent) (latch : ℕ → Lines) (start rest : ℕ) (a
               joins true (Some byte) Cut Cut met refl passes last k e
         ]
 
+-- a tick in which a right frame is sent is in byte time a tick in which its byte arrives
 pub all_sent : SentTick
 all_sent events latch start rest more byte k bits b up here there flip frame right leaves ends er e =
     sent_tick events latch start rest b up (ap is_busy here) byte more bits here there flip frame right leaves er ends.low ends.high k e
 
+-- a tick in which the keyboard clocks a requested frame is in byte time a tick in which it gets the byte
 pub all_got : GotTick
 all_got events latch start rest more byte k offer bits b up here frame ends er e =
     got_tick events latch start rest b up (ap is_busy here) byte more offer bits here frame er ends.low ends.high k e
 
+-- a tick whose link isn't free any longer after the look is in byte time one whose byte is cut
 pub all_cut : CutTick
 all_cut events latch start rest byte k b up here there high e =
     cut_tick events latch start rest b up (ap is_busy here) byte here there high k e
 
+-- a tick in which the keyboard leaves the clock alone is in byte time one in which no byte passes
 pub all_still : StillTick
 all_still events latch start rest k tested offer meeting b up idle met none high e =
     still_tick events latch start rest b up idle tested offer meeting met none high k e

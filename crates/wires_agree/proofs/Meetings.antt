@@ -94,6 +94,7 @@ module _ (events : List HostEvent) (latch : ℕ → Lines) where
     clock_is = last_clock 31 now b up (ap (λ l. (drive l).clk) (free_between 31 1 32 now b refl (omega arith) up here there));
   }
 
+  -- a byte that is requested at the look is requested still at the meeting, with the clock up
   pub request_at : (now : ℕ) (b : Pc) (byte : ℕ) → ((o : ℕ) → now ≤ o → o < now + 32 → (latch o).clk ≡ true)
       → b.side.port.link ≡ Request byte
       → IsAt (board_cycles events latch 32 now b) (Request byte) true
@@ -102,6 +103,7 @@ module _ (events : List HostEvent) (latch : ℕ → Lines) where
     clock_is = last_clock 31 now b up (ap (λ l. (drive l).clk) (requests 31 now b byte (λ o l u. up o l (omega (arith, u))) here));
   }
 
+-- while the keyboard lets the clock go, a free link stays free, or the controller pulls the clock
 pub free_or_pulls : (events : List HostEvent) (latch : ℕ → Lines) (n now : ℕ) (b : Pc) → n ≤ 64
     → ((o : ℕ) → now ≤ o → o < now + n → (latch o).clk ≡ true) → b.side.port.link ≡ Free
     → ((board_cycles events latch n now b).side.port.link ≡ Free) ⊎ (Pulls now (board_cycles events latch n now b).side.port.link)
@@ -122,6 +124,7 @@ free_or_pulls events latch (suc n) now b short up here =
           inr (record { since = now; from = omega arith; is = on.1 })
     ]
 
+-- while the controller pulls the clock, no byte is under way on the wires
 pub not_busy : (l : Link Wire) (h : ℕ) → pulled l ≡ Some h → is_busy l ≡ false
 not_busy Free h e = refl
 not_busy (Hold since) h e = refl
@@ -129,6 +132,7 @@ not_busy (Ask byte since) h e = refl
 not_busy (Request byte) h e = refl
 not_busy (Busy w) h e = absurd cc
 
+-- if the controller pulls the clock by the time of the meeting, the byte that is offered is cut
 pub cut_of : (byte : ℕ) (l : Link Wire) (h : ℕ) → pulled l ≡ Some h → meeting_of Free (Some byte) (link_by without_bits l) ≡ Cut
 cut_of byte Free h e = absurd cc
 cut_of byte (Hold since) h e = refl

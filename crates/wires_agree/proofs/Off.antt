@@ -136,6 +136,7 @@ module _ (events : List HostEvent) (latch line : ℕ → Lines) (start j n : ℕ
       since_look (λ k u. off.before k (omega (arith, u, l))) (off.before j l)
   here i off false false e f = let z : i ≡ j = grind (arith, nat_tests, e, f) in by_look (subst Off z off)
 
+  -- by the look of cell j the byte was broken off, and byte time is what the wires are
   pub is_off : IsOff
   is_off =
       elim (holds_so events line now bits frame c q Free w true at (sent_way bits c.side.port) j below) [
@@ -191,6 +192,7 @@ module _ (events : List HostEvent) (latch line : ℕ → Lines) (start j n : ℕ
       by (inr (there, inl late)) = inl late
       by (inr (there, inr pulls)) = at_start j refl pulls
 
+-- a tick whose frame the controller breaks off at a look is in byte time one whose byte is cut
 pub all_broken : BrokenTick
 all_broken events latch line start rest byte j n k bits b up earlier later frame below afterwards short same leaves low high e =
     let c : Pc = at_meeting events latch start b in

@@ -110,6 +110,7 @@ cycle_flip events now latch b are f =
     (choice (b.clock && not line.clk)
     (edge_at now line.dat b.side.port.link b.side.port) b.side.port (edge_flip now line.dat b.side.port.link b.side.port f) f)
 
+-- a flip that is pending is of a data bit or the parity in every cycle, if those of the events are
 pub flips_stay : FlipsStay
 flips_stay events latch zero now b are f = f
 flips_stay events latch (suc n) now b are f =

@@ -59,5 +59,6 @@ pulled_span events latch (suc n) now b h e l =
     let rest = pulled_span events latch n (suc now) next h on (omega (arith, l)) in
     (rest.0 ∙ ap (λ m. quietly events n (suc now) m) (still_cycle events now (latch now) b same), rest.1)
 
+-- in the 64 cycles of a pull the PC's side goes on as in byte time, whatever the keyboard drives
 pub while_pulled : WhilePulled
 while_pulled events latch n now b since e l = pulled_span events latch n now b since e l

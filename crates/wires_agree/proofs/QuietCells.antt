@@ -10,6 +10,7 @@ use Rattle.byte_time.proofs.Quiet.{quiet_more}
 use Rattle.wires_agree.specs.InFrame.{at_edge, up_to}
 
 module _ (events : List HostEvent) (now : ℕ) (m : Side UnderWay) where
+  -- up to the tenth edge a frame is in byte time its begin and then quiet cycles
   pub quiet_cells : (k n : ℕ) → k ≤ 8
       → up_to events true k n now m ≡ quietly events (32 * k + n) (suc now) (byte_cycle events now (Begins true) m)
   quiet_cells zero n l = let z : n ≡ 32 * 0 + n = omega arith in
@@ -25,6 +26,7 @@ module _ (events : List HostEvent) (now : ℕ) (m : Side UnderWay) where
       ∙ sym (quiet_more events (32 * k + 31) (suc n) (32 * suc k + n) (suc now) y e
       ∙ ap (λ j. quietly events (suc n) j (quietly events (32 * k + 31) (suc now) y)) z)
 
+  -- with the tenth edge, which closes it, a frame is in byte time its begin, its closing and quiet cycles
   pub all_cells : (n : ℕ)
       → up_to events true 9 n now m
       ≡ quietly events n (289 + now)

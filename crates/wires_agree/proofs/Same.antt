@@ -71,6 +71,7 @@ module _ {F G : Type 0} (f : F → G) where
   moves_same : (now : ℕ) (p : LinkEnd F) → moves_link now (port_by f p) ≡ port_by f (moves_link now p)
   moves_same now p = ap (λ l. record (port_by f p) { link = l }) (after_same now (p.core.output_full || is_disabled p.core) p.awaits p.link)
 
+  -- how the controller settles doesn't depend on what is known of a byte under way
   pub settled_same : (now : ℕ) (p : LinkEnd F) → settled now (port_by f p) ≡ settled_by (settled now p)
   settled_same now p =
       ap (λ t. record { port = moves_link now t.port; did = t.did }) (takes_same now p)
@@ -85,6 +86,7 @@ module _ {F G : Type 0} (f : F → G) where
       by_count true = refl
       by_count false = refl
 
+  -- what the controller does with a byte that came doesn't depend on it either
   pub received_same : (now : ℕ) (came : Option ℕ) (p : LinkEnd F) → port_by f (received now came p) ≡ received now came (port_by f p)
   received_same now came p =
       ap (λ l. record {

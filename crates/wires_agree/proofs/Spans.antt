@@ -27,11 +27,13 @@ pub board_by : (events : List HostEvent) (now : ℕ) (latch : Lines) (b : Pc) (s
 unfolding board_cycle
 board_by events now latch b s e = ap (λ t. goes_on is_breakable events now t) e
 
+-- the clock at the controller's look is high if both the keyboard and the controller let it go
 pub clock_by : (events : List HostEvent) (now : ℕ) (latch : Lines) (b : Pc)
     → (board_cycle events now latch b).clock ≡ (latch.clk && (drive b.side.port.link).clk)
 unfolding board_cycle
 clock_by events now latch b = refl
 
+-- a cycle in byte time in which nothing comes over the link is one of the host and the controller alone
 pub quiet_by : (events : List HostEvent) (now : ℕ) (m : Side UnderWay) → byte_cycle events now Quiet m ≡ goes_on is_open events now m
 unfolding byte_cycle
 quiet_by events now m = refl
@@ -43,6 +45,7 @@ still_cycle events now latch b e =
     ap (λ s. seen_in_bytes s) (board_by events now latch b b.side e) ∙ sym (in_bytes_same events now b.side)
     ∙ sym (quiet_by events now (seen_in_bytes b.side))
 
+-- an and with true changes nothing
 pub and-true : (a : Bool) → (a && true) ≡ a
 and-true true = refl
 and-true false = refl
@@ -64,6 +67,7 @@ pub record IsAt (b : Pc) (link : Link Wire) (clock : Bool) : Type 0 where
 abbrev pub On : Pc → Wire → Bool → ℕ → Type 0
 On b w c begin = IsAt b (Busy w) c ⊎ ((is_breakable w ≡ true) × Pulls begin b.side.port.link)
 
+-- in a cycle without a fall a byte under way stays so, or is broken off, and byte time goes on alike
 pub busy_cycle : (events : List HostEvent) (now : ℕ) (latch : Lines) (b : Pc) (w : Wire) (c : Bool)
     → IsAt b (Busy w) c → (c && not latch.clk) ≡ false
     → (seen_in_bytes (board_cycle events now latch b).side ≡ byte_cycle events now Quiet (seen_in_bytes b.side))

@@ -42,6 +42,7 @@ module _ (F : Type 0) (opens : F → Bool) where
       (t : Turn). record { host = (bios_turn now 0 t.host).host; items = t.items ++ (bios_turn now 0 t.host).items }) silent in
       ap (λ c. after now c (turn now 0 (Some event) h)) no ∙ ap (λ t. after now false t) all
 
+  -- before stamp 0 a cycle changes nothing on the PC's side
   pub rests : (events : List HostEvent) (now : ℕ) → now < 4096 → goes_on opens events now (side_at_start F) ≡ side_at_start F
   unfolding goes_on
   rests events now l = rests_by now (slice_get events 0) l

@@ -73,6 +73,7 @@ module _ (bits : ℕ → Bool) (byte : ℕ) (right : byte_of (bits_to bits 11) �
   counted zero least most = absurd (omega (arith, least))
   counted (suc k) least most = wrong k (omega (arith, most))
 
+-- a right frame with one data bit or the parity turned round is wrong; without noise it brings its byte
 pub flips_seen : FlipsSeen
 flips_seen bits byte None right is = right
 flips_seen bits byte (Some bit) right is = counted bits byte right bit is.0 is.1

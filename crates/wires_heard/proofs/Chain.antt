@@ -56,6 +56,7 @@ module _ (s : Story) where
       let same : h.0 ≡ one = same_state s j h.0 one there from in
       r.latches m c one next few (h.1 ∙ ap (λ v. Some v) same) (step_is j one next from to) l u
 
+  -- a way without a tick start leads to a state of the run, with as many starts before it
   pub calm_ends : (k : ℕ) (w : World Beside) (latch : ℕ → ℕ) (Q : World Beside → Type 0) → state_at s k ≡ Some w
       → (r : Drives d TICK s.bytes w latch Q) → (state_at s (k + r.steps) ≡ Some r.end)
       × (starts_before d TICK s.bytes (joint_start_of s.held) (k + r.steps) ≡ starts_before d TICK s.bytes (joint_start_of s.held) k)
@@ -66,6 +67,7 @@ module _ (s : Story) where
       → (t : DrivesTick d TICK s.bytes w latch Q) → state_at s (suc k) ≡ Some t.first
   tick_at k w latch Q at t = ap (λ o. step_on d s.bytes o) at ∙ t.step
 
+  -- in each cycle of a tick's steps the latch is that which the law of the tick says
   pub tick_latches : (k : ℕ) (w : World Beside) (latch : ℕ → ℕ) (Q : World Beside → Type 0) → state_at s k ≡ Some w
       → (t : DrivesTick d TICK s.bytes w latch Q) → Latches k (suc k + t.rest.steps) latch
   tick_latches k w latch Q at t j one next a b from to c l u = by (j == k) refl
@@ -83,6 +85,7 @@ module _ (s : Story) where
           let more : suc k ≤ j = grind (arith, nat_tests, e, a) in
           calm_latches (suc k) t.first latch Q (tick_at k w latch Q at t) t.rest j one next more b from to c l u
 
+  -- a tick leads to a state of the run, with one start more before it
   pub tick_ends : (k : ℕ) (w : World Beside) (latch : ℕ → ℕ) (Q : World Beside → Type 0) → state_at s k ≡ Some w
       → (t : DrivesTick d TICK s.bytes w latch Q) → (state_at s (suc k + t.rest.steps) ≡ Some t.rest.end)
       × (starts_before d TICK s.bytes (joint_start_of s.held) (suc k + t.rest.steps)

@@ -21,6 +21,7 @@ cells ReceivedFrame = 11
 abbrev pub clock_in : ℕ → ℕ → Bool
 clock_in n o = nat_lt o 288 || (nat_le n ((o - 288) / 32) || nat_le 16 ((o - 288) % 32))
 
+-- before its first cell a frame leaves the clock high
 pub before_cells : (n o : ℕ) → o < 288 → clock_in n o ≡ true
 before_cells n o l = let e : nat_lt o 288 ≡ true = grind (arith, nat_tests, l) in rw e refl
 
@@ -36,6 +37,7 @@ past_cells n o l m =
     let f : nat_le n ((o - 288) / 32) ≡ true = grind (arith, nat_tests, m) in
     rw (e, f) refl
 
+-- in the last 16 cycles of a cell the clock is high
 pub late_in_cell : (n o : ℕ) → 288 ≤ o → 16 ≤ (o - 288) % 32 → clock_in n o ≡ true
 late_in_cell n o l m =
     let e : nat_lt o 288 ≡ false = grind (arith, nat_tests, l) in
@@ -53,6 +55,7 @@ pub record IsLow (n o : ℕ) : Type 0 where
   pub from : 288 + 32 * cell ≤ o
   pub to : o < 304 + 32 * cell
 
+-- a low clock is in the first 16 cycles of a cell of the frame
 pub low_is : (n o : ℕ) → clock_in n o ≡ false → IsLow n o
 low_is n o h = by (nat_lt o 288) refl (nat_le n ((o - 288) / 32)) refl (nat_le 16 ((o - 288) % 32)) refl
   where
@@ -81,6 +84,7 @@ pub record IsEdge (n o : ℕ) : Type 0 where
   pub few : cell < n
   pub at : o ≡ 288 + 32 * cell
 
+-- the clock falls just where a cell of the frame begins
 pub falls_at : (n o : ℕ) → clock_in n o ≡ true → clock_in n (suc o) ≡ false → IsEdge n (suc o)
 falls_at n o high low =
     let i = low_is n (suc o) low in

@@ -30,6 +30,7 @@ edges_in (Request byte) = 0
 edges_in (Busy (Recv flip bits)) = length bits
 edges_in (Busy (Send byte edges)) = edges
 
+-- if no byte is under way, no falling edge of one is counted
 pub none_in : (l : Link Wire) → is_busy l ≡ false → edges_in l ≡ 0
 none_in Free h = refl
 none_in (Hold since) h = refl

@@ -21,6 +21,7 @@ use Rattle.wires_heard.specs.Hearing.{heard_in, heard_to, sample_in}
 same_world : (a b : World Beside) → Some a ≡ Some b → a ≡ b
 same_world a b e = cc
 
+-- if the clock was high and isn't now, it fell
 pub high_low : (a b : Bool) → (a && not b) ≡ true → (a ≡ true) × (b ≡ false)
 high_low true false h = (refl, refl)
 high_low true true h = absurd cc
@@ -88,6 +89,7 @@ module _ (s : Story) where
   falls_more k None at h = more k (heard_to s k).falls h
   falls_more k (Some w) at h = falls_by k w at (is_fall (wires_at (heard_to s k).last) (shown_at s w)) refl h
 
+  -- the falls that an ear keeps are of steps at whose end the clock fell
   pub falls_are : (k : ℕ) → AreFalls k (heard_to s k).falls
   falls_are zero = All-nil (λ (f : Fall). IsFall 0 f.cycle)
   falls_are (suc k) = falls_more k (state_at s (suc k)) refl (falls_are k)

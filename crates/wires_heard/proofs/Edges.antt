@@ -51,6 +51,7 @@ afterwards_pulled now None s = by (asks_again s)
     by true = refl
     by false = refl
 
+-- in the cycle in which a byte is received the controller begins to pull the clock
 pub received_pulls : (events : List HostEvent) (now : ℕ) (s : Side Wire) (came : Option ℕ) (p : LinkEnd Wire)
     → pulled (goes_on is_breakable events now (record s { port = received now came p })).port.link ≡ Some now
 received_pulls events now s came p =
@@ -95,6 +96,7 @@ awaits_by events now s p e h =
     ap (λ q. (settled now (Rattle.ctl_link.specs.Link.broken_off is_breakable now q)).port.awaits) (sym e)
     ∙ ap (λ q. (settled now q).port.awaits) (unbroken is_breakable now p h)
 
+-- a link that is free while a reply is awaited stays so in a cycle of the PC's side
 pub goes_waits : (events : List HostEvent) (now : ℕ) (s : Side Wire) → Waits s.port → Waits (goes_on is_breakable events now s).port
 goes_waits events now s w =
     let p : LinkEnd Wire = port_by (turn_of events now s) s.port in
@@ -122,6 +124,7 @@ board_waits events now latch b w still =
       awaits = ap (λ s. (goes_on is_breakable events now s).port.awaits) same ∙ next.awaits;
     }
 
+-- and in a cycle of the joint run in which the clock doesn't fall
 pub cycle_waits : (events : List HostEvent) (p2 now : ℕ) (s : Beside) → Waits s.pc.side.port → (s.pc.clock && not (latch_of p2).clk) ≡ false
     → Waits (joint_cycle events p2 now s).pc.side.port
 unfolding joint_cycle

@@ -206,6 +206,7 @@ module _ (story : Story) (first_step end_step start_cycle : ℕ) (start : Beside
             let at : offset ≡ 289 + 32 * count = grind (arith, nat_tests, at_cell_is, far, bound, two) in
             absurd (holds_so.between count (omega (arith, far, most, eleven)) at)
 
+    -- before a frame's last fall each step adds the falls of its cells to those that are kept
     pub more : Gathered steps offset → offset + passed ≤ 608 → Gathered (suc steps) (offset + passed)
     more gathered most =
         more_by (goes_in story.events start_cycle start old new was is frame fits idle one next offset holds_so goes)

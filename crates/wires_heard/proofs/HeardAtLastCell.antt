@@ -40,6 +40,7 @@ module _ (events : List HostEvent) (x : ℕ) (start : Beside) (old v : ℕ) (was
       ap (λ o. lets (beside events x start old v was is (SentFrame byte) fits idle o)) z
       ∙ h (46 + 32 * k) (inr (inr (k, l, inl refl)))
 
+  -- in a frame of eleven cells that isn't cut the data at the falls are the byte that ends
   pub whole : (frame : Frame) (fits : Fits old v was is frame)
       → GoesWith (λ o. (beside events x start old v was is frame fits idle o).pc) frame → cells frame ≡ 11 → IsWhole frame fits
   whole NoFrame fits h all = absurd (omega (arith, all))

@@ -142,5 +142,6 @@ stepped_by bytes pins m next true y e = entered_timed 3 pins m m next refl e
 stepped_by bytes pins m next false true e = entered_timed 7 pins m (record m { rq = false }) next refl e
 stepped_by bytes pins m next false false e = executed_timed bytes pins m next (row_at bytes m.pc) refl e
 
+-- a step takes one or two cycles, and two if it changes the latch of port 2
 pub stepped_timed : (bytes : List ℕ) (pins : Pins) (m : Cpu) (next : Stepped) → stepped bytes pins m ≡ Some next → IsTimed m next
 stepped_timed bytes pins m next e = stepped_by bytes pins m next (takes_external pins m) (takes_timer m) e

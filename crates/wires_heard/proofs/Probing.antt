@@ -81,11 +81,13 @@ module _ (s : Story) where
       ap (λ ear. ear_from s line_kind (k + 1 + 1) more ear) (next_ear k)
       ∙ ap (λ j. ear_from s line_kind (j + 1) more (heard_to s (suc k))) z ∙ ear_so more (suc k) ∙ ap (heard_to s) y
 
+  -- if all is heard, a probe on the wires counts just the bytes that pass
   pub counts : HearsAll s → (a b k n : ℕ) → CountsPassing s a b k n
   counts all a b k n = record {
     steps = met_so all (record { a = a; b = b }) (n - k) k;
     hears = λ order. let z : (n - k) + k ≡ n = omega (arith, order) in ear_so (n - k) k ∙ ap (heard_to s) z;
   }
 
+-- a probe that listens to the wires counts just the bytes that the controller takes, or those that it sends
 pub every_probe_counts : ProbeLaw
 every_probe_counts layout history m fine ok small a b k n = counts _ (any_run_is_heard layout history m fine ok small) a b k n

@@ -73,11 +73,13 @@ module _ (events : List HostEvent) (latch : ℕ → ℕ) where
   abbrev pub run_on : ℕ → ℕ → Beside → Beside
   run_on n y s = after_cycles n y (λ c. joint_cycle events (latch c) c) s
 
+  -- a pull of the clock goes on through cycles up to the 64th
   pub keeps : (n y : ℕ) (s : Beside) (h : ℕ) → pulled (link_of s) ≡ Some h → y + n ≤ h + 64 → pulled (link_of (run_on n y s)) ≡ Some h
   keeps zero y s h e l = e
   keeps (suc n) y s h e l =
       keeps n (y + 1) (joint_cycle events (latch y) y s) h (cycle_keeps events (latch y) y s h e (omega (arith, l))) (omega (arith, l))
 
+  -- if the controller lets the clock go, after at most 64 cycles it does so still, or a pull began in them
   pub lets_or_pulls : (n y : ℕ) (s : Beside) → n ≤ 64 → lets s ≡ true → (lets (run_on n y s) ≡ true) ⊎ (Pulled y (run_on n y s))
   lets_or_pulls zero y s l h = inl h
   lets_or_pulls (suc n) y s l h =
@@ -95,12 +97,14 @@ module _ (events : List HostEvent) (one next : World Beside) (s : StepOf events 
   same_board : run_on events (λ c. next.cpu.p2) s.count one.cycle one.board ≡ next.board
   same_board = sym s.board
 
+  -- a pull of the clock goes on through a step that ends by its 64th cycle
   pub step_keeps : (h : ℕ) → pulled (link_of one.board) ≡ Some h → next.cycle ≤ h + 64 → pulled (link_of next.board) ≡ Some h
   step_keeps h e l =
       let c : next.cycle ≡ one.cycle + s.count = s.cycle in
       ap (λ b. pulled (link_of b)) s.board
       ∙ keeps events (λ c. next.cpu.p2) s.count one.cycle one.board h e (omega (arith, c, l))
 
+  -- if the controller pulls the clock after a step and not before it, the pull began in the step
   pub step_begins : lets one.board ≡ true → lets next.board ≡ false → Pulled one.cycle next.board
   step_begins high low =
       let few : s.count ≤ 2 = s.most in
@@ -127,6 +131,7 @@ module _ (s : Story) where
   comes_by k u None at h = absurd cc
   comes_by k u (Some v) at h = record { before = v; at = at; step = step_of s.edges s.events s.bytes v u h }
 
+  -- each state after the first comes from the one before it by a step
   pub comes_from : (k : ℕ) (u : World Beside) → state_at s (suc k) ≡ Some u → Comes k u
   comes_from k u h = comes_by k u (state_at s k) refl h
 

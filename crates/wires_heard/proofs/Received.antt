@@ -119,6 +119,7 @@ module _ (events : List HostEvent) (x : ℕ) (start : Beside) (old v : ℕ) (was
         ap (λ o. lets (B o)) z ∙ ap (λ (c : Pc). (drive c.side.port.link).clk) (there (32 * k + 18))
         ∙ ap (λ l. (drive l).clk) (t.up_to_here k (omega arith)).busy
 
+    -- in the frame of a byte that it sends the controller leaves the clock alone
     pub opens : (o : ℕ) → 288 ≤ o → o ≤ 608 → lets (B o) ≡ true
     opens =
         open_frame events x start old v was is ReceivedFrame tt idle (ap (λ l. (drive l).clk) asks) looks
@@ -179,6 +180,7 @@ module _ (events : List HostEvent) (x : ℕ) (start : Beside) (old v : ℕ) (was
         subst (λ (s : Beside). Waits s.pc.side.port) (sym next)
         (cycle_waits events (L (m + 609)) (x + (m + 609)) (B (m + 609)) (waits_on m) (still (m + 609) (omega arith)))
 
+    -- and for a while after it
     pub steady : (o : ℕ) → 609 ≤ o → o ≤ 650 → lets (B o) ≡ true
     steady o l u =
         let z : (o - 609) + 609 ≡ o = omega (arith, l) in
@@ -192,6 +194,7 @@ module _ (events : List HostEvent) (x : ℕ) (start : Beside) (old v : ℕ) (was
         ∙ ap (λ p. (latch_of p).dat) (in_frame (28 + 32 * k + 1) (omega (arith, few)) ∙ in_cell v k 1 (omega arith))
         ∙ data_of_latch false (if nat_lt k 10 then true else nat_le 16 1) v is
 
+    -- the data at the falls are the byte's bits after the start bit, and the keyboard's acknowledge
     pub data_are : (k : ℕ) → k ≤ 10 → (wires (latch_of (L (289 + 32 * k))) (B (290 + 32 * k)).pc).dat ≡ acknowledged byte k
     data_are k few = by (nat_lt k 10) refl
       where

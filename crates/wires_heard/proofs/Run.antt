@@ -203,16 +203,19 @@ module _ (s : Story) (time : KeepsTimeFrom (joint_start_of s.held) s.bytes s.edg
     holds_so zero = first
     holds_so (suc n) = next n (holds_so n)
 
+    -- in each step what is heard is what passes
     pub each : (k : ℕ) → transfer_at s k ≡ passed_at s k
     each k =
         let t = holds_so (suc k) in
         let many : suc k ≤ t.steps = t.many in
         t.law k (omega (arith, many))
 
+    -- through each number of steps what is heard is what passes
     pub all : (k : ℕ) → transfers_to s k ≡ passed_to s k
     all zero = refl
     all (suc k) = ap (λ ts. ts ++ transfer_at s k) (all k) ∙ ap (λ ts. passed_to s k ++ ts) (each k)
 
+-- what is heard on the wires is what the controller takes and sends, whatever the part held when it was switched on
 pub any_run_is_heard : AnyMemoryHeard
 any_run_is_heard layout history m fine ok small =
     let s : Story = story_from m (image_of layout) history in
@@ -220,5 +223,6 @@ any_run_is_heard layout history m fine ok small =
     let wires = every_wire layout history fine ok m small in
     record { each = each s time (keyboard layout) wires; all = all s time (keyboard layout) wires }
 
+-- what is heard on the wires is what the controller takes and sends, in each run of a lawful history
 pub every_run_is_heard : HeardLaw
 every_run_is_heard layout history fine ok = any_run_is_heard layout history reset_cpu fine ok cleared

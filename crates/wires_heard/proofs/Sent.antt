@@ -54,6 +54,7 @@ same_levels f g (suc m) i h =
     ap (λ b. b ∷ levels f (suc i) m) (h i (omega arith) (omega arith))
     ∙ ap (λ bs. g i ∷ bs) (same_levels f g m (suc i) (λ k a u. h k (omega (arith, a)) (omega (arith, u))))
 
+-- levels that are the same in each of eleven cells are the same frame
 pub same_eleven : (f g : ℕ → Bool) → ((k : ℕ) → k ≤ 10 → f k ≡ g k) → eleven_of f ≡ eleven_of g
 same_eleven f g h = same_levels f g 11 0 (λ k a u. h k (omega (arith, u)))
 
@@ -158,6 +159,7 @@ module _ (events : List HostEvent) (x : ℕ) (start : Beside) (old v : ℕ) (was
           clock_is = ap (λ (c : Pc). c.clock) (there 320) ∙ t.clock_is;
         }
 
+    -- in the keyboard's frame the controller leaves the clock alone up to the last fall
     pub opens : (o : ℕ) → 288 ≤ o → o ≤ 608 → lets (B o) ≡ true
     opens =
         open_frame events x start old v was is (SentFrame byte) tt idle (ap (λ l. (drive l).clk) free) looks
@@ -210,6 +212,7 @@ module _ (events : List HostEvent) (x : ℕ) (start : Beside) (old v : ℕ) (was
         ∙ ap (λ p. pulled (goes_on is_breakable events (320 + now) (record b'.side { port = p })).port.link) edge
         ∙ received_pulls events (320 + now) b'.side came b'.side.port
 
+    -- from the last fall on the controller pulls the clock
     pub steady : (o : ℕ) → 609 ≤ o → o ≤ 650 → lets (B o) ≡ false
     steady o l u =
         let z : 609 + (o - 609) ≡ o = omega (arith, l) in
@@ -253,6 +256,7 @@ module _ (events : List HostEvent) (x : ℕ) (start : Beside) (old v : ℕ) (was
             let z : 290 + 32 * k ≡ 288 + (32 * k + 2) = omega arith in
             ap (λ o. (drive (link_of (B o))).dat) z ∙ ap (λ (c : Pc). (drive c.side.port.link).dat) (there (32 * k + 2)) ∙ cell_data k less
 
+    -- the data at the falls are the bits of the byte's frame
     pub data_are : (k : ℕ) → k ≤ 10 → (wires (latch_of (L (289 + 32 * k))) (B (290 + 32 * k)).pc).dat ≡ bits k
     data_are k few =
         let z : 289 + 32 * k ≡ 288 + 32 * k + 1 = omega arith in

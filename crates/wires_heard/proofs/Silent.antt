@@ -23,6 +23,7 @@ use Rattle.wires_heard.specs.Hearing.{heard_to, sample_in}
 -- a fall that another follows within 62 cycles is one by the latch
 module _ (s : Story) (k c : ℕ) (i : IsFall s k c) (j : ℕ) (one next : World Beside) (f : Falls s j one next)
     (afterwards : c < next.cycle) (soon : next.cycle ≤ c + 62) where
+  -- a fall that another one follows within 62 cycles is one of the keyboard's
   pub by_latch : (latch_of i.next.cpu.p2).clk ≡ false
   by_latch = by (latch_of i.next.cpu.p2).clk refl
     where
@@ -57,6 +58,7 @@ module _ (s : Story) (k0 k1 x : ℕ) (start : Beside) (old v : ℕ) (was : IsRel
     pub steady : n ≡ 11 → (b : Bool) × ((o : ℕ) → 609 ≤ o → o ≤ 650 → lets (B o) ≡ b)
 
   module _ (t : IsTick) where
+    -- the state at the tick's first step is the tick's start
     pub same_start : (u : World Beside) → state_at s k0 ≡ Some u → In u 0
     same_start u at = subst (λ w. In w 0) (same_state s k0 t.w u t.at at) t.begins
 
@@ -73,6 +75,7 @@ module _ (s : Story) (k0 k1 x : ℕ) (start : Beside) (old v : ℕ) (was : IsRel
         let g = t.goes (m + k0) c.before u (omega arith) (omega (arith, l)) c.at here in
         (p.0 + g.step.count, goes_in s.events x start old v was is frame fits idle c.before u p.0 p.1 g)
 
+    -- each state of the tick is at an offset from the tick's start
     pub placed : (j : ℕ) (u : World Beside) → k0 ≤ j → j ≤ k1 → state_at s j ≡ Some u → (o : ℕ) × In u o
     placed j u a b at =
         let z : (j - k0) + k0 ≡ j = omega (arith, a) in
@@ -223,6 +226,7 @@ module _ (s : Story) (k0 k1 x : ℕ) (start : Beside) (old v : ℕ) (was : IsRel
           (omega (arith, from1, e1, here, there)) (omega (arith, to1, e1, here, there))
           (eleven_at_most s.events x start old v was is frame fits idle)
 
+      -- a fall before a frame's last cell completes no transfer
       pub silent : completed (sample_in next) (heard_to s k) ≡ None
       silent = by (completed (sample_in next) (heard_to s k)) refl
         where

@@ -60,6 +60,7 @@ module _ (events : List HostEvent) (x : ℕ) (start : Beside) (old v : ℕ) (was
   abbrev by_cycle : ℕ → ℕ
   by_cycle c = L (c - x)
 
+  -- what is beside the processor at an offset goes on to a later one by the tick's latch
   pub onward : (a n : ℕ) → B (a + n) ≡ run_on events by_cycle n (x + a) (B a)
   onward a n =
       further a n
@@ -73,6 +74,7 @@ module _ (events : List HostEvent) (x : ℕ) (start : Beside) (old v : ℕ) (was
   pub pull_stays : (a n h : ℕ) → pulled (link_of (B a)) ≡ Some h → x + a + n ≤ h + 64 → pulled (link_of (B (a + n))) ≡ Some h
   pull_stays a n h e l = ap (λ s. pulled (link_of s)) (onward a n) ∙ keeps events by_cycle n (x + a) (B a) h e (omega (arith, l))
 
+  -- a pull of the clock goes on up to its 64th cycle
   pub low_stays : (a n h : ℕ) → pulled (link_of (B a)) ≡ Some h → x + a + n ≤ h + 64 → lets (B (a + n)) ≡ false
   low_stays a n h e l = pulled_is_low (link_of (B (a + n))) h (pull_stays a n h e l)
 
@@ -90,6 +92,7 @@ module _ (events : List HostEvent) (x : ℕ) (start : Beside) (old v : ℕ) (was
             absurd (let e : true ≡ false = sym last ∙ low in cc)
       ]
 
+  -- if the controller leaves the clock alone at two offsets at most 64 cycles apart, it does so between them
   pub between_at : (a o b : ℕ) → a ≤ o → o ≤ b → b ≤ a + 64 → lets (B a) ≡ true → lets (B b) ≡ true → lets (B o) ≡ true
   between_at a o b l u far first last =
       let y : a + (o - a) ≡ o = omega (arith, l) in

@@ -42,6 +42,7 @@ step_by edges events bytes one next (Some n) is h =
       slow = t.slow;
     })
 
+-- a step of the joint run is one or two cycles, in each of which port 2 has the latch that it has after the step
 pub step_of : (edges : List Edge) (events : List HostEvent) (bytes : List ℕ) (one next : World Beside)
     → joint_step (joint_board edges events) bytes one ≡ Some next → StepOf events one next
 step_of edges events bytes one next h =

@@ -49,9 +49,11 @@ module _ (events : List HostEvent) (x : ℕ) (start : Beside) (old v : ℕ) (was
   few_cells (CutFrame byte look) h = let below : look ≤ 334 = look_within look h in omega (arith, below)
   few_cells ReceivedFrame h = omega arith
 
+  -- a frame has eleven cells at most
   pub eleven_at_most : n ≤ 11
   eleven_at_most = few_cells frame fits
 
+  -- what is beside the processor goes on by a cycle of the joint run
   pub beside_next : (o : ℕ) → beside (suc o) ≡ joint_cycle events (latch o) (x + o) (beside o)
   beside_next o =
       let a : suc o ≡ o + 1 = omega arith in
@@ -162,6 +164,7 @@ module _ (events : List HostEvent) (x : ℕ) (start : Beside) (old v : ℕ) (was
       subst (λ k. Ends o (if (beside o).pc.clock && not (k && (drive l).clk) then ended_at dat l else [])) (sym (drives o))
       (by_link o l refl (beside o).pc.clock (clock_in n o) dat refl refl)
 
+  -- but in the cycle of the eleventh fall no byte ends
   pub none_ends : (o : ℕ) → (Last o → ⊥) → ended_in (latch_of (latch o)) (beside o).pc ≡ []
   none_ends o not_last = elim (ends_in o) [ inl none ↦ none | inr last ↦ absurd (not_last last) ]
 

@@ -32,6 +32,7 @@ ps = search sendable
 zs : IsSend (heap.the_field).row
 zs = search sendable
 
+-- a handle may go to another thread
 pub send : IsSend the_row
 send = owning_send the_type (ps, (zs, tt)) (λ d. held d.alloc d.at d.keyboard)
     (λ k. quiet (to the_type) (exits_of k (fields the_type)) ((struct_send (shape the_type) (ps, (zs, tt))).leaving k))
