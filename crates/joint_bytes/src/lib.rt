@@ -15,4 +15,4 @@ pub use happened::{Happened, Transfer, What};
 pub use items::{push_items, take_items, what_kind, what_value};
 pub use link::{link_bytes, link_in};
 pub use lists::{have_places, push_edges, push_words, take_edges, take_words};
-pub use side::{controller_bytes, flags_in, side_bytes, side_in};
+pub use side::{controller_bytes, controller_in, flags_in, side_bytes, side_in};

@@ -118,7 +118,7 @@ pub fn controller_bytes(controller: &Controller) -> [u8; 11]
 }
 
 /// The controller that these bytes mean.
-fn controller_in(bytes: &[u8]) -> Controller
+pub fn controller_in(bytes: &[u8]) -> Controller
     requires { length bytes.now ≡ 11 }
     ensures { result ≡ controller_in bytes.now }
 {
