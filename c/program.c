@@ -21,7 +21,7 @@
 
 enum { CALL_DONE = 0, CALL_NO_MEMORY = 2, CALL_NO_SUCH_PIECE = 5 };
 enum { EXIT_READ = 5, EXIT_WRITE = 6, EXIT_MEMORY = 7 };
-enum { MOST_OF_A_FILE = 4194304 + 1, FIRST_ROOM = 1 << 20, MOST_ROOM = 1 << 29 };
+enum { MOST_OF_A_FILE = 4194304 + 1, MOST_OF_A_DUMP = 1 << 28, FIRST_ROOM = 1 << 20, MOST_ROOM = 1 << 29 };
 
 /* The words and files of a call: `bytes` has them all. */
 typedef struct {
@@ -29,7 +29,7 @@ typedef struct {
     size_t used, room;
     kbd48_piece *words;
     kbd48_named *files;
-    size_t word_count, file_count, longest;
+    size_t word_count, file_count, longest, most;
 } request;
 
 static void no_memory(void) { exit(EXIT_MEMORY); }
@@ -57,17 +57,19 @@ static bool lacks_memory(void) {
 #endif
 }
 
-/* What a file has, as far as the longest limit and a byte; false if there is no such file or it can't be read. */
+/* What a file has, as far as the longest limit and a byte; false if there is no such file or it can't be read. For a dump that
+   is longer there is no memory. */
 static bool has_read(request *it, FILE *file, kbd48_piece *piece) {
     if (!file) return false;
     piece->start = it->used;
-    for (size_t left = MOST_OF_A_FILE, size; left > 0; left -= size) {
+    for (size_t left = it->most, size; left > 0; left -= size) {
         size = left < 65536 ? left : 65536;
         size = fread(room_for(it, size), 1, size, file);
         if (size == 0) break;
         it->used += size;
     }
     piece->end = it->used;
+    if (it->most == MOST_OF_A_DUMP && piece->end - piece->start == MOST_OF_A_DUMP) no_memory();
     return !ferror(file);
 }
 
@@ -87,7 +89,8 @@ static bool has_added(request *it, size_t number, const char *word) {
 }
 
 static request request_of(int argc, char **argv) {
-    request it = {.word_count = argc > 1 ? (size_t)argc - 1 : 0};
+    request it = {.word_count = argc > 1 ? (size_t)argc - 1 : 0, .most = MOST_OF_A_FILE};
+    if (argc > 1 && !strcmp(argv[1], "capture")) it.most = MOST_OF_A_DUMP;
     for (size_t i = 0; i < it.word_count; i++)
         if (strlen(argv[i + 1]) > it.longest) it.longest = strlen(argv[i + 1]);
     it.words = memory_for(NULL, (it.word_count + 1) * sizeof *it.words);

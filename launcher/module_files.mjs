@@ -2,29 +2,30 @@
 // standard output.
 import { closeSync, fstatSync, openSync, readSync, statSync, writeSync } from 'node:fs';
 
-// One byte past the longest file's limit: the program reads no more of any file.
-const MOST = 4_194_305, PIECE = 1 << 16;
+// One byte past the longest file's limit, of those that aren't dumps: the program reads no more of any. Of a dump it reads all,
+// and the module has room for so many bytes.
+const MOST = 4_194_305, MOST_OF_A_DUMP = 1 << 28, PIECE = 1 << 16;
 const CLOSED_INPUT = ['/dev/stdin', '/dev/fd/0', '/proc/self/fd/0'];
 // The program's exit if a file can't be read.
 const READ = 5;
 
 // What can be read of an open file, up to the limit.
-function contentOf(file) {
-  let bytes = Buffer.allocUnsafe(Math.min(MOST, fstatSync(file).size + PIECE)), have = 0;
+function contentOf(file, most) {
+  let bytes = Buffer.allocUnsafe(Math.min(most, fstatSync(file).size + PIECE)), have = 0;
   for (;;) {
     const count = readSync(file, bytes, have, bytes.length - have, null);
     have += count;
-    if (count === 0 || have === MOST) return bytes.subarray(0, have);
-    if (have === bytes.length) bytes = Buffer.concat([bytes], Math.min(MOST, 2 * have));
+    if (count === 0 || have === most) return bytes.subarray(0, have);
+    if (have === bytes.length) bytes = Buffer.concat([bytes], Math.min(most, 2 * have));
   }
 }
 
 /** The bytes of a file, or nothing if it can't be opened and read. */
-function bytesOf(name) {
+function bytesOf(name, most) {
   let file;
   try {
     file = openSync(name);
-    return contentOf(file);
+    return contentOf(file, most);
   } catch {
     return undefined;
   } finally {
@@ -56,6 +57,7 @@ export function written(bytes) {
     of ours. Before a file is opened that can perhaps be read only once, such as a pipe, the earlier files are judged. */
 export function answerOver(program, words, count, hasInput) {
   const files = {}, isName = word => word !== '' && !word.startsWith('-');
+  const isDump = words[0] === 'capture', most = isDump ? MOST_OF_A_DUMP : MOST;
   const given = words.map((word, at) => at >= 1 && at <= count && isName(word) ? `file${at}` : word);
   for (let at = 1; at < words.length && at <= count; at++) {
     if (given[at] === words[at]) continue;
@@ -63,8 +65,9 @@ export function answerOver(program, words, count, hasInput) {
       const said = program.run(given, files);
       if (said.exit !== READ) return said;
     }
-    const bytes = !hasInput && CLOSED_INPUT.includes(words[at]) ? undefined : bytesOf(words[at]);
+    const bytes = !hasInput && CLOSED_INPUT.includes(words[at]) ? undefined : bytesOf(words[at], most);
     if (bytes === undefined) break;
+    if (isDump && bytes.length === most) throw new Error('the dump has 256 MiB or more, for which the module has no room');
     files[given[at]] = bytes;
   }
   return program.run(given, files);
