@@ -45,12 +45,13 @@ is_hold p = nat_le 55000 (width p)
 abbrev pub is_begun : Frame → Bool
 is_begun f = nat_lt 0 (length f.bits)
 
--- an edge is late 400 µs after the one before it, or 20 ms after the host's request: then it isn't of that frame
-abbrev pub patience : Frame → ℕ
-patience f = if f.from_host && (length f.bits == 1) then 20000000 else 400000
+-- the host has asked, and no edge of its frame has been: the keyboard may take its time
+abbrev pub is_request : Frame → Bool
+is_request f = f.from_host && (length f.bits == 1)
 
+-- an edge is late 400 µs after the one before it: then it isn't of that frame
 abbrev pub is_late : ℕ → Frame → Bool
-is_late fall f = is_begun f && nat_lt (patience f) (fall - f.since)
+is_late fall f = is_begun f && not (is_request f) && nat_lt 400000 (fall - f.since)
 
 -- the edges so far: the host's start bit has none
 abbrev pub edges : Frame → ℕ
@@ -91,7 +92,7 @@ whole last f = record {
   acknowledged = not (f.from_host && last);
 }
 
--- no other edge came in time
+-- no other edge came in time, or the host gave its request up
 abbrev pub too_few : Frame → Finding
 too_few f = Few f.from_host (edges f)
 
@@ -107,6 +108,15 @@ pub record Heard : Type 0 where
   pub left : Frame
   pub frame : Option Timed
   pub pulse : Option Timed
+
+-- nothing is heard
+abbrev pub nothing : Frame → Heard
+nothing f = record { left = f; frame = None; pulse = None }
+
+-- the clock is high, and data has this level: if it is high, the host gives its request up
+abbrev pub heard_high : Bool → Frame → Heard
+heard_high dat f =
+    if dat && is_request f then record { left = silent; frame = of_frame f (too_few f); pulse = None } else nothing f
 
 -- a bit of a frame, which may be its last
 abbrev pub heard_level : ℕ → Bool → Frame → Heard
@@ -152,7 +162,7 @@ heard_hold p f = record {
 -- a pulse, by its width
 abbrev pub heard : Pulse → Frame → Heard
 heard p f =
-    if is_glitch p then record { left = f; frame = None; pulse = of_pulse p Glitch }
+    if is_glitch p then record (heard_high p.at_rise f) { pulse = of_pulse p Glitch }
     else (if is_hold p then heard_hold p f else heard_clock p f)
 
 -- at the end of a capture the clock may be low, since a time, with a level of data then

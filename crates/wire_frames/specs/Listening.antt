@@ -5,7 +5,7 @@ use Rattle.wire_frames.specs.declared.finding.Finding.TheVariants.{StaysLow}
 use Rattle.wire_frames.specs.declared.finding.Timed.{Timed}
 use Rattle.wire_frames.specs.declared.pulse.Clock.{Clock}
 use Rattle.wire_frames.specs.declared.pulse.Pulse.{Pulse}
-use Rattle.wire_frames.specs.Frames.{Frame, Heard, ended_high, ended_low, heard, silent}
+use Rattle.wire_frames.specs.Frames.{Frame, Heard, ended_high, ended_low, heard, heard_high, nothing, silent}
 use Rattle.wire_frames.specs.Pulses.{at_start, clock_after, pulse_by}
 
 -- what was said so far: of the clock, and of the frame under way
@@ -17,13 +17,13 @@ pub record Hearing : Type 0 where
 abbrev pub at_first : Hearing
 at_first = record { clock = at_start; frame = silent }
 
--- a pulse is heard as it ends
-abbrev pub heard_by : Option Pulse → Frame → Heard
-heard_by None f = record { left = f; frame = None; pulse = None }
-heard_by (Some p) f = heard p f
+-- a pulse is heard as it ends; between two pulses the clock is high
+abbrev pub heard_by : Option Pulse → Lines → Frame → Heard
+heard_by None lines f = if lines.clk then heard_high lines.dat f else nothing f
+heard_by (Some p) lines f = heard p f
 
 abbrev pub heard_at : ℕ → Lines → Hearing → Heard
-heard_at time lines h = heard_by (pulse_by time lines h.clock) h.frame
+heard_at time lines h = heard_by (pulse_by time lines h.clock) lines h.frame
 
 -- what is kept after levels at a time
 abbrev pub hearing_after : ℕ → Lines → Hearing → Hearing

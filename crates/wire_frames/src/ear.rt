@@ -1,7 +1,7 @@
 //! Frames, by the pulses of the clock.
 
 ghost use Rattle.std.specs.Prelude.{◌≡◌, false, true};
-ghost use Rattle.wire_frames.specs.Frames.{asked, beginning, bit_of, edges, ended_high, ended_low, heard, heard_bit, heard_clock, heard_hold, heard_level, held, is_begun, is_glitch, is_hold, is_late, lacks_one, of_frame, of_pulse, patience, silent, stays_low, too_few, unfinished, whole, with_bit};
+ghost use Rattle.wire_frames.specs.Frames.{asked, beginning, bit_of, edges, ended_high, ended_low, heard, heard_bit, heard_clock, heard_high, heard_hold, heard_level, held, is_begun, is_glitch, is_hold, is_late, is_request, lacks_one, of_frame, of_pulse, silent, stays_low, too_few, unfinished, whole, with_bit};
 
 use crate::finding::{Finding, Timed, Whole};
 use crate::frame_bits::{is_odd, value};
@@ -17,9 +17,6 @@ const HOLD: u64 = 55_000;
 
 /// The longest time from one edge of a frame to the next, in nanoseconds.
 const GAP: u64 = 400_000;
-
-/// The longest time from the host's request to the first edge of its frame, in nanoseconds.
-const PATIENCE: u64 = 20_000_000;
 
 /// The frame under way: who sends it, and the levels of data that are its bits so far. The host's frame has its start
 /// bit from the request on, and one level more than the keyboard's, the acknowledgement. None is under way if it has no
@@ -95,22 +92,18 @@ impl Ear {
         !self.bits.is_empty()
     }
 
-    /// How long after its last edge, or the request, an edge of the frame may come.
-    fn patience(&self) -> u64
-        ensures { result ≡ patience self.now }
+    /// Whether the host has asked, and no edge of its frame has been.
+    fn is_request(&self) -> bool
+        ensures { result ≡ is_request self.now }
     {
-        if self.from_host && self.bits.len() == 1 {
-            PATIENCE
-        } else {
-            GAP
-        }
+        self.from_host && self.bits.len() == 1
     }
 
     /// Whether a fall of the clock comes too late to be of the frame.
     fn is_late(&self, fall: u64) -> bool
         ensures { result ≡ is_late fall self.now }
     {
-        self.is_begun() && fall.saturating_sub(self.since) > self.patience()
+        self.is_begun() && !self.is_request() && fall.saturating_sub(self.since) > GAP
     }
 
     /// How many edges the frame has so far.
@@ -169,7 +162,7 @@ impl Ear {
         })
     }
 
-    /// That no other edge came in time.
+    /// That no other edge came in time, or that the host gave its request up.
     fn too_few(&self) -> Option<Timed>
         ensures { result ≡ of_frame self.now (too_few self.now) }
     {
@@ -192,6 +185,20 @@ impl Ear {
         self.bits.push(bit);
         self.began = began;
         self.since = time;
+    }
+
+    /// Takes the level of data while the clock is high. If it is high, the host gives its request up. Answers the frame that
+    /// this ends.
+    pub(crate) fn take_high(&mut self, dat: bool) -> Option<Timed>
+        ensures left { self.new ≡ (heard_high dat self.old).left }
+        ensures frame { result ≡ (heard_high dat self.old).frame }
+    {
+        if !dat || !self.is_request() {
+            return None;
+        }
+        let frame = self.too_few();
+        *self = Ear::new();
+        frame
     }
 
     /// Takes a bit of a frame, which may be its last.
@@ -334,7 +341,7 @@ impl Ear {
     {
         if is_glitch(pulse) {
             return Said {
-                frame: None,
+                frame: self.take_high(pulse.at_rise),
                 pulse: of_pulse(pulse, Finding::Glitch),
             };
         }

@@ -1,7 +1,7 @@
 //! Findings, by the levels of the two wires.
 
-ghost use Rattle.std.specs.Prelude.{◌≡◌};
-ghost use Rattle.wire_frames.specs.Listening.{at_first, frame_at_end, heard_at, hearing_after, pulse_at_end};
+ghost use Rattle.std.specs.Prelude.{◌≡◌, None};
+ghost use Rattle.wire_frames.specs.Listening.{at_first, frame_at_end, heard_at, heard_by, hearing_after, pulse_at_end};
 
 use crate::ear::{Ear, Said};
 use crate::finding::{Finding, Timed};
@@ -35,13 +35,25 @@ impl Listener {
         }
     }
 
+    /// Takes levels with which no pulse ends. Answers the frame that they end.
+    fn between(&mut self, lines: Lines) -> Option<Timed>
+        ensures left { self.new ≡ record self.old { frame = (heard_by None lines self.old.frame).left } }
+        ensures frame { result ≡ (heard_by None lines self.old.frame).frame }
+    {
+        if lines.clk {
+            self.ear.take_high(lines.dat)
+        } else {
+            None
+        }
+    }
+
     /// Takes the levels from a time on, in nanoseconds, which isn't before the last one. If the clock rises, its pulse has
     /// ended. Answers what that pulse ends, and what it is itself, if that is more than a bit.
     ///
     /// A pulse of at most 5 µs is a glitch. One of at least 55 µs is the host's, which holds the clock. It breaks a frame
     /// off, or began within the last pulse of one; if data is low at its end, the host asks the keyboard to take a byte.
-    /// All others are the keyboard's: a bit each. An edge later than 400 µs after the last one, or 20 ms after the host's
-    /// request, is of another frame, so what is heard may begin within a frame.
+    /// All others are the keyboard's: a bit each. The host's request lasts until its first edge, or until data is high while
+    /// the clock is. An edge later than 400 µs after the last one is of another frame, so what is heard may begin within a frame.
     pub fn hear(&mut self, time: u64, lines: Lines) -> Said
         ensures left { self.new ≡ hearing_after time lines self.old }
         ensures frame { result.frame ≡ (heard_at time lines self.old).frame }
@@ -52,7 +64,7 @@ impl Listener {
         match pulse {
             Some(pulse) => self.ear.take(&pulse),
             None => Said {
-                frame: None,
+                frame: self.between(lines),
                 pulse: None,
             },
         }
