@@ -36,7 +36,7 @@ kept_wide f w i l u = grind (arith, nat_tests, l, u)
 kept_above : (f : ℕ → ℕ) (w : Wide) (i : ℕ) → 92 ≤ i → wide f w i ≡ f i
 kept_above f w i l = grind (arith, nat_tests, l)
 
--- so it does with the layers in their cells
+-- the columns' step, with the layers in their cells, keeps the cells of the held keys and of their changes
 pub kept_cells : (f : ℕ → ℕ) (w : Wide) (i : ℕ) → 32 ≤ i → i < 60 → spread f w i ≡ f i
 kept_cells f w i l u = laid_low (wide f w) w.bytes i (omega (arith, u)) ∙ kept_wide f w i l u
 

@@ -66,7 +66,7 @@ module _ (due : Due) (tick_pc : ℕ) (old : Machine) (to : ℕ) (still : IsStill
           subst (λ (n : Machine). IsUneventful due here n) (on_one next cycles)
           (is_quiet due here (none_made before_end) cycles next some few kept (still_here cycles room) h)
 
-      -- a step after quiet ones is a joint step from where they led
+      -- a step after quiet ones is a joint step from the machine that they left
       pub one_reported : IsJointStep due here (due_step due here) (Ok (seen_uneventfully cycles (outside_wires cpu.p2 old.outside)))
           (stood old next (steps + 1) (passed + cycles))
       one_reported =

@@ -113,7 +113,7 @@ fewer_to a b c d h (suc k) l =
     let one = change_count k (a k) (b k) (c k) (d k) (h k (omega (arith, l))) in
     omega (arith, x, y, less, one)
 
--- if one reading differs only where another one does, it shows no more changes
+-- if the changes of one reading are all changes of another one, it shows no more of them
 pub shown_fewer : (a b c d : ℕ → Bool) → ((p : ℕ) → p < 96 → differ (a p) (b p) ≡ true → differ (c p) (d p) ≡ true)
     → length (shown a b) ≤ length (shown c d)
 shown_fewer a b c d h = fewer_to a b c d h 96 (omega arith)

@@ -122,7 +122,7 @@ quiet_sends layout history starts last n quiet cadence l t byte o =
     sends_in layout history starts last 0 (quiet_from_start layout history starts quiet) cadence n byte (omega arith)
     (omega (arith, l)) t o
 
--- so it is from the tick on from which the host is quiet
+-- from the tick on from which the host is quiet each byte that is offered is sent in its tick
 pub quiet_sends_from : (layout : KeyLayout) (history : KeyHistory) (starts : ℕ → ℕ) (first last n : ℕ)
     → IsQuietFrom layout history starts first → KeepsCadenceTo starts last → first ≤ n → n < last
     → (keyboard_at layout history starts n).test ≡ 0

@@ -171,7 +171,8 @@ module _ (law : AnyKeysLaw) (memory : AnyMemoryLaw) (layout : KeyLayout) (fill :
 pub opened_is_masked : AnyKeysLaw → AnyMemoryLaw → OpenedIsMasked
 opened_is_masked law memory layout fill k fine small o = opened_by law memory layout fill fine small k o
 
--- so is one that was opened and run on until its interrupt line rose, or for a second
+-- a keyboard that was run on until its interrupt line rose, or for a second, was masked at stamp 0 or 1, and has said
+-- what the model says
 pub ready_is_masked : AnyKeysLaw → AnyMemoryLaw → ReadyIsMasked
 ready_is_masked law memory layout k fine r =
     let m = opened_by law memory layout 0 fine (omega arith) r.opened r.is_opened in

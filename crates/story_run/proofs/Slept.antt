@@ -151,13 +151,13 @@ module _ (u : Halt) (s : Story) (first : List Watch) (old : Course) (latest : �
       looked = looked;
     }
 
-    -- so it is if no state has come since the last look
+    -- the run is stuck there, if no state has come since the probes' last look
     pub held_unseen : new.joint.steps ≡ latest → IsHeldUp u s first old new probes stuck
     held_unseen same =
         held probes (subst (λ (m : Machine). m.steps ≡ latest → probes ≡ looks s m.steps first) (sym still)
         (slept_on new (Err stuck) made).dozed.none same)
 
-    -- so it is after a look at the last state
+    -- the run is stuck there, after the probes' look at the last state
     pub held_seen : (new.joint.steps ≡ latest → ⊥) → IsHeldUp u s first old new (looked_now new probes) stuck
     held_seen other =
         held (looked_now new probes)
