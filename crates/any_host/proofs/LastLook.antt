@@ -184,7 +184,7 @@ module _ (frame : Frame) (missed : Bool) where
     bytes = λ c. omega arith;
   }
 
-  -- the ticks
+  -- the ticks of this host are ticks: the keyboard drives the first one's frame, and then none
   pub ticks : (met : Meeting) → IsFound w.pins 0 frame met → AreTicks w starts (frames frame) (meetings met)
   ticks met is = record { before = λ c l. absurd (omega (arith, l)); long = long; drives = drives; found = finds }
     where

@@ -171,7 +171,7 @@ module _ (d : Board) (bytes : List ℕ) (has : HasKernel bytes) where
       ∙ others_are f (put f at v) (drop 112 w.cpu.ram) (λ j. j == at) (λ j l n. put_other f at v j n) i other
       ∙ ap (λ r. slice_index r i) (sym (memory_is w.cpu.ram long))
 
-  -- the lights
+  -- the block of the lights puts them on port 2 in six cycles, on any board
   pub lamps_law : (w : World d.State) → IsAt LAMPS w.cpu → Comes d TICK bytes w (PutsLights d w)
   lamps_law w is =
       let m = w.cpu in

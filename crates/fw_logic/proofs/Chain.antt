@@ -127,7 +127,7 @@ module _ (d : Board) (code : Code) (has : HasRows code) (x : ℕ) where
             (first.timer_later timed timing) one (r.over timed one.timing one.tim_on);
       }
 
-  -- a stage of a set leads to it in no step
+  -- a stage of a set leads to the set in zero steps
   pub stay : (Q : Stage d.State → Type 0) (s : Stage d.State) → Q s → IsFree s.cpu → Leads d code x s Q
   stay Q s h free =
       record {
@@ -175,7 +175,7 @@ module _ (d : Board) (code : Code) (has : HasRows code) (x : ℕ) where
   pub then : (K R : Stage d.State → Type 0) (s : Stage d.State) → To s K → ((e : Stage d.State) → K e → To e R) → To s R
   then K R s first rest free = chain K R s (first free) rest
 
-  -- a stage of a set leads to the set, in no step
+  -- a stage of a set is led to the set by zero steps
   pub here : (K : Stage d.State → Type 0) (s : Stage d.State) → K s → To s K
   here K s h free = stay K s h free
 
@@ -211,7 +211,7 @@ module _ (d : Board) (code : Code) (has : HasRows code) (x : ℕ) where
   taken_closed true op h = plain_closed op h
   taken_closed false op h = h
 
-  -- one instruction
+  -- a stage whose row is known leads to the stage that the row leaves
   pub by_row : (K : Stage d.State → Type 0) (s : Stage d.State) (r : Decoded) → code.row s.cpu.pc ≡ Some r
       → is_taken code.timed r.op ≡ true → (s.cpu.pc % 2048 == code.tick) ≡ false
       → K (moved d x r.cycles (left d code x r s) s) → To s K

@@ -55,7 +55,7 @@ pub record Passes (keys : Keys) (rate : ℕ) (before after : Line) (items : List
   pub said : items_of_meeting (passing before.bytes) before.pc ≡ items
 
 module _ (keys : Keys) (rate last : ℕ) where
-  -- nothing waits
+  -- if nothing waits, nothing passes in the tick, and the line stays
   pub nothing : (started : Bool) (q : Pc)
       → Passes keys rate (record { last = last; bytes = []; started = started; pc = q })
       (record { last = last; bytes = []; started = started; pc = q }) []
