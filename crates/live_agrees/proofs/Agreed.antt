@@ -151,8 +151,7 @@ numbered starts apart (suc n) =
     let next : starts n + 2016 ≤ starts (suc n) = apart n in
     omega (arith, before, next)
 
--- what was said so far is the beginning of what the model says by what the columns showed, also if keys bounced or
--- many changed at once
+-- what was said so far is the beginning of what the model says of what the columns showed, however keys bounced
 pub logs_are_shown : AnyCountLaw → LogsAreShown
 logs_are_shown law layout p k s is bytes fine ok =
     let goes = law layout p.edges p.events is ok p.held fine in
