@@ -84,7 +84,7 @@ columns_time ch c (suc n) = 4 + rows_part (ch c) + 5 + columns_time ch (suc c) n
 pub kept_first : (f : ℕ → ℕ) (u v c : ℕ) → c < 12 → put (put f 28 u) 25 v (32 + c) ≡ f (32 + c)
 kept_first f u v c l = grind (arith, nat_tests, l)
 
--- the time of a column's part and of the turn to the next one, added in either order
+-- the times of a column and of those after it may be added in either order
 pub sums : (a b : ℕ) → 4 + a + (5 + b) ≤ 4 + a + 5 + b
 sums a b = omega arith
 

@@ -42,11 +42,11 @@ pub delay_place : (b : ℕ) → b < 256
 delay_place = by_byte (λ b. (bit_and (128 * digit (bit 0 (b % 16 * 16 + b / 16)) + (b % 16 * 16 + b / 16) / 2)
     3 + 206) % 256) (λ b. 206 + b / 32 % 4) refl
 
--- the kernel's table has the model's delay at that place
+-- the kernel's table of delays has the model's delay at its place
 pub delay_in : (b : ℕ) → b < 256 → byte_in (974 + b / 32 % 4) ≡ delay b
 delay_in = by_byte (λ b. byte_in (974 + b / 32 % 4)) delay refl
 
--- a read from that place of the image gives the model's delay
+-- a read from the image's table of delays gives the model's delay
 pub delay_read : (bytes : List ℕ) → HasKernel bytes → (b : ℕ) → b < 256 → slice_index bytes (768 + (206 + b / 32 % 4))
     ≡ delay b
 delay_read bytes hk b l =

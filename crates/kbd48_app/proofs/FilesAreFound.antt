@@ -114,7 +114,7 @@ module _ (next : Afterwards) (first second third : List ℕ) (shelf on mid last 
       (unfound kinds.Keys third (λ t. with_history (afterwards layout) (history_of layout t)) mid last (Err refusal)
       probes left refusal gives'' fetched'' refl kept alone)))
 
-  -- the result of that fetch is the answer with which such a plan ends
+  -- if the key file isn't fetched, the fetch's result is the answer of a plan over a program, a layout and a key file
   pub keys_unfound_by : (result : Result (Vec ℕ Global) Refusal) → IsErrAnd result (λ (r : Refusal). r ≡ refusal)
       → MayEnd (program_plan next first second third) shelf (answer_of result) last probes left
   keys_unfound_by (Ok text) same = absurd same

@@ -154,7 +154,7 @@ module _ (Q : ℕ → Type 0) (a b : ℕ → Bool) (was : (p : ℕ) → p < 96 �
       All-append At (by_place (shown_at a b) k) (change_at k (a k) (b k)) (upto k (omega (arith, l)))
       (changed k (a k) (b k) (was k (omega (arith, l))) (is k (omega (arith, l))))
 
-  -- changes are shown only at places of which it is so for what is down before or after
+  -- what is so of the places of all keys that are down, before or now, is so of those of the changes shown
   pub shown_known : All At (shown a b)
   shown_known = upto 96 (omega arith)
 

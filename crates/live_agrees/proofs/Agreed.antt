@@ -36,7 +36,7 @@ use Rattle.live_board.specs.Pasts.{Past}
 pub states_alike : StatesAreAlike
 states_alike p a b s t = same_state (sym (here p a s) ∙ here p b t)
 
--- a log that goes on from the same beginning has one rest
+-- a log has one rest after the same beginning
 pub same_rest : (log a b after : List Stamped) → after ≡ log ++ a → after ≡ log ++ b → a ≡ b
 same_rest log a b after h k =
     sym (drop-append_seam log a) ∙ ap (drop (length log)) (sym h ∙ k) ∙ drop-append_seam log b
