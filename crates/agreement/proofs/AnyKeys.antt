@@ -248,7 +248,7 @@ module _ (layout : KeyLayout) (edges : List Edge) (events : List HostEvent) (fin
       g).at)
       first
 
-  -- each tick goes through the passages of a tick
+  -- each tick start has its way through the service to the next one
   pub each_passes : (k : ℕ) (w : World Beside) → run_at joint bytes from k ≡ Some w → at_tick joint TICK w ≡ true
       → Passes joint bytes w
   each_passes =

@@ -279,7 +279,7 @@ module _ (layout : KeyLayout) (edges : List Edge) (events : List HostEvent) (fin
       c.goal.1.started c.goal.1.waits first
       (λ k. let same : k ≡ 0 + k = omega arith in subst (λ j. ShowsFew edges (suc j)) same (few (suc k))) at model_is
 
--- so it does from power-on, whether or not keys bounce, if each tick shows few changes
+-- from power-on the run goes on as the model, whether or not keys bounce, if each tick shows few changes
 pub as_shown : AsShown
 as_shown layout edges events fine ok few m small = in_time layout edges events fine ok m small few
 

@@ -78,7 +78,7 @@ module _ (d : Board) (bytes : List ℕ) (hk : HasKernel bytes) (alike : IsSilent
         selects_from d bytes hk w (entered_served w.cpu s.entered) c.goal.passes,
       )
 
--- every image that has the kernel does in each tick what a tick of the model is, on any board
+-- every image that has the kernel does in each tick what the model's tick does, on any board
 pub tick_law : TickLaw
 tick_law bytes hk alike codes small pins tick low w s repeats whole few frame meeting =
     does (numbered pins tick) bytes hk alike codes small low w s repeats whole few frame meeting

@@ -84,7 +84,7 @@ module _ (S : Type 0) (bytes : List ℕ) (edges : List Edge) (events : List Host
   unfolding station first
   model_first = refl
 
-  -- the first of them is the start from which the run goes on
+  -- the first tick start is the one from which the run goes on
   pub begins_there : (station 0).w ≡ begin
   unfolding station first
   begins_there = refl
@@ -94,7 +94,7 @@ module _ (S : Type 0) (bytes : List ℕ) (edges : List Edge) (events : List Host
   unfolding station next
   model_next k = refl
 
-  -- the model's state there is that which goes by what the columns showed
+  -- the model's state at a tick start is that which goes by what the columns showed
   pub model_is : (k : ℕ) → (station k).m ≡ model_from kb edges events starts model k
   model_is zero = model_first
   model_is (suc k) =
@@ -138,7 +138,7 @@ module _ (S : Type 0) (bytes : List ℕ) (edges : List Edge) (events : List Host
   pub never_stuck : (k : ℕ) → (w : World Beside) × (run_at d bytes from k ≡ Some w)
   never_stuck = numbers.goes_on d TICK bytes from (λ k. ((station k).w, reached k))
 
-  -- each of these states is the tick start of its number
+  -- each state that is reached so is the tick start of its number
   pub each : (k : ℕ) → IsStart d TICK bytes from k (starts k)
   each k =
       let r = reached k in

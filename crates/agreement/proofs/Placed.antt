@@ -46,6 +46,6 @@ module _ (layout : KeyLayout) (fine : IsKeyLayout layout) (held now : ℕ → Bo
       (upto k (omega (arith, l)))
       (changed k (held k) (now k) (was k (omega (arith, l))) (is k (omega (arith, l))))
 
-  -- the edges that a tick's columns show are of the layout's keys, or of its Fn key
+  -- the edges that a tick's columns show are at places at which the layout's Fn key alone sends nothing
   pub shown_placed : All (IsOfLayout layout) (shown held now)
   shown_placed = upto 96 (omega arith)

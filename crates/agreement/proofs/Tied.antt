@@ -94,7 +94,7 @@ module _ (layout : KeyLayout) (history : KeyHistory) (fine : IsKeyLayout layout)
         ∙ flags_long (down_at (λ c. slice_index w.cpu.ram (32 + c))) 96;
   }
 
-  -- so has what is tied to it in time
+  -- what is tied to the model in time has a place for each key
   pub fits_in_time : (w : World Beside) (m : Whole LayeredKeyboard) → TiedInTime w m → HasPlaces m.keys
   fits_in_time w m t = fits w m t.tied
 
@@ -347,6 +347,6 @@ module _ (layout : KeyLayout) (history : KeyHistory) (fine : IsKeyLayout layout)
               next.rest;
         }
 
-    -- and it drives the frame that its meeting says
+    -- in a tick in time the keyboard drives the frame that its meeting says
     pub drives_in_time : DrivesFrame edges events bytes (offer m.keys.keyboard) (meeting_from (keyboard layout) events w.cycle m) w
     drives_in_time = tick_drives w m past t.tied

@@ -119,7 +119,7 @@ module _ (edges : List Edge) (events : List HostEvent) (w : World Beside)
       ap (λ (b : Beside). b.pc)
       (after_clock edges events (joint_board edges events) (λ b. b) (itself edges events) w lit released frame 32)
 
-  -- so it does in the words of the joint run
+  -- in the words of the joint run too, a tick's frame that isn't cut fits what the controller does
   pub goes_with : (frame : Frame) → With events v w.cycle released (at_look edges events w) frame
       → GoesWith (pc frame) frame
   goes_with NoFrame h = tt

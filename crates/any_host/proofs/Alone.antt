@@ -181,7 +181,7 @@ module _ (w : Wiring) (wires : AreWires w) (rules : IsRuleful w) (x : ℕ)
           subst (λ c. IsTaking (e c).mode) z
           (next_taking (615 + j) (data_by (615 + j) 603 (omega arith) (omega (arith, l)) later t) t)
 
-      -- and up to the eleventh fall, if it lets the clock go past the last look
+      -- up to the eleventh fall the host lets data go, if it lets the clock go past the last look
       pub lets_data_on : (o : ℕ) → 614 < o → o ≤ 624 → (w.host (x + o)).dat ≡ true
       lets_data_on o l m =
           let p : 615 + (o - 615) ≡ o = omega (arith, l) in

@@ -17,7 +17,7 @@ pub record Kept (n : ℕ) (first e : Ear) : Type 0 where
   pub taken : e.taken ≡ first.taken
   pub given : e.given ≡ first.given
 
--- at most so many falls are at most more
+-- if at most so many falls are counted, at most any larger number is
 pub more : (m : Mode) (a b : ℕ) → a ≤ b → AtMost a m → AtMost b m
 more (Takes bits) a b l h = omega (arith, l, h)
 more (Gives byte falls) a b l h = omega (arith, l, h)

@@ -31,7 +31,7 @@ early frame o l = by (nat_lt o 232) refl
 pub inside : (frame : Frame) (i : ℕ) → i < frame_cycles frame → frame_lines frame (260 + i) ≡ latch_of (frame_latch frame 255 i)
 inside frame i l = ap latch_of (within 255 255 frame i l)
 
--- after its frame the keyboard drives neither wire
+-- after its frame the keyboard pulls neither wire
 pub late : (frame : Frame) (o : ℕ) → 260 + frame_cycles frame ≤ o → frame_lines frame o ≡ latch_of 255
 late frame o l =
     let p : o ≡ 260 + frame_cycles frame + (o - (260 + frame_cycles frame)) = omega (arith, l) in
@@ -163,7 +163,7 @@ module _ (byte : ℕ) where
 abbrev pub got : Frame
 got = ReceivedFrame
 
--- before the first fall of a received frame the keyboard drives neither wire
+-- before the first fall of a received frame the keyboard pulls neither wire
 pub got_up : (o : ℕ) → o < 288 → frame_lines got o ≡ latch_of 255
 got_up o l = by (nat_lt o 260) refl
   where

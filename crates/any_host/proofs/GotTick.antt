@@ -287,7 +287,7 @@ module _ (w : Wiring) (wires : AreWires w) (rules : IsRuleful w) where
       there_all : E (288 + 32 * suc k) ≡ E (289 + 32 * k)
       there_all = let z : 288 + 32 * suc k ≡ 289 + 32 * k + 31 = omega arith in ap E z ∙ stay 31 (omega arith)
 
-      -- from the fall of one cell the host comes to that of the next with one fall more
+      -- the fall of one cell leads the host to that of the next, with one fall more
       pub next : At (suc k)
       next = record {
         mode = ap (λ (v : Ear). v.mode) there_all ∙ is;

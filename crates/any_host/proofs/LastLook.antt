@@ -130,7 +130,7 @@ module _ (frame : Frame) (missed : Bool) where
       not_second (driven frame (suc c)).clk (found missed (suc c))
       (ap (λ v. v || (missed && (suc c == 594))) b ∙ not_second missed (suc c == 594) other)
 
-  -- the wires of this host are wires: a look finds a pull in its second cycle at the latest
+  -- the wires of this host keep the rules of wires: a look finds a pull in its second cycle at the latest
   pub wires : AreWires w
   wires = record {
     clock = record {
@@ -184,7 +184,7 @@ module _ (frame : Frame) (missed : Bool) where
     bytes = λ c. omega arith;
   }
 
-  -- the ticks
+  -- the ticks of this host are as ticks must be: the first drives its frame, and the others none
   pub ticks : (met : Meeting) → IsFound w.pins 0 frame met → AreTicks w starts (frames frame) (meetings met)
   ticks met is = record { before = λ c l. absurd (omega (arith, l)); long = long; drives = drives; found = finds }
     where

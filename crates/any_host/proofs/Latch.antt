@@ -104,7 +104,7 @@ module _ (layout : KeyLayout) (d : Board) (from : World d.State) (a : WorksAlone
   pub latch : ℕ → ℕ
   latch c = pick c (a.each c).steps
 
-  -- it is the latch after the step of which the cycle is one
+  -- the latch of a cycle is that after the step of which the cycle is one
   pub of_run : (k c : ℕ) (one next : World d.State) → run_at d (image_of layout) from k ≡ Some one
       → joint_step d (image_of layout) one ≡ Some next → one.cycle ≤ c → c < next.cycle → next.cpu.p2 ≡ latch c
   unfolding latch

@@ -28,7 +28,7 @@ lost =
     (tick.no_more S (wires sent true) (rules sent true) 0 3000 room 0 small s_drives looks refl refl no_byte rests)
     dropped
 
--- a host that pulls the clock where the last look misses it, and counts eleven falls, doesn't get the byte sent
+-- a host whose pull of the clock the last look misses, and that counts eleven falls, doesn't get the byte sent
 pub loses : HearsEach Eleventh S starts (frames sent) (meetings Sent) → true ≡ false
 loses h =
     one_isnt_none (length (ear_to S (starts 1)).taken) (ap length (h.taken 1)) (ap length lost.taken)

@@ -19,7 +19,7 @@ module _ (k h p s : ℕ → Bool) (wire : IsWire k h p s) (x : ℕ) where
       ap s two
       ∙ wire.high (x + o) a b (ap k (sym one) ∙ c) (ap h (sym one) ∙ d) (ap k (sym two) ∙ e) (ap h (sym two) ∙ f)
 
-  -- a look of the keyboard finds it high too
+  -- a look of the keyboard finds a wire high that both let go for three cycles, by the offset from a tick's start
   pub risen_at : (o : ℕ) → k (x + o) ≡ true → h (x + o) ≡ true → k (x + suc o) ≡ true → h (x + suc o) ≡ true
       → k (x + suc (suc o)) ≡ true → h (x + suc (suc o)) ≡ true → p (x + suc (suc o)) ≡ true
   risen_at o a b c d e f =

@@ -51,7 +51,7 @@ module _ (layout : KeyLayout) (fine : IsKeyLayout layout) (d : Board) (w : World
       (λ p l. sym (turned_shown k.switches.read (is_shown d w) p wide.read l))
 
   module _ (own : ShowsOwnKeys layout d w) (known : AreKnown layout k.switches) where
-    -- the edges that a tick takes are of keys of the layout, or of its Fn key
+    -- the edges that a tick takes are at places at which the layout's Fn key alone sends nothing
     pub edges_placed : All (IsOfLayout layout) (taken layout.debounce seen k.switches)
     edges_placed = takes_placed layout fine layout.debounce (is_shown d w) k.switches wide known own.placed
 

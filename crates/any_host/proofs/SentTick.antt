@@ -216,7 +216,7 @@ module _ (w : Wiring) (wires : AreWires w) (rules : IsRuleful w) (x y : ℕ) (lo
     pub read : w.reads (x + (288 + 32 * k)) ≡ frame_bit byte k
     read = rules.reads (x + (288 + 32 * k)) (frame_bit byte k) falls level
 
-    -- the fall
+    -- with a cell's fall the host takes the cell's bit
     pub fallen : ear_to w (suc (x + (288 + 32 * k))) ≡ with_bit (bits k) (frame_bit byte k) (E (288 + 32 * k))
     fallen =
         let z : 285 + 32 * k + 3 ≡ 288 + 32 * k = omega arith in
@@ -341,7 +341,7 @@ module _ (w : Wiring) (wires : AreWires w) (rules : IsRuleful w) (x y : ℕ) (lo
         given = h.given;
       })
 
-  -- after it
+  -- after the eleventh fall the clock falls no more in the tick
   pub no_more : (o : ℕ) → 609 ≤ o → x + o < y → NoFall w wires (x + o)
   no_more o l m = by (nat_lt o 624) refl (nat_lt o 628) refl
     where

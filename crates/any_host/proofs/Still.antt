@@ -37,7 +37,7 @@ module _ (w : Wiring) (wires : AreWires w) (x y : ℕ) (frame : Frame) (long : x
   -- a frame that is cut at a look
   module _ (byte look : ℕ) (is : frame ≡ CutFrame byte look) (at : IsLook look) (far : look ≤ 334)
       (low : (w.pins (x + (260 + look))).clk ≡ false) (first : Ear) (rests : Kept 0 first (e x)) where
-    -- the look that cuts a frame is long before the next tick start
+    -- a frame is cut before the next tick start
     pub room : x + (266 + look) ≤ y
     room = omega (arith, long, far)
 

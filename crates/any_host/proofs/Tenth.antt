@@ -51,7 +51,7 @@ module _ (w : Wiring) (wires : AreWires w) where
       by true false = refl
       by false b = refl
 
-  -- while the keyboard doesn't let the clock fall such a host takes no byte
+  -- while the keyboard doesn't let the clock fall, a host that counts ten falls takes no byte
   pub quiet : (c : ℕ) → NoFall w wires c → t (suc c) ≡ t c
   quiet c none = by (w.host c).clk refl
     where
@@ -63,11 +63,11 @@ module _ (w : Wiring) (wires : AreWires w) where
   pub too_few : (c : ℕ) → AtMost 8 (ear_to w c).mode → t (suc c) ≡ t c
   too_few c l = adds_none c (few_bits (ear_to w c).mode (counts_in c) (w.reads c) l)
 
-  -- while it sends such a host takes no byte
+  -- while it sends a byte, a host that counts ten falls takes none
   pub gives : (c byte falls : ℕ) → (ear_to w c).mode ≡ Gives byte falls → t (suc c) ≡ t c
   gives c byte falls is = adds_none c (ap (λ m. by_tenth m (counts_in c) (w.reads c)) is)
 
-  -- unless nine bits are taken such a host takes no byte
+  -- unless nine bits are taken, a host that counts ten falls takes no byte
   pub other : (c : ℕ) (bits : List Bool) → (ear_to w c).mode ≡ Takes bits → (length bits == 9) ≡ false → t (suc c) ≡ t c
   other c bits is long =
       adds_none c

@@ -53,6 +53,6 @@ module _ (w : Wiring) (wires : AreWires w) (rules : IsRuleful w) (x y : ℕ) (lo
           quiet w wires (x + o)
           (no_more w wires rules x y long drives at_clock at_data first rests o (grind (arith, nat_tests, u)) l)
 
-  -- in a tick in which the keyboard gets a byte such a host takes none
+  -- in a tick in which the keyboard gets a byte a host that counts ten falls takes none
   pub received : t y ≡ t x
   received = adds_none w wires x y ReceivedFrame long drives each

@@ -183,7 +183,7 @@ module _ (w : Wiring) (wires : AreWires w) (rules : IsRuleful w) (x y : ℕ) (lo
     pub given : (ear_to w y).given ≡ first.given
     pub taken : t y ≡ t x ++ Some byte ∷ []
 
-  -- at the next tick start it has taken the byte, and nothing is under way
+  -- at the next tick start a host that counts ten falls has taken the byte, and nothing is under way
   pub took : Took
   took =
       let k : Kept 0 (E 609) (ear_to w y) =

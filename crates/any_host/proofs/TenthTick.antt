@@ -139,6 +139,6 @@ module _ (w : Wiring) (wires : AreWires w) (x y : ℕ) (frame : Frame) (long : x
             subst (λ o. t (suc (x + o)) ≡ t (x + o)) p
             (in_cell k i (omega (arith, p, m, far)) (omega arith) (omega (arith, p, m)))
 
-    -- in a tick whose frame is cut such a host takes no byte
+    -- in a tick whose frame is cut a host that counts ten falls takes no byte
     pub cut : t y ≡ t x
     cut = adds_none each

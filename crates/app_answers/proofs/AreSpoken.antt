@@ -44,6 +44,7 @@ unsaid : (may : May) (said : Result (Vec ℕ Global) Refusal) (x : Shown)
 unsaid may (Ok text) x h = (h, refl)
 unsaid may (Err refusal) x h = (h, refl)
 
+-- an answer of which nothing is said yet may be said later, as it may be answered
 pub unsaid_so : (may : May) (said : Result (Vec ℕ Global) Refusal) (result : Result Spoken Refusal) (x : Shown) → result ≡ still_to_say said
     → ((taking : Taking) → may (answer_of said) taking []) → IsSpoken may result x x
 unsaid_so may said result x is h = subst (λ (r : Result Spoken Refusal). IsSpoken may r x x) (sym is) (unsaid may said x h)
@@ -56,6 +57,7 @@ module _ (may : KeyHistory → Answer → Left → Type 0) (outcome : Result Key
       subst (λ (o : Result KeyHistory KeyFault). OfHistory may o (Err refusal) probes (left_so probes taking)) (sym is)
       (inr (ap (λ (r : Refusal). Err r) same), refl, refl)
 
+  -- a key file with a fault is refused, and nothing is said yet
   pub keys_refused : (refusal : Refusal) (probes : List Watch) (result : Result Spoken Refusal) (x : Shown)
       → (fault : KeyFault) × (outcome ≡ Err fault) × (refusal ≡ keys_refusal fault)
       → IsErrAnd result (λ (r : Refusal). r ≡ refusal)

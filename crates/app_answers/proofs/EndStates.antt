@@ -11,6 +11,7 @@ five a b c d e =
     append_assoc (a ++ b ++ c) d e ∙ append_assoc (a ++ b) c (d ++ e) ∙ append_assoc a b (c ++ (d ++ e))
     ∙ ap (λ t. a ++ (b ++ (c ++ (d ++ t)))) (sym (append-nil e))
 
+-- the five rows of a state, put one after another, are the state's text
 pub rows_put : (m : Cpu) (steps cycles : ℕ) (none first second third fourth fifth : List ℕ)
     → none ≡ [] → first ≡ none ++ state_row m steps cycles 0
     → second ≡ first ++ state_row m steps cycles 1 → third ≡ second ++ state_row m steps cycles 2

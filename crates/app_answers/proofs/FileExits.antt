@@ -63,6 +63,7 @@ compile_exits : (bytes : List ℕ) (outcome : Result KeyLayout LayoutRefusal)
 compile_exits bytes (Ok layout) is = inl refl
 compile_exits bytes (Err fault) is = inr (inl (refl, inr (inr (fault, refl, is))))
 
+-- a command over one file ends with all said, with the file's fault, or with a run that is stuck
 pub file_exits : (command : FileCommand) (bytes : List ℕ) → Exits command bytes (file_said command bytes)
 file_exits (Step count) bytes = step_exits count bytes (hex_of bytes) refl
 file_exits Listing bytes = list_exits bytes (hex_of bytes) refl
@@ -77,6 +78,7 @@ hex_answered Listing bytes fault kind is = ap (of_image (λ image. Ok (listing_o
 hex_answered Assemble bytes fault kind is = absurd cc
 hex_answered Compile bytes fault kind is = absurd cc
 
+-- an assembler source with a fault is refused with the line and the number of its first fault
 pub asm_answered : (command : FileCommand) (bytes : List ℕ) (fault : ℕ × ℕ)
     → kind_of command ≡ kinds.Asm → assembly_of bytes ≡ Err fault → file_said command bytes ≡ Err (Asm fault.0 fault.1)
 asm_answered (Step count) bytes fault kind is = absurd cc
@@ -84,6 +86,7 @@ asm_answered Listing bytes fault kind is = absurd cc
 asm_answered Assemble bytes fault kind is = ap assembled is
 asm_answered Compile bytes fault kind is = absurd cc
 
+-- a layout with a fault is refused with the entry and the number of its first fault
 pub layout_answered : (command : FileCommand) (bytes : List ℕ) (fault : LayoutRefusal) → kind_of command ≡ kinds.Layout
     → layout_of_document bytes ≡ Err fault → file_said command bytes ≡ Err (Layout fault.entry fault.number)
 layout_answered (Step count) bytes fault kind is = absurd cc

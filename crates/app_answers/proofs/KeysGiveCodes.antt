@@ -27,6 +27,7 @@ unfolding keys scan_codes translated
 gives = at_each (λ key. is_code (translation true false (code_at key)).byte (translation true false (code_at key)).mark (scan_at key))
     84 refl
 
+-- the controller translates each key's code to the key's scan code
 pub each_gives : (key : ℕ) → key < 84 → translation true false (code_at key) ≡ record { byte = Some (scan_at key); mark = false }
 each_gives key below =
     code_is (translation true false (code_at key)).byte (translation true false (code_at key)).mark (scan_at key) (gives key below)

@@ -23,6 +23,7 @@ stops_on bytes cpu new cycles stuck None h =
 after_more : (bytes : List ℕ) (k : ℕ) (p : Progress) → after_steps bytes k ≡ p → after_steps bytes (k + 1) ≡ onward bytes p
 after_more bytes k p h = subst (λ (n : ℕ). after_steps bytes n ≡ onward bytes p) (sym (add-one k)) (ap (onward bytes) h)
 
+-- one step more of the processor is one step more of the run, with its cycles
 pub holds_after : (bytes : List ℕ) (k : ℕ) (cpu new : Cpu) (cycles n : ℕ) → after_steps bytes k ≡ WentOn cpu cycles
     → IsStep bytes cpu (stepped bytes high cpu) (Ok n) new → after_steps bytes (k + 1) ≡ WentOn new (cycles + n)
 holds_after bytes k cpu new cycles n before h =
@@ -36,6 +37,7 @@ stays bytes k (suc more) stuck h =
     let same : suc (k + more) ≡ k + suc more = omega arith in
     subst (λ (n : ℕ). after_steps bytes n ≡ Stopped stuck) same next
 
+-- a run whose processor is stuck before so many steps stops there
 pub stopped_after : (bytes : List ℕ) (k count : ℕ) (cpu new : Cpu) (cycles : ℕ) (stuck : Stuck) → k < count
     → after_steps bytes k ≡ WentOn cpu cycles
     → IsStep bytes cpu (stepped bytes high cpu) (Err stuck) new → after_steps bytes count ≡ Stopped stuck

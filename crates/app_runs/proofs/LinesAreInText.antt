@@ -121,7 +121,7 @@ module _ (layout : KeyLayout) (history : KeyHistory) (command : RunCommand) (pri
             (in_time layout history (listed run.starts) (length run.starts - 1) n edge code quiet of.1.1.cadence l struck),
       )
 
-  -- so it has from the tick on from which the host is quiet
+  -- with a host that is quiet from some tick on the text has the line of each byte of each later key, in time
   pub printed_from : KeysComeInTimeFrom → (text : List ℕ) (probes : List Watch) (left : Left)
       → MayAnswerRun command layout history (Ok text) probes left
       → (run : Outcome) × IsRunText command layout history text run

@@ -12,6 +12,7 @@ pub digits_by_list_all : (ds : List ℕ) → list_all is_ascii_digit ds ≡ all_
 digits_by_list_all [] = refl
 digits_by_list_all (d ∷ ds) = ap (λ b. is_ascii_digit d && b) (digits_by_list_all ds)
 
+-- a text of decimal digits is one as the standard library's `parse` reads it
 pub digits_are_digits : (ds : List ℕ) → list_all is_ascii_digit ds ≡ true → AllDigits 10 ds
 digits_are_digits ds h =
     (numerals_by_value (λ xs. all_ascii_digits xs ≡ true) tells_all_ascii_digits).to ds (sym (digits_by_list_all ds) ∙ h)

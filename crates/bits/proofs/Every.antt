@@ -55,7 +55,7 @@ same_is true false h = absurd cc
 same_is false true h = absurd cc
 same_is false false h = refl
 
--- equal tests
+-- tests found to agree on each number below a bound agree on each such number
 pub tests_by : (k : ℕ) (p q : ℕ → Bool) → every_below (λ b. same (p b) (q b)) k ≡ true → (b : ℕ) → b < k → p b ≡ q b
 tests_by k p q e b l = same_is (p b) (q b) (at_each (λ b. same (p b) (q b)) k e b l)
 

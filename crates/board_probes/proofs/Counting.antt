@@ -44,7 +44,7 @@ later_by f [] b = ap (λ (g : Option ℕ). or_later g (slice_get b 0)) (sym (lat
 later_by None (x ∷ a) b = refl
 later_by (Some y) (x ∷ a) b = refl
 
--- no step
+-- over zero steps a probe counts nothing more
 pub with_none : (w : Watch) (ear : Ear) → with_met [] ear w ≡ as_counted w w.counted.count w.counted.first ear
 with_none w ear = ap (λ (f : Option ℕ). as_counted w w.counted.count f ear) (later_none w.counted.first)
 

@@ -63,12 +63,12 @@ eleven fs long spaced =
     let both : ((length fs == 11) && are_spaced fs) ≡ true = ap (λ (n : ℕ). (n == 11) && are_spaced fs) long ∙ spaced in
     ap (λ c. cond c (transfer_in (data_at fs)) None) both ∙ ap transfer_in (all_levels fs 11 long)
 
--- the keyboard's
+-- eleven falls whose levels are a right frame are a byte of the keyboard
 pub keyboards : (fs : List Fall) (b : ℕ) → length fs ≡ 11 → are_spaced fs ≡ true → byte_of (levels fs 0 11) ≡ Some b
     → transfer_by fs ≡ Some (record { from_host = false; byte = b })
 keyboards fs b long spaced is = eleven fs long spaced ∙ keyboards_bits (levels fs 0 11) b is
 
--- the host's
+-- eleven falls whose levels are a frame of the host, with the keyboard's acknowledge, are a byte of the host
 pub hosts : (fs : List Fall) (b : ℕ) → length fs ≡ 11 → are_spaced fs ≡ true → byte_of (levels fs 0 11) ≡ None → level fs 10 ≡ false
     → byte_of (false ∷ levels fs 0 10) ≡ Some b → transfer_by fs ≡ Some (record { from_host = true; byte = b })
 hosts fs b long spaced none low is =

@@ -20,7 +20,7 @@ pub record HasEnded (s : Story) (ended : Ended) (before after : List Watch) : Ty
   pub looked : after ≡ looks s ended.joint.steps before
   pub so_far : HaveLookedAtSome s before after
 
--- a run that came to its end is the outcome, and each probe has looked at each of its states
+-- a run that has ended is the outcome of its story, and each probe has looked at each of its states
 pub has_ended : (s t : Story) → s ≡ t → (c : Course) (end : End) → IsEnding Stamp s c end → (before after : List Watch)
     → after ≡ looks s c.joint.steps before → HasEnded t (record { end = end; joint = c.joint }) before after
 has_ended s t same c end h before after looked =

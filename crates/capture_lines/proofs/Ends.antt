@@ -38,6 +38,7 @@ summed_lines (Some fault) [] end h = inl refl
 summed_lines (Some fault) (byte ∷ lines) end h = inr (after (byte ∷ lines) end h)
 summed_lines None lines end h = inr (after lines end h)
 
+-- what is said of a capture is of whole lines
 pub text_lines : (clk dat dump : List ℕ) → AreLines (capture_text clk dat dump)
 text_lines clk dat dump =
     let report = report_of clk dat dump in

@@ -31,6 +31,6 @@ alone_is_empty None lines h = absurd (cc)
 pub four : (t a b c d x y z w : List ℕ) → x ≡ t ++ a → y ≡ x ++ b → z ≡ y ++ c → w ≡ z ++ d → w ≡ t ++ (a ++ b ++ c ++ d)
 four t a b c d x y z w p q r s = let e : w ≡ (((t ++ a) ++ b) ++ c) ++ d = cc in e ∙ simp append_assoc
 
--- three texts
+-- three texts put one after another are the text before with all three
 pub three : (t a b c x y z : List ℕ) → x ≡ t ++ a → y ≡ x ++ b → z ≡ y ++ c → z ≡ t ++ (a ++ b ++ c)
 three t a b c x y z p q r = let e : z ≡ ((t ++ a) ++ b) ++ c = cc in e ∙ simp append_assoc

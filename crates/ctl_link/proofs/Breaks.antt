@@ -38,7 +38,7 @@ module _ {F : Type 0} (breaks : F → Bool) where
   kept_after now p l keeps since e early =
       keeps since (ap (λ (q : LinkEnd F). pulled q.link) (unbroken now p (pulled_idle p.link since e)) ∙ e) early
 
-  -- a pull that is said to begin after the break began before it or with it
+  -- if nothing but a pull begins from a free link after a break, nothing else does from before it
   pub begun_after : (now : ℕ) (p : LinkEnd F) (l : Link F) → BeginsPull now (broken_off breaks now p).link l → BeginsPull now p.link l
   begun_after now p l begins e =
       begins (ap (λ (q : LinkEnd F). q.link) (unbroken now p (ap is_busy e)) ∙ e)

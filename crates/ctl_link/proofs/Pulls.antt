@@ -55,7 +55,7 @@ module _ (F : Type 0) where
   after_pulled now stop awaits (Request byte) h e early = absurd cc
   after_pulled now stop awaits (Busy x) h e early = absurd cc
 
-  -- settling keeps a pull of the clock for 64 cycles
+  -- a pull of the clock that is younger than 64 cycles goes on through settling
   pub keeps_pull : (now : ℕ) (p : LinkEnd F) → KeepsPull now p.link (settled now p).port.link
   keeps_pull now p h e early =
       let t : LinkEnd F = (takes_input now p).port in
@@ -87,7 +87,7 @@ module _ (F : Type 0) where
   took_awaits now (Some since) None p = refl
   took_awaits now (Some since) (Some t) p = refl
 
-  -- settling begins a pull in this cycle, or none
+  -- from a free link settling begins nothing but a pull
   pub begins_pull : (now : ℕ) (p : LinkEnd F) → BeginsPull now p.link (settled now p).port.link
   begins_pull now p e =
       let input : Option Taken = if p.core.output_full then None else taken p.core in

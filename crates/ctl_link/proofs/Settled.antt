@@ -15,10 +15,10 @@ module _ (F : Type 0) (now : ℕ) (p q r : LinkEnd F) (took : q ≡ (takes_input
   pub empty_after : IsEmptyUnlessHeld p → IsEmptyUnlessHeld r
   empty_after h = subst (λ (x : LinkEnd F). IsEmptyUnlessHeld x) (sym by_parts) (keeps_empty now p h)
 
-  -- both parts of settling keep a pull of the clock for 64 cycles
+  -- a pull of the clock that is younger than 64 cycles goes on through both parts of settling
   pub pull_kept : KeepsPull now p.link r.link
   pull_kept = subst (λ (x : LinkEnd F). KeepsPull now p.link x.link) (sym by_parts) (keeps_pull F now p)
 
-  -- both parts of settling begin a pull in this cycle, or none
+  -- from a free link both parts of settling begin nothing but a pull
   pub pull_begun : BeginsPull now p.link r.link
   pull_begun = subst (λ (x : LinkEnd F). BeginsPull now p.link x.link) (sym by_parts) (begins_pull F now p)

@@ -98,7 +98,7 @@ module _ (keyboard : ℕ → Lines) (happens : ℕ → Happening)
   abbrev M : ℕ → Mode
   M c = (ear_to W c).mode
 
-  -- the wires between keyboard and controller are wires
+  -- the wires between keyboard and controller keep the rules of wires
   pub wires : AreWires W
   wires = record {
     clock = at_once (λ c. (keyboard c).clk) (λ c. (drive (L c)).clk);

@@ -46,14 +46,14 @@ found : (s : Debuggee) (n : ℕ) (d : Debug) (o : Option ℕ)
 found s n d None = refl
 found s n d (Some probe) = refl
 
--- no step
+-- zero steps leave a session at the time at which it is
 pub none_led : (s : Debuggee) (d : Debug) → LeadsTo s 0 d d None
 none_led s d = record {
   walked = λ more. let z : 0 + more ≡ more = omega arith in ap (λ (n : ℕ). walk s n d) z;
   hunted = λ more. let z : 0 + more ≡ more = omega arith in ap (λ (n : ℕ). hunt s n d) z;
 }
 
--- one step
+-- one step leads a session on by a step, and each probe looks at the state after it
 pub one_led : (s : Debuggee) (d : Debug) (w : World Beside)
     → next_state s d.steps ≡ Some w → LeadsTo s 1 d (stepped_to w d) (first_met 0 (sight_in w) d.probes)
 one_led s d w next = record {

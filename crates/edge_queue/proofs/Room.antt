@@ -101,7 +101,7 @@ module _ (debounce : Bool) where
 downs_some : (bs : List Bool) (p : ℕ) → get_or bs p false ≡ true → 1 ≤ downs bs
 downs_some bs p h = let less = downs_less bs p h in omega (arith, less)
 
--- while a key is down, a queue with that room isn't full for a release
+-- while a key is down, there is room for its release
 pub has_room : (p : ℕ) (q : Queue) → Fits q → is_down q p ≡ true → is_full false q ≡ false
 has_room p q f h =
     let some = downs_some q.down p h in

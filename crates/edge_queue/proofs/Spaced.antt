@@ -58,7 +58,7 @@ module _ (debounce : Bool) where
         | false ↦ sooner (e.stamp + time_of debounce e.down) ready (of_place place es) (omega (arith, at)) rest
       ]
 
-  -- the edges of one key are far enough apart
+  -- of edges that each have their time those of one key are far enough apart
   pub dwells : (ready : ℕ) (es : List Edge) → AreSpaced debounce ready es → Dwells es
   dwells ready [] s = tt
   dwells ready (e ∷ []) s = tt
@@ -79,7 +79,7 @@ module _ (debounce : Bool) where
       let at_e = s.1.1.1.0 in
       omega (arith, l, at_b, at_c, at_d, at_e)
 
-  -- of any five edges in a row the last is far enough from the first
+  -- of edges that each have their time the last of any five in a row is far enough from the first
   pub thin : (ready : ℕ) (es : List Edge) → AreSpaced debounce ready es → IsThin es
   thin ready [] s = tt
   thin ready (e ∷ es) s =

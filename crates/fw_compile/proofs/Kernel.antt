@@ -146,7 +146,7 @@ module _ (layout : KeyLayout) where
       ∙ in_table fn_codes_at (fn_codes_of layout) two fits3 place (omega (arith, l, fn_codes_long))
       ∙ get_or-map-range_with_len (fn_code_byte layout) 0 96 place place 0 l (omega arith)
 
-  -- the rate
+  -- the image has the layout's rate in its place
   pub rate_read : slice_index (image_of layout) rate_at ≡ layout.rate
   rate_read = past_fn_codes 864 (omega arith) ∙ in_table rate_at (layout.rate ∷ []) one fits2 0 (omega arith)
 

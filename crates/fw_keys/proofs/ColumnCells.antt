@@ -36,7 +36,7 @@ kept_wide f w i l u = grind (arith, nat_tests, l, u)
 kept_above : (f : ℕ → ℕ) (w : Wide) (i : ℕ) → 92 ≤ i → wide f w i ≡ f i
 kept_above f w i l = grind (arith, nat_tests, l)
 
--- so it does with the layers in their cells
+-- the columns' step, with the layers in their cells, keeps the cells of the held keys and of their changes
 pub kept_cells : (f : ℕ → ℕ) (w : Wide) (i : ℕ) → 32 ≤ i → i < 60 → spread f w i ≡ f i
 kept_cells f w i l u = laid_low (wide f w) w.bytes i (omega (arith, u)) ∙ kept_wide f w i l u
 
@@ -84,7 +84,7 @@ columns_time ch c (suc n) = 4 + rows_part (ch c) + 5 + columns_time ch (suc c) n
 pub kept_first : (f : ℕ → ℕ) (u v c : ℕ) → c < 12 → put (put f 28 u) 25 v (32 + c) ≡ f (32 + c)
 kept_first f u v c l = grind (arith, nat_tests, l)
 
--- the time of a column's part and of the turn to the next one, added in either order
+-- the times of a column and of those after it may be added in either order
 pub sums : (a b : ℕ) → 4 + a + (5 + b) ≤ 4 + a + 5 + b
 sums a b = omega arith
 

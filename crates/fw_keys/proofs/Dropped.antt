@@ -29,7 +29,7 @@ same_mark c l some = let h : (if c % 128 == 0 then bit 7 c else bit 7 ((c + 255)
     tests_by 256 (λ c. if c % 128 == 0 then bit 7 c else bit 7 ((c + 255) % 256)) (λ c. bit 7 c) refl c l in
     ap (λ b. if b then bit 7 c else bit 7 ((c + 255) % 256)) (sym some) ∙ h
 
--- one less in the count and one more in the head is the queue without its first byte
+-- the queue with one less in its count and its head one further is the queue without its first byte
 pub dropped : (f : ℕ → ℕ) (ring : List ℕ) (n s : ℕ) → f 66 < 256 → f 66 % 128 ≡ suc n
     → (not (s == 0)) ≡ ((slice_index ring ((f 67 + 0) % 16) == 240) && not (not (f 68 == 0)))
     → queue_by ((f 66 + 255) % 256) ((f 67 + 1) % 256) s ring ≡ drop_first (queue_of f ring)

@@ -42,11 +42,11 @@ pub delay_place : (b : ℕ) → b < 256
 delay_place = by_byte (λ b. (bit_and (128 * digit (bit 0 (b % 16 * 16 + b / 16)) + (b % 16 * 16 + b / 16) / 2)
     3 + 206) % 256) (λ b. 206 + b / 32 % 4) refl
 
--- the kernel's table has the model's delay at that place
+-- the kernel's table of delays has the model's delay at its place
 pub delay_in : (b : ℕ) → b < 256 → byte_in (974 + b / 32 % 4) ≡ delay b
 delay_in = by_byte (λ b. byte_in (974 + b / 32 % 4)) delay refl
 
--- a read from that place of the image gives the model's delay
+-- a read from the image's table of delays gives the model's delay
 pub delay_read : (bytes : List ℕ) → HasKernel bytes → (b : ℕ) → b < 256 → slice_index bytes (768 + (206 + b / 32 % 4))
     ≡ delay b
 delay_read bytes hk b l =
@@ -90,7 +90,7 @@ pub silent_by : (bytes : List ℕ) → IsSilentAlike bytes → (b : Bool) (p : �
 silent_by bytes alike true p l = alike p l
 silent_by bytes alike false p l = refl
 
--- so the code may read in either layer whether a place sends anything
+-- in either layer the code reads 00 exactly if the place sends nothing
 pub silent_read : (bytes : List ℕ) → IsSilentAlike bytes → (b : Bool) (p : ℕ) → p < 96
     → (slice_index bytes (768 + (upper b + p)) == 0) ≡ (image_code bytes false p == 0)
 silent_read bytes alike b p l = ap (λ v. v == 0) (code_read bytes b p) ∙ silent_by bytes alike b p l
@@ -154,7 +154,7 @@ abbrev pub turned : ℕ → ℕ → ℕ
 turned zero c = c
 turned (suc r) c = 128 * digit (bit 0 (turned r c)) + turned r c / 2
 
--- the bit of row r comes to the top after r + 1 turns right
+-- after r + 1 turns right the bit of row r is the top one
 pub bit_turned : (r c : ℕ) → r < 8 → c < 256 → bit 7 (turned (suc r) c) ≡ bit r c
 bit_turned = pair_tests 8 256 (λ r c. bit 7 (turned (suc r) c)) (λ r c. bit r c) refl
 

@@ -373,7 +373,7 @@ module _ (d : Board) (bytes : List ℕ) (hk : HasKernel bytes) (alike : IsSilent
       } in
       subst (λ u. Tick d TICK bytes u (Came meeting last_off G)) same done
 
-  -- a tick without a frame goes on as the model's, with four edges at most to the next start in time
+  -- a tick without a frame goes on as the model's, and with four edges at most the next start is in time
   pub frameless_tick : IsStarted m → length (edges_now bytes d w) ≤ 4 → IsRepeating bytes m.ram → (meeting : Meeting)
       → IsFrameless d w meeting → Tick d TICK bytes w (GoesOn d bytes meeting w)
   frameless_tick started few repeats meeting q =

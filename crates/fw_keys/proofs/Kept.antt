@@ -143,7 +143,7 @@ module _ (keys : Keys) (codes : NoPrefix keys) where
     met_sound Idle k s = s
     met_sound Cut k s = s
 
-    -- so does a tick of the self-test
+    -- a tick of the self-test keeps whole codes in the queue, and that what repeats is pressed
     pub tested_sound : (b : Bool) (k : Keyboard) → Sound keys l k → Sound keys l (tested_if b k)
     tested_sound true k s = record { codes = s.codes; place = s.place }
     tested_sound false k s = s

@@ -50,8 +50,7 @@ frameless_pressed d w keys (Got byte good) q h = elim q [ ]
 frameless_pressed d w keys Sent q h = elim q [ ]
 frameless_pressed d w keys Cut q h = elim q [ ]
 
--- a tick that does the keys' steps right on all but the held keys, and leaves the held keys' bytes as read, is a tick
--- of the model
+-- a tick that does the keys' steps right but for the held keys, and leaves those as read, is a tick of the model
 pub keyboard_goes : (keys : Keys) (meeting : Meeting) (from : Layers) (s : ℕ → ℕ) (ring : List ℕ) (now : ℕ → ℕ)
     (last : List ℕ) (changed down : ℕ → ℕ)
     → length from.pressed_in ≡ 96

@@ -25,6 +25,6 @@ keyed_tick keys meeting changed down l k =
 pub below_cells : (f : ℕ → ℕ) (i : ℕ) → 32 ≤ i → readied f i ≡ f i
 below_cells f i l = grind (arith, nat_tests, l)
 
--- nor is the count of bits that is set with them
+-- the registers that are set for a look, and the count of bits with them, are none of the cells
 pub counted_cells : (f : ℕ → ℕ) (n i : ℕ) → 32 ≤ i → put (readied f) 27 n i ≡ f i
 counted_cells f n i l = grind (arith, nat_tests, l)

@@ -24,7 +24,7 @@ made-same g h (suc n) e =
     let a : g 0 ≡ h 0 = e 0 (omega arith) in
     let rest = made-same (λ i. g (suc i)) (λ i. h (suc i)) n (λ i l. e (suc i) (omega (arith, l))) in rw (a, rest) refl
 
--- one more value is added at the end
+-- with one value more the list of the first values has it at its end
 pub made-more : (g : ℕ → ℕ) (n : ℕ) → made g (suc n) ≡ made g n ++ (g n ∷ [])
 made-more g zero = refl
 made-more g (suc n) = ap (λ t. g 0 ∷ t) (made-more (λ i. g (suc i)) n)

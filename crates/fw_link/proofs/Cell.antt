@@ -116,8 +116,7 @@ module _ (d : Board) (bytes : List ℕ) (has : HasKernel bytes) (y : ℕ) (m : C
         ),
       )
 
-  -- if the clock is high at a cell's looks, the kernel goes on with the next cell, or with the stop bit's fall after
-  -- the last one
+  -- with the clock high at a cell's looks the kernel goes on to the next cell, or after the last one to the stop bit
   pub cell : (b : Bool) (v n : ℕ) → IsFree m → f 27 ≡ suc n → n < 255 → bit 0 (f 30) ≡ b
       → bit_or (2 * digit b) (f 26) ≡ v → clock_seen ≡ true → (more : Bool) → not (n == 0) ≡ more
       → (more ≡ true → clock_again v ≡ true)

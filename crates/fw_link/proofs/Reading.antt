@@ -37,7 +37,7 @@ reads d bytes has w at acc released still =
       p2 = ap (λ (c : Cpu). c.p2) cpu;
     })
 
--- so it is for any levels at the pins
+-- for any levels at the pins the kernel reads a byte off the data wire at its looks
 pub reads_law : ReadsLaw
 reads_law bytes has pins tick w at acc small clock data_wire still =
     reads (numbered pins tick) bytes has w at acc (record { byte = small; clock = clock; data_wire = data_wire }) still

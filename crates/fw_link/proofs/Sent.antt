@@ -79,7 +79,7 @@ module _ (edges : List Edge) (events : List HostEvent) (d : Board) (to : d.State
 
   -- it pulls the clock at a look, and at none before: the frame is cut there
   module _ (cut : ℕ) (is : IsLook cut) (drives : Drives lines (260 + start) (cut_latch v byte cut) (cut_after cut)) where
-    -- so it is of a frame that is cut, up to its end
+    -- after so many cycles of a frame that is cut the PC's side is as the frame's lines leave it
     pub at_cut : (n : ℕ) → n ≤ cut_after cut → to (cut_board cut n) ≡ there n
     at_cut n l =
         over_wires edges events d to over (260 + start) (cut_latch v byte cut) lines n s

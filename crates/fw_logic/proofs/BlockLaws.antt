@@ -171,7 +171,7 @@ module _ (d : Board) (bytes : List ℕ) (has : HasKernel bytes) where
       ∙ others_are f (put f at v) (drop 112 w.cpu.ram) (λ j. j == at) (λ j l n. put_other f at v j n) i other
       ∙ ap (λ r. slice_index r i) (sym (memory_is w.cpu.ram long))
 
-  -- the lights
+  -- the block of the lights puts them on port 2 in six cycles, on any board
   pub lamps_law : (w : World d.State) → IsAt LAMPS w.cpu → Comes d TICK bytes w (PutsLights d w)
   lamps_law w is =
       let m = w.cpu in
@@ -206,7 +206,7 @@ module _ (d : Board) (bytes : List ℕ) (has : HasKernel bytes) where
   looks_by w is true true clock wire =
       looks_free d bytes has w.cycle w.cpu (cells_of w.cpu.ram) (drop 112 w.cpu.ram) w.board is.free clock wire
 
-  -- the block of the looks goes where the two wires lead it
+  -- the block of the looks goes on at the place that the levels of the two wires choose
   pub looks_law : (w : World d.State) → IsAt LOOKS w.cpu → Comes d TICK bytes w (Looks d w)
   looks_law w is =
       let m = w.cpu in

@@ -20,7 +20,7 @@ ticks_add (suc n) k x f s =
     let a : x + suc n ≡ x + 1 + n = omega arith in
     rw (e, a) (ticks_add n k (x + 1) f (f x s))
 
--- what the test finds to be at most as large is so
+-- a number that the test finds at most as large as another is so
 pub within : (a b : ℕ) → nat_le a b ≡ true → a ≤ b
 within a b h = grind (arith, nat_tests, h)
 

@@ -27,7 +27,7 @@ not_external pins m (inr h) =
     let e = h.0 in rw e (elim (not m.svc) as (λ b. (b && false && not pins.int_pin)
     ≡ false) [ true ↦ refl | false ↦ refl ])
 
--- nor does one take the timer's
+-- while no interrupt can come, no step takes the timer's
 pub not_timer : (m : Cpu) → IsFree m → takes_timer m ≡ false
 not_timer m (inl h) = rw h refl
 not_timer m (inr h) =
@@ -99,7 +99,7 @@ module _ (d : Board) (code : Code) (has : HasRows code) (x : ℕ) where
           rest (k - n) one (omega (arith, more, l))
           (sym (calm_add n (k - n) w e run) ∙ ap (λ i. calm d code.tick code.bytes i w) sum ∙ at)
 
-  -- a stage that leads to a set, whose stages lead to another one, leads to that
+  -- if a stage leads to a set, and each stage of the set to another one, there is a way of both
   pub chain : (Q R : Stage d.State → Type 0) (s : Stage d.State) → Leads d code x s Q
       → ((e : Stage d.State) → Q e → IsFree e.cpu → Leads d code x e R) → Leads d code x s R
   chain Q R s first rest =
@@ -127,7 +127,7 @@ module _ (d : Board) (code : Code) (has : HasRows code) (x : ℕ) where
             (first.timer_later timed timing) one (r.over timed one.timing one.tim_on);
       }
 
-  -- a stage of a set leads to it in no step
+  -- a stage of a set leads to the set in zero steps
   pub stay : (Q : Stage d.State → Type 0) (s : Stage d.State) → Q s → IsFree s.cpu → Leads d code x s Q
   stay Q s h free =
       record {
@@ -171,11 +171,11 @@ module _ (d : Board) (code : Code) (has : HasRows code) (x : ℕ) where
   abbrev pub To : Stage d.State → (Stage d.State → Type 0) → Type 0
   To s K = IsFree s.cpu → Leads d code x s K
 
-  -- a stage that comes to a set, whose stages come to another one, comes to that
+  -- if a stage leads to a set, and each stage of the set to another one, the stage leads to that
   pub then : (K R : Stage d.State → Type 0) (s : Stage d.State) → To s K → ((e : Stage d.State) → K e → To e R) → To s R
   then K R s first rest free = chain K R s (first free) rest
 
-  -- a stage of a set has come to it
+  -- a stage of a set is led to the set by zero steps
   pub here : (K : Stage d.State → Type 0) (s : Stage d.State) → K s → To s K
   here K s h free = stay K s h free
 
@@ -206,12 +206,12 @@ module _ (d : Board) (code : Code) (has : HasRows code) (x : ℕ) where
       ∙ one in
       ap (λ o. elim o as (λ v. Option (World d.State)) [ None ↦ None | Some next ↦ Some next ]) calm_one
 
-  -- a jump, made or not, lets no interrupt in
+  -- an instruction that a path may have lets no interrupt in
   pub taken_closed : (b : Bool) (op : Op) → is_taken b op ≡ true → is_closed op ≡ true
   taken_closed true op h = plain_closed op h
   taken_closed false op h = h
 
-  -- one instruction
+  -- a stage whose row is known leads to the stage that the row leaves
   pub by_row : (K : Stage d.State → Type 0) (s : Stage d.State) (r : Decoded) → code.row s.cpu.pc ≡ Some r
       → is_taken code.timed r.op ≡ true → (s.cpu.pc % 2048 == code.tick) ≡ false
       → K (moved d x r.cycles (left d code x r s) s) → To s K

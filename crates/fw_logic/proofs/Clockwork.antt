@@ -139,7 +139,7 @@ module _ (d : Board) (bytes : List ℕ) (from : World d.State) (S : ℕ → Worl
       subst (λ (v : World d.State). (v.cpu.svc ≡ true) × (v.cpu.rb ≡ true)) (is_nth n stamp s)
       (clock.serves k.late k.w k.set)
 
-  -- the run comes to an end at or after each stamp
+  -- for each end stamp there is a first tick start that isn't before it, and the run ends there
   pub ends : (stop : ℕ) → (n : ℕ) × IsEnd d TICK bytes from stop n
   ends stop =
       let up : (n : ℕ) → n ≤ stamp_of n =

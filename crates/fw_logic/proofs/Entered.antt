@@ -31,7 +31,7 @@ pub record IsServed (m : Cpu) : Type 0 where
   pub status : slice_index m.ram 9 ≡ 16
   pub memory : length m.ram ≡ 128
 
--- a start that comes in time is a start: the service has been entered, with clear flags
+-- a tick start that comes in time has just entered the service, with clear flags
 pub entered_served : (m : Cpu) → IsEntered m → IsServed m
 entered_served m s = record {
   pc = s.pc;

@@ -174,8 +174,8 @@ module _ (d : Board) (bytes : List ℕ) (has : HasKernel bytes) (from : World d.
         by true e = ((wake.early k w (grind (arith, nat_tests, e)) run).next next step).0
         by false e = all_late d bytes has wake.to wake.main from_main passes_main (k - 16) w next (later k w run e) step
 
-    -- in each state of the run in which the clock is looked at, the next look comes within 24 cycles, or the frame's
-    -- end
+    -- in each state in which the clock is looked at, the next look comes within 24 cycles, or no byte is being sent
+    -- any more
     pub every_soon : (k : ℕ) (w : World d.State) → run_at d bytes from k ≡ Some w → looks bytes w.cpu ≡ true
         → LooksSoon d bytes w
     every_soon k w run look = by (nat_lt k (waking d bytes has)) refl

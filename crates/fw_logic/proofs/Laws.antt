@@ -27,7 +27,7 @@ module _ (d : Board) (tick : ℕ) (bytes : List ℕ) where
       let c : suc n + k ≡ suc (n + k) = omega arith in
       rw c (on n k e (λ t g. add n k t e g) (calm_step d tick bytes w) h)
 
-  -- a run that comes to a set, whose states come to another one, comes to that
+  -- if a run reaches a set, and each state of the set another one, the run reaches that
   pub comes_then : (Q R : World d.State → Type 0) (w : World d.State) → Comes d tick bytes w Q
       → ((e : World d.State) → Q e → Comes d tick bytes e R) → Comes d tick bytes w R
   comes_then Q R w first rest =
@@ -39,11 +39,11 @@ module _ (d : Board) (tick : ℕ) (bytes : List ℕ) where
         goal = r.goal;
       }
 
-  -- a state of a set has come to it
+  -- a run reaches a set in which it is already
   pub comes_here : (Q : World d.State → Type 0) (w : World d.State) → Q w → Comes d tick bytes w Q
   comes_here Q w h = record { steps = 0; end = w; run = refl; goal = h }
 
-  -- a run that comes to a set comes to each larger one
+  -- a run that reaches a set reaches each larger one
   pub comes_as : (Q R : World d.State → Type 0) (w : World d.State) → ((e : World d.State) → Q e → R e)
       → Comes d tick bytes w Q → Comes d tick bytes w R
   comes_as Q R w f h = record { steps = h.steps; end = h.end; run = h.run; goal = f h.end h.goal }
@@ -78,7 +78,7 @@ module _ (d : Board) (tick : ℕ) (bytes : List ℕ) where
 
 -- the same between stages of a code
 module _ (d : Board) (code : Code) (has : HasRows code) (x : ℕ) where
-  -- a loop whose each turn leaves one less comes to its end
+  -- a loop of which each turn leaves one less ends with none left
   pub counts_down : (P : ℕ → Stage d.State → Type 0)
       → ((k : ℕ) (s : Stage d.State) → P (suc k) s → IsFree s.cpu → Leads d code x s (P k))
       → (n : ℕ) (s : Stage d.State) → P n s → IsFree s.cpu → Leads d code x s (P 0)

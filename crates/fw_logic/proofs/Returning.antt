@@ -243,7 +243,7 @@ module _ (d : Board) (bytes : List ℕ) (has : HasKernel bytes) where
         })
         (begins d bytes has over.now over.ring k two (x + off + 2) r.t r.pre r.tf r.last low high))
 
-    -- RETR
+    -- from the service's end RETR and the wait lead to the next tick start
     pub ends : Comes d TICK bytes (world_at x e) (Next d x b last_off R)
     ends =
         let s : Cpu = serving DONE over.now over.ring k in

@@ -128,7 +128,7 @@ module _ (d : Board) (code : Code) (tick : code.tick ≡ TICK) (has : HasRows co
       let q = quiet (λ t. (t.cpu.p1 ≡ latch s.off) × (t.cpu.p1 ≡ latch (t.off - 1)) × Shown n t K) s free h in
       step_reported Q s q.next q.run q.long q.rest.0 q.rest.1 (shown n K Q q.next q.free more q.rest.2)
 
-  -- so do those of which one test found it
+  -- instructions that one test found to select their columns do so on the whole way
   pub traced : (n : ℕ) (s : Stage d.State) (b : Bool) (K : Stage d.State → Type 0) → IsFree s.cpu → Traced n s b K
       → (b ≡ true) × Observed s K
   traced zero s b K free h = (

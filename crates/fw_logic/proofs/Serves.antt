@@ -57,7 +57,7 @@ module _ (d : Board) (bytes : List ℕ) (has : HasKernel bytes) where
       (e.cpu ≡ work_cpu (headed e.cpu.last_t1 t1 b) f ring m) × (e.off ≡ 3)
       × (e.board ≡ after_cycles 1 2 (λ o. d.cycle m.p2 (x + o)) (after_cycles 2 x (d.cycle m.p2) board))
 
-  -- the second one writes the timer
+  -- the second instruction of a tick writes the timer
   pub sets : (x : ℕ) (b : TimerState) (t1 : Bool) (f : ℕ → ℕ) (ring : List ℕ) (m : Cpu) (board : d.State)
       → Path d (kernel_in false bytes) x (Run 1 ∷ []) (second x b t1 f ring m board) (IsSet x b t1 f ring m board)
   sets x b t1 f ring m board = (refl, refl, refl)

@@ -162,7 +162,7 @@ module _ (d : Board) (bytes : List ℕ) (has : HasKernel bytes) (w : World d.Sta
   passes_begun : Passes d bytes as_begun
   passes_begun = subst (λ u. Passes d bytes u) same p
 
-  -- so it does from any tick start
+  -- from any tick start up to the next one port 1 selects the columns one after another, and then none
   pub selects_from : Selects d TICK bytes w (λ c. column_latch w.cpu.p1 (c - w.cycle))
   selects_from =
       subst (λ u. Selects d TICK bytes u (λ c. column_latch w.cpu.p1 (c - w.cycle))) (sym same)

@@ -135,7 +135,7 @@ step_asks k m c pins start e h on few =
     }))
     h on
 
--- after a span without an overflow, or with one that asked, the next span goes on so
+-- two spans of the timer, one after the other, are one: an overflow in either asks, and goes on asking
 pub asking_then : (k e f : TimerParts) (a b c : ℕ) → (total k + b < 8192 + a → IsLater k e a b) → IsAsking k e a b
     → IsAsking e f b c → IsAsking k f a c
 asking_then k e f a b c later h g =

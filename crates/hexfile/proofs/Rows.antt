@@ -28,7 +28,7 @@ rows_more bytes before text next row so_far is =
     ∙ ap (λ number. rows ++ row_at bytes number) same in
     is ∙ ap (λ t. t ++ row_at bytes row) so_far ∙ append_assoc before rows (row_at bytes row) ∙ ap (λ t. before ++ t) (sym more)
 
--- all rows
+-- after 128 rows the text has all rows of the bytes
 pub rows_all : (bytes before text : List ℕ) (row : ℕ)
     → text ≡ before ++ flat_map (row_at bytes) (range_with_len 0 row) → row ≡ 128 → text ≡ before ++ rows_text bytes
 unfolding rows_text

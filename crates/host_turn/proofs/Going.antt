@@ -25,7 +25,7 @@ module _ {F : Type 0} (breaks : F → Bool) (now : ℕ) (next : Option HostEvent
       ap (λ r. record d2 { port = r }) (e ∙ ap (λ r. (settled now r).port) e3)
       ∙ ap (λ (x : Desk F). record x { port = (settled now (broken_off breaks now x.port)).port }) both
 
-  -- they say what the cycle says
+  -- the parts of a cycle, one after another, say what the cycle says
   pub going_items : (i0 i1 i2 i3 : List Item) (did : Did) → i1 ≡ i0 ++ (event_turn now next (host_of d)).items
       → i2 ≡ i1 ++ (bios_turn now d1.port.filled (host_of d1)).items
       → did ≡ (settled now q).did → i3 ≡ i2 ++ said_of did → i3 ≡ i0 ++ (cycled breaks now next d).items

@@ -57,13 +57,14 @@ module _ (F : Type 0) (now : ℕ) (next : Option HostEvent) (d d1 d2 : Desk F) (
       subst (λ (x : Desk F). IsEmptyUnlessHeld x.port) (sym e2) (bios_fits F d1.port.link now d1.port.filled (host_of d1) after)
 
   module _ (breaks : F → Bool) (q : LinkEnd F) (e3 : q ≡ broken_off breaks now d2.port) where
-    -- a pull that is kept after the host's turn and the break is kept from before them
+    -- a pull that goes on from after the host's turn and the break goes on through the whole cycle
     pub kept_before : (l : Link F) → KeepsPull now q.link l → KeepsPull now d.port.link l
     kept_before l k =
         subst (λ (x : Link F). KeepsPull now x l) same_link
         (kept_after breaks now d2.port l (subst (λ (r : LinkEnd F). KeepsPull now r.link l) e3 k))
 
-    -- a pull that begins after the host's turn and the break begins in this cycle
+    -- if nothing but a pull begins from a free link after the host's turn and the break, nothing else does in the
+    -- cycle
     pub begun_before : (l : Link F) → BeginsPull now q.link l → BeginsPull now d.port.link l
     begun_before l k =
         subst (λ (x : Link F). BeginsPull now x l) same_link

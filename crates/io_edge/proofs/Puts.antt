@@ -216,7 +216,7 @@ failed_said (Some sink) now text start end below is so failed =
     let h = said_failed (Some sink) now text start end below is so failed in
     ap (λ (o : Offered). o.failed) h.2 ∙ of_now (λ s. (offered (take (end - start) (drop start text)) s).failed ≡ true) now h.0 h.1 failed
 
--- and the sink is then as after the saying of the text
+-- if the offering of a line fails, the sink is as after the saying of the text
 pub failed_after : (before now next : Option HeldBytes) (text : List ℕ) (start end : ℕ) → start < length text
     → end ≡ start + line_length (drop start text) → Saying before now text start
     → IfSome now (λ sink. (offered (take (end - start) (drop start text)) sink).failed ≡ true)
@@ -242,7 +242,7 @@ pub whole_said : (before now : Option HeldBytes) (text : List ℕ) (start : ℕ)
 whole_said None now text start all so = tt
 whole_said (Some sink) now text start all so = sym (ap (λ (o : Offered). o.failed) (saying_ends (Some sink) now text start all so).2)
 
--- and the sink is then as after the saying of the text
+-- after all lines of a text are said, the sink is as after the saying of the text
 pub whole_after : (before now : Option HeldBytes) (text : List ℕ) (start : ℕ) → length text ≤ start
     → Saying before now text start → IfSome before (λ sink. now ≡ Some (said text sink).sink)
 whole_after None now text start all so = tt

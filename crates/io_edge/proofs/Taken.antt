@@ -8,7 +8,7 @@ use Rattle.std.specs.declared.result.Result.{Result}
 use Rattle.io_edge.specs.Sink.{Takes}
 use Rattle.io_edge.specs.Said.{TakesAll, TakesPart}
 
--- of nothing
+-- a sink that is as before has taken nothing of a text
 pub takes_none : (before : Option (List ℕ)) (text : List ℕ) → Takes before before text 0
 takes_none (Some before) text = ap (λ bytes. Some bytes) (sym (append-nil before))
 takes_none None text = refl

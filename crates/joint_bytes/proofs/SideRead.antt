@@ -59,7 +59,7 @@ controller_read s =
       resends = s.resends;
     }
 
--- so it is from bytes that are equal to those
+-- the controller is read from bytes that are equal to its own
 pub controller_as : (x : List ℕ) (s : ControllerState) → x ≡ controller_bytes s → controller_in x ≡ s
 controller_as x s e = ap controller_in e ∙ controller_read s
 

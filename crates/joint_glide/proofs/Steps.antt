@@ -128,7 +128,7 @@ module _ (due : Due) (m : Machine) (none : made_first m.cycle due.edges.items â‰
               (lines_of (passed cycles m.cycle cpu.p2 due.host.items m.outside) all_pass);
         })
 
-    -- so it is a quiet step
+    -- a step of the processor in still cycles is a quiet step
     pub is_quiet : IsUneventful due m quietly_on
     is_quiet = record {
       seen = seen_uneventfully cycles line;

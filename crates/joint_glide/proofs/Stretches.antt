@@ -30,7 +30,7 @@ same_stood m cpu cycle cycle' steps steps' a b =
     ap (λ c. record m { mcu = cpu; cycle = c; steps = steps }) a ∙ ap (λ s. record m { mcu = cpu; cycle = cycle'; steps = s }) b
 
 module _ (due : Due) (tick_pc : ℕ) (old : Machine) (to : ℕ) (still : IsStillTo due old to) where
-  -- none yet
+  -- before the first step a stretch of quiet steps is empty
   pub none_yet : AreUneventful due tick_pc 0 old (stood old old.mcu 0 0)
   none_yet = same_stood old old.mcu (old.cycle + 0) old.cycle (old.steps + 0) old.steps (omega arith) (omega arith)
 
@@ -66,7 +66,7 @@ module _ (due : Due) (tick_pc : ℕ) (old : Machine) (to : ℕ) (still : IsStill
           subst (λ (n : Machine). IsUneventful due here n) (on_one next cycles)
           (is_quiet due here (none_made before_end) cycles next some few kept (still_here cycles room) h)
 
-      -- a step after quiet ones is a joint step from where they led
+      -- a step after quiet ones is a joint step from the machine that they left
       pub one_reported : IsJointStep due here (due_step due here) (Ok (seen_uneventfully cycles (outside_wires cpu.p2 old.outside)))
           (stood old next (steps + 1) (passed + cycles))
       one_reported =

@@ -83,7 +83,7 @@ module _ (due : Due) (tick_pc : ℕ) (old j : Machine) (room steps passed : ℕ)
         in_room : old.cycle + passed + cycles ≤ old.cycle + room
         in_room = omega (arith, few, test)
 
-        -- a turn whose step is still ends the stretch with that step, if it has to be reported
+        -- a turn may end the stretch with its step in still cycles
         pub turn_reported : (line : Lines) (seen : Seen) → line ≡ outside_wires old.mcu.p2 old.outside
             → new ≡ record x { cycle = x.cycle + (passed + cycles); steps = x.steps + (steps + 1) } → seen ≡ seen_uneventfully cycles line
             → HasGone due tick_pc room old (Ok seen) new × ((0 < seen.cycles) × (seen.cycles < 3))

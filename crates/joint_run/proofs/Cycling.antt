@@ -22,7 +22,7 @@ module _ (goes : Desk Wire → Cycled Wire) (now p2 : ℕ) (o o1 o2 : Outside) (
       → o3 ≡ record { desk = (goes l.desk).desk; clock = l.clock; shown = lights_of p2 }
   outside_is o3 e = e ∙ ap (λ (x : Outside). record x { desk = (goes x.desk).desk }) whole
 
-  -- they say what the cycle says
+  -- the parts of a cycle, one after another, say what the cycle says
   pub items_are : (i0 i1 i2 : List Stamped)
       → i1 ≡ i0 ++ lights_said now o.shown (lights_of p2) → i2 ≡ i1 ++ stamped now (goes o2.desk).items
       → i2 ≡ i0 ++ (lights_said now o.shown (lights_of p2) ++ stamped now (goes l.desk).items)
@@ -31,6 +31,6 @@ module _ (goes : Desk Wire → Cycled Wire) (now p2 : ℕ) (o o1 o2 : Outside) (
       ∙ ap (λ (x : Outside). (i0 ++ lights_said now o.shown (lights_of p2)) ++ stamped now (goes x.desk).items) whole
       ∙ append_assoc i0 (lights_said now o.shown (lights_of p2)) (stamped now (goes l.desk).items)
 
-  -- they do an event exactly if the cycle does
+  -- the parts of a cycle do an event exactly if the cycle does
   pub done_is : (d : Bool) → d ≡ (goes o2.desk).done → d ≡ (goes l.desk).done
   done_is d e = e ∙ ap (λ (x : Outside). (goes x.desk).done) whole

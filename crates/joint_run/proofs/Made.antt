@@ -108,7 +108,7 @@ module _ (edges : List Edge) (order : AreInOrder edges) (made cycle : ℕ) (due 
       (before_unmade cycle (take (length due) (drop made edges)) (drop (length due) (drop made edges)) all)
       ∙ ap (λ es. take made edges ++ made_first cycle es) (sym next)
 
-  -- they are as many of the first ones
+  -- the edges that are made by a cycle are as many of the first ones
   pub taken_now : take (made + length (made_first cycle due)) edges ≡ take made edges ++ made_first cycle due
   taken_now =
       let p : made_first cycle due ≡ take (length (made_first cycle due)) (drop made edges) =
@@ -116,7 +116,7 @@ module _ (edges : List Edge) (order : AreInOrder edges) (made cycle : ℕ) (due 
       ∙ ap (λ es. take (length (made_first cycle es)) (drop made edges)) (sym next) in
       take-add made (length (made_first cycle due)) edges ∙ ap (λ es. take made edges ++ es) (sym p)
 
-  -- they are made at each later cycle too
+  -- the edges that are made by a cycle are made by each later one too
   pub reached_now : (later : ℕ)
       → cycle ≤ later → made_first later (take made edges ++ made_first cycle due) ≡ take made edges ++ made_first cycle due
   reached_now later l =

@@ -50,6 +50,7 @@ module _ (command : RunCommand) (first second : List ℕ) (shelf on last : Optio
       same (end_of_history (MaySayOfRun command layout probes) (Runs command layout) last answer probes left
       (λ history h. (h.0, refl, h.1)) (history_of layout text) says_so))))
 
+  -- what a run over a layout and a key file puts is what its command may answer of both files
   pub ran_spoken : (probes left : List Watch) (result : Result Spoken Refusal) (x y : Shown)
       → IsSpoken (λ answer taking log. MaySayOfText command layout text answer probes (left_after left taking log)) result x y
       → IsSpoken (λ answer taking log.
@@ -87,6 +88,7 @@ module _ (words : List (String Global)) (shelf after : Option Shelved) (command 
   abbrev pub MaySay : May
   MaySay answer taking log = MayAnswer (map string_bytes words) shelf answer after probes (left_after left taking log)
 
+  -- what a plan puts is what the words that name it may answer
   pub spoken_as : (x y : Shown) → IsSpoken (λ answer taking log. MayEnd plan shelf answer after probes (left_after left taking log)) result x y
       → IsSpoken MaySay result x y
   spoken_as x y h =

@@ -30,10 +30,12 @@ never_write answer h = grind arith
 pub memory_said : (answer : Answer) → exit_said answer ≡ exits.Memory → answer ≡ Err refusals.Memory
 memory_said answer h = grind arith
 
+-- a call exits with the status of a failed read only after a fetch failed
 pub read_of : (result : Result Spoken Refusal) (y z : Shown) (exit : Exit)
     → Concludes result y z exit → exit ≡ exits.Read → result ≡ Err refusals.Read
 read_of result y z exit h is = grind arith
 
+-- after a fetch failed a call exits with the status of a failed read, or of a failed write
 pub read_ends : (result : Result Spoken Refusal) (y z : Shown) (exit : Exit)
     → Concludes result y z exit → result ≡ Err refusals.Read → (exit ≡ exits.Read) ⊎ (exit ≡ exits.Write)
 read_ends result y z exit h is = grind arith
@@ -120,6 +122,7 @@ abbrev pub MaySo : List (List ℕ) → Option Shelved → Option Shelved → Lis
 MaySo words shelf after probes left answer taking log =
     MayAnswer words shelf answer after probes (record { probes = left; taking = taking; log = log })
 
+-- an answer that was put, or is put now, ends the call as the top call says
 pub has_ended : (words : List (List ℕ)) (shelf after : Option Shelved) (probes left : List Watch)
     (result : Result Spoken Refusal) (x y z : Shown) (exit : Exit)
     → IsSpoken (MaySo words shelf after probes left) result x y
@@ -134,6 +137,7 @@ pub wrote : (log : List ℕ) (answer : Answer) (x z : Shown) (exit : Exit)
     → Says log answer x z exit → exit ≡ exits.Write → Rose x.faults z.faults
 wrote log answer x z exit h is = elim h [ inl whole ↦ absurd (never_write answer (sym whole.0 ∙ is)) | inr part ↦ part.1.failed ]
 
+-- if a put failed, the call exits with the status of a failed write
 pub put_failed : (log : List ℕ) (answer : Answer) (x z : Shown) (exit : Exit)
     → Says log answer x z exit → x.faults < z.faults → exit ≡ exits.Write
 put_failed log answer x z exit h more =

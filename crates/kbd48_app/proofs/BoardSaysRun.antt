@@ -15,6 +15,7 @@ use Rattle.kbd48_app.proofs.OneText.{no_refusal}
 alone : (run : Outcome) → run_text false false run ≡ log_text run.log
 alone run = append-nil (log_text run.log ++ []) ∙ append-nil (log_text run.log)
 
+-- `board` of a layout's image prints the log that `run` prints, or its beginning, unless memory runs out
 pub board_says_run : BoardsSayRuns → BoardSaysRun
 board_says_run law of history text answer probes others left kept sound accepted (inl none) k = absurd (no_refusal text Memory none.0)
 board_says_run law of history text answer probes others left kept sound accepted (inr h) (inl none) = inl none.0
@@ -26,6 +27,7 @@ board_says_run law of history text answer probes others left kept sound accepted
       record { run = h.1; board = reported.0; says_so = says_so; text = same ∙ h.2.2 ∙ alone h.1; log = reported.2 },
     )
 
+-- the text of `trace` begins with that of `board --trace` of the layout's image, unless memory runs out
 pub board_traces_run : BoardsSayRuns → BoardTracesRun
 board_traces_run law of history text answer probes others left kept sound accepted (inl none) k = absurd (no_refusal text Memory none.0)
 board_traces_run law of history text answer probes others left kept sound accepted (inr h) (inl none) = inl none.0

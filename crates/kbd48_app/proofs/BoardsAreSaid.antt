@@ -53,6 +53,7 @@ module _ (wanted : BoardRun) (first second third : List ℕ) (shelf on mid last 
       same (end_of_history (MayRun wanted image probes) (Boards wanted image) last answer probes left (λ history h. (h, refl))
       (history_of layout text) says_so))))))
 
+  -- what a run on the board puts is what `board` may answer of its three files
   pub three_spoken : (probes left : List Watch) (result : Result Spoken Refusal) (x y : Shown)
       → IsSpoken (λ answer taking log. MaySayOfBoard wanted image layout text answer probes (left_after left taking log)) result x y
       → IsSpoken (λ answer taking log.
@@ -76,6 +77,7 @@ module _ (wanted : BoardRun) (first second third : List ℕ) (shelf on mid last 
       keys_unfound (Boards wanted) first second third shelf on mid last file document image layout gives fetched is
       gives' fetched' has refusal gives'' fetched'' probes (left_so probes taking) refl refl
 
+  -- if the key file isn't fetched, `board` refuses it, and nothing is said
   pub keys_unread : (result : Result Spoken Refusal) (x : Shown) → IsErrAnd result (λ (r : Refusal). r ≡ refusal)
       → IsSpoken (λ answer taking log.
       MayEnd (program_plan (Boards wanted) first second third) shelf answer last probes (left_after probes taking log)) result x x

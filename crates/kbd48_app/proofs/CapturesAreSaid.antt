@@ -20,6 +20,7 @@ use Rattle.kbd48_app.proofs.FilesAreFound.{found_so}
 
 module _ (clk dat name : List ℕ) (shelf on : Option Shelved) (file : Vec ℕ Global) (dump : List ℕ)
     (gives : MayGive kinds.Vcd name shelf (Ok file)) (fetched : on ≡ option_map after_fetch shelf) (same : dump ≡ file.items) where
+  -- what is put of a dump is what `capture` may answer of its file
   pub capture_spoken : (probes : List Watch) (result : Result Spoken Refusal) (x y : Shown)
       → IsSpoken (λ answer taking log. MayAnswerCapture clk dat dump answer log) result x y
       → IsSpoken (λ answer taking log. MayEnd (capture_plan clk dat name) shelf answer on probes (left_after probes taking log)) result x y

@@ -19,6 +19,7 @@ fetch_led fails long on exit wanted read input afterwards Fails h = read h
 fetch_led fails long on exit wanted read input afterwards Long h = input h
 fetch_led fails long on exit wanted read input afterwards (Found bytes) h = afterwards bytes h
 
+-- a plan whose fetch fails exits with the status of a failed read
 pub unserved : (n : ℕ) (p : Plan) (shelf : Shelved) → IsUnserved p shelf → leads n p shelf ≡ exits.Read
 unserved n (Fetches kind name next) shelf h =
     fetch_led (Unit {0}) ⊥ (λ bytes. IsUnserved (next bytes) (after_fetch shelf))
@@ -26,6 +27,7 @@ unserved n (Fetches kind name next) shelf h =
     (λ bytes. unserved n (next bytes) (after_fetch shelf)) (fetched shelf name (limit_of kind)) h
 unserved n leaf shelf h = absurd h
 
+-- a plan with a file that is too long exits with the status of a faulty input
 pub too_long : (n : ℕ) (long : Kind) (p : Plan) (shelf : Shelved) → IsTooLong long p shelf → leads n p shelf ≡ exits.Input
 too_long n long (Fetches kind name next) shelf h =
     fetch_led ⊥ (kind ≡ long) (λ bytes. IsTooLong long (next bytes) (after_fetch shelf))
@@ -33,6 +35,7 @@ too_long n long (Fetches kind name next) shelf h =
     (λ bytes. too_long n long (next bytes) (after_fetch shelf)) (fetched shelf name (limit_of kind)) h
 too_long n long leaf shelf h = absurd h
 
+-- a plan with a dump that has a fault exits with the status of a faulty input
 pub dump_faulty : (n : ℕ) (p : Plan) (shelf : Shelved) → HasDumpFault p shelf → leads n p shelf ≡ exits.Input
 dump_faulty n (Fetches kind name next) shelf h =
     fetch_led ⊥ ⊥ (λ bytes. HasDumpFault (next bytes) (after_fetch shelf))

@@ -29,6 +29,7 @@ lack_by on Fails h = absurd h
 lack_by on Long h = absurd h
 lack_by on (Found bytes) h = refl
 
+-- a plan that reads a file may run out of memory
 pub lacks : (plan : Plan) (shelf : Shelved) (kind : Kind) (file : List ℕ) → Reads kind file plan shelf → may_lack plan shelf ≡ true
 lacks (Fetches first name next) shelf kind file h =
     lack_by (λ bytes. ((first ≡ kind) × (bytes ≡ file)) ⊎ Reads kind file (next bytes) (after_fetch shelf))

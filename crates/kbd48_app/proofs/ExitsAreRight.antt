@@ -76,6 +76,7 @@ module _ (n : ℕ) (command : Option Command) (plan : Plan) (shelf : Shelved) wh
       IsReachedBy files (λ kind file. Reads kind file rest after) (λ kind. IsTooLong kind rest after) (IsUnserved rest after)
       (HasDumpFault rest after)
 
+  -- before the first fetch all that is reached is reached by the whole plan
   pub start : IsReached [] plan shelf
   start = ((λ kind file h. inr h), (λ kind file h. elim h [ inl none ↦ absurd none | inr read ↦ read ]), (λ kind h. h), (λ h. h), (λ h. h))
 
@@ -156,6 +157,7 @@ module _ (n : ℕ) (command : Option Command) (plan : Plan) (shelf : Shelved) wh
       at.4,
     )
 
+  -- a plan that fetches a file has the right exit, if the rest of it has, whatever the file's bytes are
   pub fetched_right : (kind : Kind) (name : List ℕ) (next : List ℕ → Plan) (files : Files) (before : Shelved) → IsClean files
       → ((bytes : List ℕ) → IsReached ((kind, bytes) ∷ files) (next bytes) (after_fetch before)
       → IsRight (leads n (next bytes) (after_fetch before)))

@@ -37,18 +37,23 @@ module _ (words : List (List ℕ)) (n : ℕ) (exit : Exit) (shelf : Shelved) (h 
         | inr other ↦ inr (elim other [ inl memory ↦ inl memory.0 | inr write ↦ inr write ])
       ]
 
+  -- if a fetch fails, the exit is that of a failed read, unless memory runs out or a put fails
   pub unserved_caused : IsUnserved (plan words) shelf → MayExit exits.Read exit
   unserved_caused reached = caused exits.Read (unserved n (plan words) shelf reached)
 
+  -- if a file is too long, the exit is that of a faulty input, unless memory runs out or a put fails
   pub too_long_caused : (kind : Kind) → IsTooLong kind (plan words) shelf → MayExit exits.Input exit
   too_long_caused kind reached = caused exits.Input (too_long n kind (plan words) shelf reached)
 
+  -- if the dump has a fault, the exit is that of a faulty input, unless memory runs out or a put fails
   pub dump_caused : HasDumpFault (plan words) shelf → MayExit exits.Input exit
   dump_caused reached = caused exits.Input (dump_faulty n (plan words) shelf reached)
 
+  -- if a file has a fault, the exit is the fault's, unless memory runs out or a put fails
   pub fault_caused : (fault : Fault) → HasFault n fault (plan words) shelf → MayExit (exit_at fault) exit
   fault_caused fault has = caused (exit_at fault) ((right n (command_of words) words shelf).1 fault has)
 
+  -- if a run is stuck, the exit is that of an illegal opcode, unless memory runs out or a put fails
   pub stuck_caused : IsStuck (command_of words) (plan words) shelf → MayExit exits.Stuck exit
   stuck_caused stops = caused exits.Stuck ((right n (command_of words) words shelf).2 stops)
 
@@ -68,6 +73,7 @@ module _ (words : List (List ℕ)) (n : ℕ) (exit : Exit) (shelf : Shelved) (h 
         ]
       ]
 
+  -- a call exits as out of memory only if its plan may run out of it
   pub lacked : exit ≡ exits.Memory → may_lack (plan words) shelf ≡ true
   lacked is =
       elim h [

@@ -80,6 +80,7 @@ by_exit fetches shelf after log answer taken taken' exit says h = (
   ],
 )
 
+-- a call makes the fetches of its plan in their order, or, if it runs out of memory, the first of them
 pub makes : (words : List (List ℕ)) (shelf : Shelved) (after : Option Shelved) (probes left : List Watch) (first last : Shown) (exit : Exit)
     → Ending words (Some shelf) after probes left first last exit → Makes (fetches_of (plan words) shelf) shelf after exit
 makes words shelf after probes left first last exit h =
@@ -87,6 +88,7 @@ makes words shelf after probes left first last exit h =
     by_exit (fetches_of (plan words) shelf) shelf after h.0 h.1 first last exit h.3
     (made (plan words) shelf h.1 after probes kept (as_plan (command_of words) words (Some shelf) h.1 after probes kept h.2))
 
+-- over a shelf that shows its files a call makes the fetches of its plan
 pub made_over : (words : List (List ℕ)) (shelf after : Option Shelved) (probes left : List Watch) (first last : Shown) (exit : Exit)
     → Ending words shelf after probes left first last exit → IfSome shelf (λ known. Makes (fetches_of (plan words) known) known after exit)
 made_over words None after probes left first last exit h = tt

@@ -104,6 +104,7 @@ module _ (next : Afterwards) (first second third : List ℕ) (shelf on mid last 
     (has : layout_of_document document.items ≡ Ok layout)
     (refusal : Refusal) (gives'' : MayGive kinds.Keys third mid (Err refusal)) (fetched'' : last ≡ option_map after_fetch mid)
     (probes : List Watch) (left : Left) (kept : left.probes ≡ probes) (alone : left.log ≡ []) where
+  -- if the key file isn't fetched, a plan over a program, a layout and a key file ends with that refusal
   pub keys_unfound : MayEnd (program_plan next first second third) shelf (Err refusal) last probes left
   keys_unfound =
       let afterwards : Following = λ of. next image in
@@ -113,6 +114,7 @@ module _ (next : Afterwards) (first second third : List ℕ) (shelf on mid last 
       (unfound kinds.Keys third (λ t. with_history (afterwards layout) (history_of layout t)) mid last (Err refusal)
       probes left refusal gives'' fetched'' refl kept alone)))
 
+  -- if the key file isn't fetched, the fetch's result is the answer of a plan over a program, a layout and a key file
   pub keys_unfound_by : (result : Result (Vec ℕ Global) Refusal) → IsErrAnd result (λ (r : Refusal). r ≡ refusal)
       → MayEnd (program_plan next first second third) shelf (answer_of result) last probes left
   keys_unfound_by (Ok text) same = absurd same

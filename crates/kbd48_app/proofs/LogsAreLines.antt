@@ -49,6 +49,7 @@ lines_by (Fetches kind name next) shelf answer after probes left h =
       | inr more ↦ lines_by (next more.0) (option_map after_fetch shelf) answer after probes left more.1
     ]
 
+-- what a call says before its answer is of whole lines
 pub lines_before : (words : List (List ℕ)) (shelf : Option Shelved) (answer : Answer) (after : Option Shelved) (probes : List Watch) (left : Left)
     → MayAnswer words shelf answer after probes left → AreLines left.log
 lines_before words shelf answer after probes left h =

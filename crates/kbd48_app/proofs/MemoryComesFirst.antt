@@ -115,6 +115,7 @@ keeps_as (Some Capture) words first =
     fetch_keeps Vcd (name_in words) (Captures (clock_in words) (data_in words)) (capture_keeps (clock_in words) (data_in words))
 keeps_as command words first = absurd cc
 
+-- a command that takes its memory first, and runs out of it, has looked at nothing and said nothing but that
 pub lacks_first : (words : List (List ℕ)) (shelf after : Option Shelved) (probes left : List Watch) (x z : Shown) (exit : Exit)
     → Ending words shelf after probes left x z exit
     → takes_memory_first (command_of words) ≡ true → exit ≡ exits.Memory → (left ≡ probes) × TakesAll x.taken z.taken (line_of Memory)

@@ -68,6 +68,7 @@ fetch_one kind name next other h shelf a b after later probes left others e k =
 refused_one : (refusal : Refusal) → PrintsOne (Gives (Err refusal)) (Gives (Err refusal))
 refused_one refusal shelf a b after later probes left others e k = no_text a b a refusal e.0
 
+-- two commands that answer one text for each layout and history print one text for the same two files
 pub pairs_one : (c d : RunCommand)
     → ((layout : KeyLayout) (history : KeyHistory) (a b : List ℕ) (probes : List Watch) (left others : Left)
     → MayAnswerRun c layout history (Ok a) probes left → MayAnswerRun d layout history (Ok b) probes others → a ≡ b)

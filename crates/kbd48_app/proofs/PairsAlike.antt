@@ -48,6 +48,7 @@ module _ (R : Answer → List Watch → List Watch → Type 0) (same : (answer :
   fetch_alike kind name next other h shelf answer after probes left e =
       fetch_by kind name next other h shelf answer after probes left e.0 e.1 e.2
 
+  -- two commands that may answer alike for each layout and history end alike over the same two files
   pub pairs_alike : (c d : RunCommand)
       → ((layout : KeyLayout) (history : KeyHistory) (answer : Answer) (probes left : List Watch)
       → MayAnswerRun c layout history answer probes (leaving left)

@@ -86,6 +86,7 @@ ends_by kind answer kept on Fails h = inl (inl h.0, h.1)
 ends_by kind answer kept on Long h = inl (inr (inl h.0), h.1)
 ends_by kind answer kept on (Found bytes) h = elim h [ inl memory ↦ inl (inr (inr memory.0), memory.1) | inr more ↦ inr (bytes, more) ]
 
+-- a fetch ends a plan with one of three refusals, or the plan goes on with the file's bytes
 pub fetch_ends : (kind : Kind) (name : List ℕ) (next : List ℕ → Plan) (shelf : Option Shelved) (answer : Answer) (after : Option Shelved)
     (probes : List Watch) (left : Left) → MayEnd (Fetches kind name next) shelf answer after probes left
     → (IsCut kind answer × IsKept (option_map after_fetch shelf) after probes left)
@@ -165,6 +166,7 @@ leaf_ends (Captures clk dat dump) some shelf answer after probes left leaf h =
       | inr found ↦ inl (capture_led (reads_of clk dat dump).fault (capture_text clk dat dump) answer left.log found)
     ]
 
+-- over a shelf whose files are known a plan's answer has the exit to which the plan leads, or memory ran out
 pub ends_so : (p : Plan) (shelf : Shelved) (answer : Answer) (after : Option Shelved) (probes : List Watch) (left : Left)
     → MayEnd p (Some shelf) answer after probes left → IsLed (leads (length probes) p shelf) (may_lack p shelf) answer
 ends_so (Fetches kind name next) shelf answer after probes left h =
@@ -192,6 +194,7 @@ Ending words shelf after probes left first last exit =
 abbrev pub IsExit : Exit → Bool → Exit → Type 0
 IsExit led lack exit = (exit ≡ led) ⊎ ((exit ≡ exits.Memory) × (lack ≡ true)) ⊎ (exit ≡ exits.Write)
 
+-- over a shelf whose files are known a call has the exit to which its plan leads, or memory ran out, or a put failed
 pub exits_so : (words : List (List ℕ)) (shelf : Shelved) (after : Option Shelved) (probes left : List Watch) (first last : Shown)
     (exit : Exit) → Ending words (Some shelf) after probes left first last exit
     → IsExit (leads (length probes) (plan words) shelf) (may_lack (plan words) shelf) exit

@@ -47,6 +47,7 @@ module _ (P : Plan → Plan → Type 0)
   key_files next other h (Ok history) = h history
   key_files next other h (Err fault) = refused (keys_refusal fault) (keys_refused fault)
 
+  -- what is so of two plans for each layout and history is so of them over a layout and a key file
   pub histories : (next other : KeyLayout → KeyHistory → Plan)
       → ((layout : KeyLayout) (history : KeyHistory) → P (next layout history) (other layout history))
       → (first second : List ℕ) → P (history_plan next first second) (history_plan other first second)
@@ -59,6 +60,7 @@ module _ (P : Plan → Plan → Type 0)
       (λ text. key_files (next layout) (other layout) (h layout) (history_of layout text)))
       (layout_of_document bytes))
 
+  -- what is so of two plans for each image and history is so of them over a program, a layout and a key file
   pub programs : (next other : List ℕ → KeyHistory → Plan)
       → ((image : List ℕ) (history : KeyHistory) → P (next image history) (other image history))
       → (first second third : List ℕ) → P (program_plan next first second third) (program_plan other first second third)

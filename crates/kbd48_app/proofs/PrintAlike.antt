@@ -96,6 +96,7 @@ one_by true layout keys shelf ran expected after later probes left others h k =
     pairs_one (Log false false) Expect one_for layout keys shelf ran expected after later probes left others h k
 one_by false layout keys shelf ran expected after later probes left others h k = absurd (cc h.0)
 
+-- `run` without options and `expect` may answer the same of the same files
 pub answer_alike : (layout keys : List ℕ) → AnswerAlike layout keys
 answer_alike layout keys =
     let b : Bool = is_name layout && is_name keys in

@@ -122,6 +122,7 @@ left_unwritten n words shelf after probes left first last exit many faultless un
       | inr part ↦ absurd (unwritten part.0)
     ]
 
+-- if nothing is in the way and no put failed, a call is done, or its run is stuck, or memory ran out
 pub left_unfailed : (n : ℕ) (words : List (List ℕ)) (shelf after : Option Shelved) (probes left : List Watch) (first last : Shown) (exit : Exit)
     → length probes ≡ n → IsFaultless n words shelf → last.faults ≡ first.faults → first.faults < 2 ^ 64 - 1
     → Ending words shelf after probes left first last exit → IsLeft (command_of words) exit
@@ -161,6 +162,7 @@ stood log answer x y exit says =
       ]
     ] (elim says [ inl whole ↦ inl (whole.0, whole.1.lines) | inr part ↦ inr (part.0, part.1.lines) ])
 
+-- if nothing is in the way and a sink in memory took all, a call is done, or its run is stuck, or memory ran out
 pub left_reported : (n : ℕ) (words : List (List ℕ)) (shelf after : Option Shelved) (probes left : List Watch) (first last : Shown) (exit : Exit)
     → length probes ≡ n → Ending words shelf after probes left first last exit
     → IsLeftUnfailed n words shelf first.in_memory last.in_memory exit

@@ -43,6 +43,7 @@ pub named_1 : (words : List (String Global)) (plan : List ℕ → Plan) (a : Str
     → a ≡ slice_index_or words 1 a → first ≡ string_bytes a → plan first ≡ plan (name_in (map string_bytes words))
 named_1 words plan a first more at_a is_a = ap plan (is_a ∙ name_is words a more at_a)
 
+-- the second and the third word of a call are the names of a plan's two files
 pub named_2 : (words : List (String Global)) (plan : List ℕ → List ℕ → Plan) (a b : String Global) (first second : List ℕ)
     → 2 < length words → a ≡ slice_index_or words 1 a → b ≡ slice_index_or words 2 b → first ≡ string_bytes a → second ≡ string_bytes b
     → plan first second ≡ plan (name_in (map string_bytes words)) (second_in (map string_bytes words))
@@ -50,6 +51,7 @@ named_2 words plan a b first second more at_a at_b is_a is_b =
     named_1 words (λ name. plan name second) a first (omega (arith, more)) at_a is_a
     ∙ ap (plan (name_in (map string_bytes words))) (is_b ∙ second_name words b more at_b)
 
+-- the second to the fourth word of a call are the names of a plan's three files
 pub named_3 : (words : List (String Global)) (plan : List ℕ → List ℕ → List ℕ → Plan) (a b c : String Global)
     (first second third : List ℕ) → 3 < length words
     → a ≡ slice_index_or words 1 a → b ≡ slice_index_or words 2 b → c ≡ slice_index_or words 3 c
@@ -59,6 +61,7 @@ named_3 words plan a b c first second third more at_a at_b at_c is_a is_b is_c =
     named_2 words (λ name other. plan name other third) a b first second (omega (arith, more)) at_a at_b is_a is_b
     ∙ ap (plan (name_in (map string_bytes words)) (second_in (map string_bytes words))) (is_c ∙ third_name words c more at_c)
 
+-- the second to the fifth word of a call are the names of a plan's four files
 pub named_4 : (words : List (String Global)) (plan : List ℕ → List ℕ → List ℕ → List ℕ → Plan) (a b c d : String Global)
     (first second third fourth : List ℕ) → 4 < length words
     → a ≡ slice_index_or words 1 a → b ≡ slice_index_or words 2 b → c ≡ slice_index_or words 3 c → d ≡ slice_index_or words 4 d

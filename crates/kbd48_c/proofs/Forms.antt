@@ -69,7 +69,7 @@ pub null_good : (h : Val) → Good (layout Z) h → Good (layout Ha) (both vnull
 null_good h fits = (and_tt (has_ty (layout Z) h) fits.0, (record { fits = lit< tt }, (fits.1, tt)))
 
 module _ {M : Type 1} {𝓤 : Ura M} {𝓛 : Logic 𝓤} {K : Type 0} {Γ : List (Item 𝓤)} {G : Goal 𝓤 𝓛.H} where
-  -- a box's keyboard, put behind its pointer with its heap, is a handle
+  -- a box's keyboard, with its pointer and its heap, is a handle
   pub handle_in : K → (p : Ptr) (h : Val) (a : Global) (m : Option Keyboard)
       → Step K 𝓛 (‵ (Ha.own_val (record { at = p; alloc = a; keyboard = m }) (both (ptr_val p) h ∷ [])) ∷ Γ)
       G (‵ (held_at a p m) ∷ ‵ (Z.own_val a (h ∷ [])) ∷ Γ) G
@@ -79,7 +79,7 @@ module _ {M : Type 1} {𝓤 : Ura M} {𝓛 : Logic 𝓤} {K : Type 0} {Γ : List
       fpack t (Valss (RawPtr ∷ (heap.the_field).row ∷ [])) (within (shape handle.the_type) (p, ((heap.the_field).into a, tt)) (v ∷ []))
       (ptr_val p ∷ [], (h ∷ [], tt)) $ fjoin t $ s)
 
-  -- a handle is a box's keyboard behind its pointer, with its heap
+  -- a handle is a box's keyboard, with its pointer and its heap
   pub handle_out : K → (d : Ha.Denot) (vs : List Val)
       → ((h : Val) → vs ≡ both (ptr_val d.at) h ∷ []
       → Good (layout Z) h → Seq K 𝓛 (‵ (held_at d.alloc d.at d.keyboard) ∷ ‵ (Z.own_val d.alloc (h ∷ [])) ∷ Γ) G)

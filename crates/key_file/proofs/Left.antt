@@ -80,7 +80,7 @@ module _ (history : KeyHistory) (accepted : IsAccepted history) (before : Before
       let range : e.stamp ≤ 240000000 = omega (arith, host_before_end e edges host left, accepted.end_in_range) in
       taken before (HostOf e) order range left.goes_on (room edges (e ∷ host) left (omega arith)) (λ more. refl)
 
-  -- without its first event of the host it is what is left after that event
+  -- without its first event of the host what is left of an accepted history is what is left after that event
   pub host_left : (e : HostEvent) (edges : List Edge) (host : List HostEvent)
       → IsLeft history before edges (e ∷ host) → IsLeft history (with_event before (HostOf e)) edges host
   host_left e edges host left =

@@ -2,7 +2,7 @@
 use Rattle.std.proofs.Common.{◌≡◌, ◌<◌, ℕ, zero, suc, ◌+◌, List, [], ◌∷◌, ◌++◌, length, take, None, Some, refl, ap, subst, sym, arith}
 use Rattle.std.specs.List.{slice_get}
 
--- one more
+-- the first elements of a list and the next one are one more of the first
 pub take_one_more : {X : Type 0} (xs : List X) (n : ℕ) (x : X) → Some x ≡ slice_get xs n → take n xs ++ x ∷ [] ≡ take (n + 1) xs
 take_one_more [] n x h = absurd cc
 take_one_more (y ∷ ys) zero x h = let same : x ≡ y = cc h in ap (λ v. v ∷ []) same

@@ -136,7 +136,7 @@ module _ (edges : List Edge) (few : (from : ℕ) → length (moving edges from) 
 pub bounces_show_few : BouncesShowFew
 bounces_show_few edges few n = shows_few edges few n
 
--- under such bounces the run goes on as the model does, by what the columns show
+-- if in each window at most four places have edges, the run goes on as the model does, by what the columns show
 pub bounces_go_on : BouncesGoOn
 bounces_go_on layout edges events fine ok few m small =
     as_shown layout edges events fine ok (λ n. shows_few edges few n) m small

@@ -291,7 +291,7 @@ module _ (layout : KeyLayout) (keys contacts : List Edge) (host : List HostEvent
       ∙ ap (λ b. last_change (tick_edges starts contacts n) p b) (read p l)
       ∙ readings starts cadence contacts sw.in_order n p l
 
-  -- so it is of the keyboard under the contacts
+  -- the keyboard under the contacts does what one without a debounce does under clean keys
   pub once : TypesOnce layout keys contacts host starts
   once =
       let t = typed W (tick_edges starts contacts) refl (λ n. refl) reading_of in

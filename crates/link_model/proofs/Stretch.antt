@@ -15,7 +15,7 @@ use Rattle.host_wakes.specs.Wakes.{SleepsTo}
 use Rattle.link_model.proofs.Wakes.{leaps}
 
 module _ (events : List HostEvent) (from : ℕ) (s : Side UnderWay) where
-  -- no cycle
+  -- before the first cycle of a stretch the side is as it was
   pub run_starts : s ≡ quietly events (from - from) from s
   run_starts = let z : from - from ≡ 0 = omega arith in sym (ap (λ k. quietly events k from s) z)
 

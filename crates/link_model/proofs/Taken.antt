@@ -113,7 +113,7 @@ fewer_to a b c d h (suc k) l =
     let one = change_count k (a k) (b k) (c k) (d k) (h k (omega (arith, l))) in
     omega (arith, x, y, less, one)
 
--- if one reading differs only where another one does, it shows no more changes
+-- if the changes of one reading are all changes of another one, it shows no more of them
 pub shown_fewer : (a b c d : ℕ → Bool) → ((p : ℕ) → p < 96 → differ (a p) (b p) ≡ true → differ (c p) (d p) ≡ true)
     → length (shown a b) ≤ length (shown c d)
 shown_fewer a b c d h = fewer_to a b c d h 96 (omega arith)
@@ -154,7 +154,7 @@ module _ (Q : ℕ → Type 0) (a b : ℕ → Bool) (was : (p : ℕ) → p < 96 �
       All-append At (by_place (shown_at a b) k) (change_at k (a k) (b k)) (upto k (omega (arith, l)))
       (changed k (a k) (b k) (was k (omega (arith, l))) (is k (omega (arith, l))))
 
-  -- changes are shown only at places of which it is so for what is down before or after
+  -- what is so of the places of all keys that are down, before or now, is so of those of the changes shown
   pub shown_known : All At (shown a b)
   shown_known = upto 96 (omega arith)
 

@@ -47,6 +47,6 @@ module _ (starts : ℕ → ℕ) (cycle : ℕ) where
         let b : begun starts cycle n ≡ n = all_begun n before in
         a ∙ ap (λ v. v + digit (nat_le (4096 + starts n) cycle)) b
 
-    -- so is the tick of the cycle
+    -- the tick of a cycle is known from the one start that is near it
     pub tick_near : (more : Bool) → nat_le (4096 + starts n) cycle ≡ more → tick_of starts last cycle ≡ n + digit more - 1
     tick_near more e = ap (λ v. v - 1) (begun_near ∙ ap (λ v. n + digit v) e)

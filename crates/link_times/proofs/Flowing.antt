@@ -75,7 +75,8 @@ module _ (layout : KeyLayout) (history : KeyHistory) (starts : ℕ → ℕ) wher
       ∙ ap (λ v. comes_first v k ++ (left v k ++ more)) m
       ∙ ap (λ c. (if c then queued (clear k.queue) else drop 1 (waiting k)) ++ more) r
 
-  -- if each tick sends what is offered, the byte that waits as number i goes i ticks later
+  -- if each tick sends what is offered, and no reset's reply goes first, the byte that waits as number i goes i ticks
+  -- later
   pub one_byte : (i n byte : ℕ) → ((j : ℕ) → n ≤ j → j ≤ i + n → Sends layout history starts j)
       → (i ≡ 0) ⊎ (is_reset_due (keyboard_at layout history starts n).reply ≡ false)
       → slice_get (waiting (keyboard_at layout history starts n)) i ≡ Some byte
@@ -99,7 +100,8 @@ module _ (layout : KeyLayout) (history : KeyHistory) (starts : ℕ → ℕ) wher
       (inr (ap (λ v. is_reset_due v) none))
       (ap (λ v. slice_get v i) w ∙ get_dropped (waiting k) (after_at layout history starts n) i byte e))
 
--- if each tick sends what is offered, the byte that waits as number i goes i ticks later
+-- if each tick sends what is offered, and no reset's reply goes first, the byte that waits as number i goes i ticks
+-- later
 pub one_byte_a_tick : (layout : KeyLayout) (history : KeyHistory) (starts : ℕ → ℕ) (n i byte : ℕ)
     → ((j : ℕ) → n ≤ j → j ≤ i + n → Sends layout history starts j)
     → (i ≡ 0) ⊎ (is_reset_due (keyboard_at layout history starts n).reply ≡ false)

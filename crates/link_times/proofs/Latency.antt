@@ -292,8 +292,8 @@ module _ (layout : KeyLayout) (history : KeyHistory) (starts : ℕ → ℕ) (las
             let k = soon_at n place i 5 struck u (cadence (i + place + suc n) u).most in omega (arith, k);
       }
 
--- with a quiet host a key's code waits in its place, and each of its bytes is read within two ticks and 660 cycles,
--- with a tick more for each byte before it
+-- with a quiet host a key's code is read within two ticks and 660 cycles, and a tick more for a debounce and for each
+-- byte before
 pub keys_come_in_time : (layout : KeyLayout) (history : KeyHistory) (starts : ℕ → ℕ) (last n : ℕ) (edge : Edge)
     (code : List ℕ) → IsHostQuiet history → KeepsCadenceTo starts last → n < last
     → Strikes layout history starts n edge code → ComesInTime layout history starts last n edge code

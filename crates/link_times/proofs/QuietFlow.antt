@@ -50,7 +50,7 @@ module _ (layout : KeyLayout) (history : KeyHistory) (starts : ℕ → ℕ) (las
       meets_at layout history d on starts last first cadence
       (rests_there (at_tick layout history starts first).side quiet.rests)
 
-  -- with a quiet host each tick sends what is offered
+  -- with a quiet host each tick after the self-test sends what is offered
   pub sends_in : (n byte : ℕ) → first ≤ n → n ≤ last
       → (keyboard_at layout history starts n).test ≡ 0 → offer (keyboard_at layout history starts n) ≡ Some byte
       → meeting_at layout history starts n ≡ Sent byte
@@ -98,7 +98,7 @@ module _ (layout : KeyLayout) (history : KeyHistory) (starts : ℕ → ℕ) (las
       ((comes_exactly layout history starts (count + n)).test
       ∙ stays_over (meeting_at layout history starts (count + n)) (keyboard_at layout history starts (count + n)) h r)
 
-  -- with a quiet host the byte that waits as number i is sent i ticks later
+  -- with a quiet host the byte that waits as number i after the self-test is sent i ticks later
   pub byte_a_tick : (n i byte : ℕ) → first ≤ n → i + n ≤ last → (keyboard_at layout history starts n).test ≡ 0
       → slice_get (waiting (keyboard_at layout history starts n)) i ≡ Some byte
       → meeting_at layout history starts (i + n) ≡ Sent byte
@@ -122,7 +122,7 @@ quiet_sends layout history starts last n quiet cadence l t byte o =
     sends_in layout history starts last 0 (quiet_from_start layout history starts quiet) cadence n byte (omega arith)
     (omega (arith, l)) t o
 
--- so it is from the tick on from which the host is quiet
+-- from the tick on from which the host is quiet each byte that is offered after the self-test is sent in its tick
 pub quiet_sends_from : (layout : KeyLayout) (history : KeyHistory) (starts : ℕ → ℕ) (first last n : ℕ)
     → IsQuietFrom layout history starts first → KeepsCadenceTo starts last → first ≤ n → n < last
     → (keyboard_at layout history starts n).test ≡ 0
@@ -131,7 +131,7 @@ pub quiet_sends_from : (layout : KeyLayout) (history : KeyHistory) (starts : ℕ
 quiet_sends_from layout history starts first last n quiet cadence f l t byte o =
     sends_in layout history starts last first quiet cadence n byte f (omega (arith, l)) t o
 
--- with a quiet host the byte that waits as number i is sent i ticks later
+-- with a quiet host the byte that waits as number i after the self-test is sent i ticks later
 pub quiet_byte_a_tick : (layout : KeyLayout) (history : KeyHistory) (starts : ℕ → ℕ) (last n i byte : ℕ)
     → IsHostQuiet history → KeepsCadenceTo starts last → i + n < last
     → (keyboard_at layout history starts n).test ≡ 0

@@ -212,7 +212,7 @@ module _ (layout : KeyLayout) (history : KeyHistory) (d : ℕ) (quiet : AreQuiet
         ≡ calm_meeting ((keyboard_at layout history starts n).test == 0) (offer (keyboard_at layout history starts n))
     meets_at n f l = meets (at_tick layout history starts n) (4096 + starts n) (rests_at n f l)
 
-    -- with a quiet host each tick from there on sends what is offered
+    -- with a quiet host each tick after the self-test from there on sends what is offered
     pub sends_at : (n byte : ℕ) → first ≤ n → n ≤ last
         → (keyboard_at layout history starts n).test ≡ 0 → offer (keyboard_at layout history starts n) ≡ Some byte
         → meeting_at layout history starts n ≡ Sent byte

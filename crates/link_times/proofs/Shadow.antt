@@ -147,7 +147,7 @@ module _ (events : List HostEvent) (d : ℕ) (quiet : AreQuietFrom d events) whe
   same_span (suc n) now a b s =
       same_span n (suc now) (byte_cycle events now Quiet a) (byte_cycle [] now Quiet b) (same_cycle now Quiet a b s)
 
-  -- so does the begin of a byte
+  -- with a quiet host a byte begins as without a host
   pub same_sends : (now : ℕ) (a b : Side UnderWay) → Same d a b → Same d (sends events now a) (sends [] now b)
   same_sends now a b s =
       let a1 : Side UnderWay = byte_cycle events now (Begins true) a in
@@ -158,7 +158,7 @@ module _ (events : List HostEvent) (d : ℕ) (quiet : AreQuietFrom d events) whe
       (same_cycle (288 + now) Closes a2 b2
       (same_span 287 (suc now) a1 b1 (same_cycle now (Begins true) a b s)))
 
-  -- so does a byte as a whole
+  -- with a quiet host a byte passes as without a host
   pub same_carried : (meeting : Meeting) (now : ℕ) (a b : Side UnderWay) → Same d a b
       → Same d (carried events meeting now a) (carried [] meeting now b)
   same_carried (Got byte) now a b s =

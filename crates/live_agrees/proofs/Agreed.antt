@@ -36,7 +36,7 @@ use Rattle.live_board.specs.Pasts.{Past}
 pub states_alike : StatesAreAlike
 states_alike p a b s t = same_state (sym (here p a s) ∙ here p b t)
 
--- a log that goes on from the same beginning has one rest
+-- a log has one rest after the same beginning
 pub same_rest : (log a b after : List Stamped) → after ≡ log ++ a → after ≡ log ++ b → a ≡ b
 same_rest log a b after h k =
     sym (drop-append_seam log a) ∙ ap (drop (length log)) (sym h ∙ k) ∙ drop-append_seam log b
@@ -151,7 +151,7 @@ numbered starts apart (suc n) =
     let next : starts n + 2016 ≤ starts (suc n) = apart n in
     omega (arith, before, next)
 
--- so it is if keys bounced or many changed at once, by what the columns showed
+-- what was said so far is the beginning of what the model says of what the columns showed, however keys bounced
 pub logs_are_shown : AnyCountLaw → LogsAreShown
 logs_are_shown law layout p k s is bytes fine ok =
     let goes = law layout p.edges p.events is ok p.held fine in

@@ -35,18 +35,18 @@ module _ (p : Past) (a b : Keyboard) (s : HasPast p a) (t : HasPast p b) where
   pub same_world : s.world ≡ t.world
   same_world = states_alike p a b s t
 
-  -- they are at one cycle
+  -- two keyboards in one past are at one cycle
   pub same_cycle : a.joint.cycle ≡ b.joint.cycle
   same_cycle = s.in_run.cycle ∙ ap (λ (w : World Beside). w.cycle) same_world ∙ sym t.in_run.cycle
 
-  -- they are at one place of the program
+  -- two keyboards in one past are at one place of the program
   pub same_place : place_of a.joint ≡ place_of b.joint
   same_place =
       let cpu = s.in_run.mcu ∙ ap (λ (w : World Beside). w.cpu) same_world ∙ sym t.in_run.mcu in
       let bytes = s.image ∙ sym t.image in
       ap (λ m. place_by a.joint.image.bytes m) cpu ∙ ap (λ v. place_by v b.joint.mcu) bytes
 
-  -- the same calls of the host must wait at both
+  -- at two keyboards in one past the same calls of the host must wait
   pub same_waits : (act : HostAct)
       → waits act a.joint.outside.desk.port.core ≡ waits act b.joint.outside.desk.port.core
   same_waits act =

@@ -51,7 +51,7 @@ module _ (p : Past) (a b : Keyboard) (s : HasPast p a) (t : HasPast p b) where
           (subst (λ c. AreParted c s.made p.edges) same_now s.parted) s.made_within (grind (arith, nat_tests, g)))
       by false false h g = grind (arith, nat_tests, h, g)
 
-  -- the same edges wait in both
+  -- in two keyboards in one past the same edges wait
   pub same_wait : a.due.edges.items ≡ b.due.edges.items
   same_wait = s.edges_wait ∙ ap (λ n. drop n p.edges) same_made ∙ sym t.edges_wait
 

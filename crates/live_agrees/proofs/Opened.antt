@@ -166,12 +166,12 @@ module _ (law : AnyKeysLaw) (memory : AnyMemoryLaw) (layout : KeyLayout) (fill :
   ran_on old new cycles watched end runs m =
       is_masked m.stamp new.joint.steps new m.soon (runs (masked_at fill bytes m.stamp m.steps) m.has_past).has_past
 
--- a keyboard that was opened, or switched off and on, with a layout's image was masked at stamp 0 or 1, and has said
--- what the model says
+-- a keyboard opened with a layout's image, or switched off and on, was masked at stamp 0 or 1, and agrees with the
+-- model
 pub opened_is_masked : AnyKeysLaw → AnyMemoryLaw → OpenedIsMasked
 opened_is_masked law memory layout fill k fine small o = opened_by law memory layout fill fine small k o
 
--- so is one that was opened and run on until its interrupt line rose, or for a second
+-- a keyboard that was run until its line rose, or for a second, was masked at stamp 0 or 1, and agrees with the model
 pub ready_is_masked : AnyKeysLaw → AnyMemoryLaw → ReadyIsMasked
 ready_is_masked law memory layout k fine r =
     let m = opened_by law memory layout 0 fine (omega arith) r.opened r.is_opened in

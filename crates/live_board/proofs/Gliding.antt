@@ -91,7 +91,7 @@ module _ (k : Keyboard) (count : ℕ) (last : Machine) (quiet : AreUneventful k.
 
 -- and the step behind them
 module _ (k new : Keyboard) (most : ℕ) (g : HasGone k.due 2048 most k.joint (Ok new.seen) new.joint) where
-  -- with the step after them the keyboard is at a later cycle
+  -- with the step after quiet ones the keyboard is at a later cycle
   pub cycles_on : 0 < new.seen.cycles → k.joint.cycle < new.joint.cycle
   cycles_on some =
       let later = only_later k g.count g.last g.quiet in
@@ -104,18 +104,18 @@ module _ (k new : Keyboard) (most : ℕ) (g : HasGone k.due 2048 most k.joint (O
     abbrev before : Keyboard
     before = record k { joint = g.last }
 
-    -- before that step the run has gone on so far
+    -- before the step after quiet ones the run has gone on so far
     pub so_last : GoesOnSo p old cycles watched before
     so_last = let within = g.within in goes_quietly p old cycles watched k 2048 g.count g.last so g.quiet (omega (arith, within, room))
 
     last_room : g.last.cycle < old.joint.cycle + cycles
     last_room = let within = g.within in omega (arith, within, room)
 
-    -- that step is one step more
+    -- the step after quiet ones is one step more
     pub one_step : new.joint.steps ≡ suc g.last.steps
     one_step = (counted k.due g.last new.joint new.seen g.step).1
 
-    -- after it the keyboard has the past, gone on
+    -- after the step that follows quiet ones the keyboard has the past, gone on
     pub holds_on : HasPast (gone_on p new.joint.steps) new
     holds_on = one_on (gone_on p g.last.steps) before so_last.has_past new g.step g.run left same
 

@@ -189,7 +189,7 @@ module _ (stops : Stops) (k new : Keyboard) (most : ℕ) (g : HasGone k.due 2048
     (p : Past) (old : Keyboard) (cycles : ℕ) (so : GoesOnSo p old cycles false k)
     (room : k.joint.cycle + most < old.joint.cycle + cycles)
     (left : new.due.edges.items ≡ drop new.seen.edges k.due.edges.items) (same : new.due.host ≡ k.due.host) where
-  -- so it is of the step after quiet ones
+  -- whether the step after quiet ones meets a stop is seen from the machines before them and after it
   pub met_last : met_at stops p g.last.steps ≡ met_by stops (irq_of k.joint.outside.desk.port) (lines_of k.joint) new
   met_last =
       let last : Keyboard = record k { joint = g.last } in
@@ -215,7 +215,7 @@ module _ (k new : Keyboard) (most : ℕ) (stuck : Stuck) (g : HasGone k.due 2048
       subst (λ (m : Machine). AreUnmet stops p old.joint.steps m.steps) (sym stuck_there)
       (last_unmet stops p old cycles k most g.count g.last so unmet alone g.quiet g.within room)
 
-  -- a run that is stuck has made no more steps than it has cycles
+  -- a run that is stuck has made no more steps than its limit of cycles
   pub stuck_few : new.joint.steps ≤ k.joint.steps + most
   stuck_few =
       let c = counted_quietly k.due 2048 g.count k.joint g.last g.quiet in

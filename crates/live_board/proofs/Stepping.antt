@@ -29,7 +29,7 @@ use Rattle.live_board.specs.Pasts.{Past, gone_on, state_of, story_of, untouched}
 use Rattle.live_board.specs.States.{AreParted, HasPast}
 use Rattle.live_board.specs.declared.parts.Parts.{Parts as Keyboard}
 
--- at power-on
+-- a keyboard at power-on has a past in which nothing has happened
 pub at_first : (fill : ℕ) (bytes : List ℕ) (k : Keyboard)
     → k.joint ≡ powered_on_from (filled fill) bytes → IsFirstOfRunFrom (filled fill) k.joint
     → k.due.edges.items ≡ [] → k.due.host.items ≡ [] → HasPast (untouched fill bytes 0) k

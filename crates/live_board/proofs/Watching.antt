@@ -29,7 +29,7 @@ pub record GoesOnSo (p : Past) (old : Keyboard) (cycles : ℕ) (watched : Bool) 
   pub before : AreBefore p old.joint.steps k.joint.steps (old.joint.cycle + cycles)
   pub calm : watched ≡ true → IsCalm p old.joint.steps k.joint.steps
 
--- before its first step a run has gone on by none
+-- before its first step a run has gone on by zero steps
 pub goes_first : (p : Past) (old : Keyboard) (cycles : ℕ) (watched : Bool) → HasPast p old → GoesOnSo p old cycles watched old
 goes_first p old cycles watched s = record {
   has_past = subst (λ n. HasPast (gone_on p n) old) (sym s.steps) s;

@@ -88,7 +88,7 @@ all_alike s from (suc n) each =
     let last = sym (each (from + n)) in
     λ i. before i ++ last i
 
--- in a lawful past they are those that are heard on the wires, in order
+-- in a lawful past the bytes that a keyboard reports of the wires are those that are heard on them, in order
 pub bytes_heard : AnyMemoryHeard → BytesAreHeard
 bytes_heard law layout p stop from n all is bytes fine lawful h =
     let image = image_of layout in

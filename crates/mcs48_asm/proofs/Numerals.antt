@@ -57,7 +57,7 @@ address-number a h =
     ∙ ap (three_digits (a / 256 % 16) (a % 256 / 16)) (digit-back (a % 256 % 16) (omega arith))
     ∙ three-are (a / 256 % 16) (a % 256 / 16) (a % 256 % 16) a (omega arith) (omega arith) (omega arith) (omega arith)
 
--- a byte
+-- a byte as a listing writes it is one word, which is its number
 pub value-numeral : (n : ℕ) → n < 256 → IsNumeral (value n) n
 value-numeral n h =
     record {
@@ -65,7 +65,7 @@ value-numeral n h =
       number = value-number n h;
     }
 
--- an address
+-- an address as a listing writes it is one word, which is its number
 pub address-numeral : (a : ℕ) → a < 2048 → IsNumeral (address a) a
 address-numeral a h =
     record {

@@ -46,7 +46,7 @@ none_by Timer m below =
 none_by Counter m below =
     same_timed m Counter _ m.t _ m.pre m.tf m.tf m.rq m.rq m.last_t1 m.last_t1 (whole m.t m.pre below) (rest m.t m.pre below) refl refl refl
 
--- a jump to itself that is made no time changes nothing
+-- zero turns of a jump to itself change nothing
 pub none_spun : (m : Cpu) → m.pre < 32 → spun 0 m ≡ m
 none_spun m below = none_by m.run m below
 

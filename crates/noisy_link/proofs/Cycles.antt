@@ -22,12 +22,12 @@ unfolding byte_cycle goes_on
 cycle_gives P Q events now event m gives h =
     gives (slice_get events m.done) (desk_of (record m { port = happened_at now event m.port })) h
 
--- what each cycle of the PC's side keeps of the controller, and what comes over the link too, a cycle keeps
+-- a cycle keeps of the controller what both the PC's side and what comes over the link keep
 pub cycle_keeps : (P : LinkEnd UnderWay → Type 0) → Stays P → (events : List HostEvent) (now : ℕ) (event : Event) (m : Side UnderWay)
     → P (happened_at now event m.port) → P (byte_cycle events now event m).port
 cycle_keeps P stays events now event m h = cycle_gives P P events now event m (stays now) h
 
--- what each cycle of the PC's side keeps of the controller cycles keep in which nothing comes over the link
+-- cycles in which nothing comes over the link keep of the controller what the PC's side keeps
 pub span_keeps : (P : LinkEnd UnderWay → Type 0)
     → Stays P → (events : List HostEvent) (n now : ℕ) (m : Side UnderWay) → P m.port → P (quietly events n now m).port
 span_keeps P stays events zero now m h = h

@@ -72,7 +72,7 @@ module _ (layout : KeyLayout) (history : KeyHistory) (starts : ℕ → ℕ) (las
         )
       ]
 
-  -- each byte that is sent comes right or is given up, in at most three resends
+  -- each byte that is sent comes right or is given up, in at most three resends, unless the run ends before
   pub ends : (n byte : ℕ)
       → meeting_at layout history starts n ≡ Sent byte → Ends layout history starts last (3 - wrong_before layout history starts n) n byte
   ends n byte m =

@@ -59,7 +59,7 @@ module _ {F : Type 0} where
       → settled now (broken_off breaks now p) ≡ record { port = moves_link now p; did = Nothing }
   settles breaks now p e = ap (settled now) (unbroken_off breaks now p e) ∙ alone now p e
 
-  -- after it the output buffer still fits the link
+  -- after the link has moved by itself the output buffer still fits it
   pub moved_fits : (now : ℕ) (p : LinkEnd F) → p.core.input ≡ None → Fits p → Fits (moves_link now p)
   moved_fits now p e h = subst (λ (t : Settled F). Fits t.port) (alone now p e) (keeps_empty now p h)
 

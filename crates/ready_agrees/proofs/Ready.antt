@@ -369,7 +369,7 @@ module _ (stuck : NeverStuck) (logs : LogsAgree) (use_any : AnyUseIsLawful) (fil
         },
       )
 
-  -- so it is of each keyboard that is ready
+  -- the run of each keyboard that is ready ended at the rise of the line, with AA put out
   pub ready_by : (k : Keyboard) (r : IsReady bytes k) → (r.end ≡ Rose) × HasPutOut layout k
   ready_by k r =
       let o = r.is_opened in

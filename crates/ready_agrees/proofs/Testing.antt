@@ -211,7 +211,7 @@ module _ (stamp : ℕ) where
     begins_idle : (m : ℕ) → (m == 0) ≡ false → meeting_by (m == 0) None look.port.link meet.port.link ≡ Idle
     begins_idle m some = ap (λ b. meeting_by b None look.port.link meet.port.link) some
 
-    -- so does a tick of the self-test
+    -- a tick of the self-test leaves the PC's side as at power-on, but for the mask
     pub idle_side : (m : ℕ) → (m == 0) ≡ false
         → IsStill None (whole_tick (keyboard layout) events [] start rest (at false m)).side
     idle_side m some =

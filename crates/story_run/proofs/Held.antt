@@ -66,7 +66,7 @@ module _ (u : Halt) (s : Story) (first : List Watch) (old new : Course) (after :
   pub still_quiet : IsSilent u.ending u.wires s old.joint.steps new.joint.steps
   still_quiet = subst (λ (k : ℕ). IsSilent u.ending u.wires s old.joint.steps k) (sym steps_same) h.onward.quiet
 
-  -- a run whose processor is stuck has come to its end
+  -- a run whose processor is stuck has ended there
   pub stuck_end : IsEnding u.ending s new (ends.Stuck stuck)
   stuck_end = record {
     run_so_far = record { on = on_now; goes_on = subst (GoesOnTo u.ending s) (sym steps_same) going.run_so_far.goes_on };

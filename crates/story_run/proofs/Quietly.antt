@@ -35,7 +35,7 @@ then_starts : (e : Ending) (s : Story) (k n m : ℕ) → AreSameStarts e s k n �
 then_starts TickStart s k n m a b = b ∙ a
 then_starts Stamp s k n m a b = tt
 
--- of no steps nothing is to be reported
+-- of zero steps nothing is to be reported
 pub none_quiet : (e : Ending) (wires : Bool) (s : Story) (k : ℕ) → IsSilent e wires s k k
 none_quiet e wires s k = record {
   later = omega arith;

@@ -139,7 +139,7 @@ module _ (u : Halt) (s : Story) (first : List Watch) (old : Course) (latest : �
         no_further s (last new (Err stuck) made) new.joint stuck g.run_so_far.on g.accepted.lawful.thin g.accepted.lawful.edges_in_order
         made.gone.run
 
-    -- the run is stuck there, if the probes have looked at all states
+    -- a run whose processor is stuck after quiet steps is stuck there, if the probes have looked at all states
     pub held : (after : List Watch) → after ≡ looks s new.joint.steps first → IsHeldUp u s first old new after stuck
     held after looked = record {
       last = last new (Err stuck) made;
@@ -151,13 +151,13 @@ module _ (u : Halt) (s : Story) (first : List Watch) (old : Course) (latest : �
       looked = looked;
     }
 
-    -- so it is if no state has come since the last look
+    -- a run whose processor is stuck is stuck there, if no state has come since the probes' last look
     pub held_unseen : new.joint.steps ≡ latest → IsHeldUp u s first old new probes stuck
     held_unseen same =
         held probes (subst (λ (m : Machine). m.steps ≡ latest → probes ≡ looks s m.steps first) (sym still)
         (slept_on new (Err stuck) made).dozed.none same)
 
-    -- so it is after a look at the last state
+    -- a run whose processor is stuck is stuck there, after the probes' look at the last state
     pub held_seen : (new.joint.steps ≡ latest → ⊥) → IsHeldUp u s first old new (looked_now new probes) stuck
     held_seen other =
         held (looked_now new probes)
@@ -182,7 +182,7 @@ module _ (u : Halt) (s : Story) (first : List Watch) (old : Course) (latest : �
         let more = (next_cycle u s it new (going new (Ok new.seen) made) stepped).0 in
         omega (arith, so_far, more)
 
-    -- a look at the state after it makes the probes as if they had looked at each state
+    -- a look at the state after one more step leaves the probes as if they had looked at each state
     pub seen : looked_now new probes ≡ looks s new.joint.steps first
     seen = looked_on u s first old latest it probes before.dozed new stepped
 
@@ -195,11 +195,11 @@ module _ (u : Halt) (s : Story) (first : List Watch) (old : Course) (latest : �
       onward : IsOnward u s it new
       onward = one_onward u s it new (going new (Ok new.seen) made) stepped lines (λ on. before.wires ∙ kept on) can
 
-      -- if the probes rest and the clock is as it was, they needn't look at it
+      -- if the probes rest and the clock is as it was, they needn't look at the state after one more step
       pub dozed : all_rest clk probes ≡ true → (sight_of new.joint).lines.clk ≡ clk → HasDozed u s first old latest new probes
       dozed resting now = dozes_on u s first old latest it probes before.dozed new stepped clk resting now onward
 
-      -- after a look at it the probes are up to date
+      -- after a look at the state that one more step led to the probes are up to date
       pub woken : (number : ℕ) → number ≡ new.joint.steps → (after : List Watch) → after ≡ looked_now new probes
           → HasDozed u s first old number new after
       woken number same after is =

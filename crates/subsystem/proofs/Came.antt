@@ -52,7 +52,7 @@ module _ (s : Story) (t : KeepsTimeFrom (joint_start_of s.held) s.bytes s.edges 
         ∙ reported_whole s t c.joint.steps (over_after s t c end h) ended.starts.items stamps
         ∙ ap (λ (k : ℕ). lines_of ended.starts.items (log_at s k)) (sym steps)
 
-    -- a run that came to its end and put its lines as they came has come to its outcome
+    -- a run that ended, and put its lines as they arose, is the outcome of its story
     pub came : HasCome s ended x y
     came = record {
       run = ends s t c.joint.steps (over_after s t c end h) (ending s ended)
@@ -71,7 +71,7 @@ module _ (s : Story) (t : KeepsTimeFrom (joint_start_of s.held) s.bytes s.edges 
     noted : run.starts ≡ starts_among s (suc c.joint.steps)
     noted = starts ∙ reported.reported_so.0.starts ∙ sym reported.quiet.starts
 
-    -- a run that came to its end and kept its lines has come to its outcome
+    -- a run that ended, and kept its lines, is the outcome of its story
     pub came_kept : IsOutcome s run
     came_kept =
         let over = over_after s t c end h in

@@ -54,7 +54,7 @@ module _ (e : Ending) (s : Story) (k : ℕ) (c : Course) (last : ℕ) (world : W
       ∙ append_assoc first (lines_so_far s k) (lines_of_step c it.stamps.items)
       ∙ ap (λ v. first ++ v) (sym (lines_more s k c last world it.stamps.items m))
 
-  -- or put
+  -- the text of the log goes on by the lines of what a step says
   pub text_further : (tick : ℕ) (items : List Stamped) → tick ≡ length it.stamps.items - 1 → items ≡ c.seen.items.items
       → IsOneFurther (λ n. log_text (lines_so_far s n)) (λ n. log_text (step_lines s n)) k last c.joint.steps
       (flat_map (λ i. line_text (in_tick tick i)) items)

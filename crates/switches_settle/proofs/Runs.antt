@@ -71,7 +71,8 @@ pub run_clean : AsShown → SwitchesRunClean
 run_clean law layout keys contacts host fine on ok sw few m small =
     clean layout keys contacts host on sw (switched_on contacts host m) (law layout contacts host fine ok few m small)
 
--- so it is if in each window of 2,225 cycles at most four places have edges
+-- with a debounce the run is the model's under clean keys, if in each window of 2,225 cycles at most four places have
+-- edges
 pub bounces_run_clean : AsShown → BouncesShowFew → BouncesRunClean
 bounces_run_clean law shows layout keys contacts host fine on ok sw few m small =
     run_clean law layout keys contacts host fine on ok sw (λ n. shows contacts few n) m small

@@ -58,7 +58,7 @@ module _ (events : List HostEvent) where
       (waits_now now (slice_get events q.done) q (λ e g. omega (arith, z, u e g)))
       ∙ undue n (suc now) stop q (omega (arith, z)) u
 
-  -- and nothing is said in them
+  -- in cycles in which no event is due nothing is said
   pub undue_silent : (n now stop : ℕ) (q : Pc) → n + now ≡ stop → IsUndueTo q.done stop → items_in events n now q ≡ []
   undue_silent zero now stop q z u = refl
   undue_silent (suc n) now stop q z u =
@@ -95,7 +95,7 @@ module _ (events : List HostEvent) where
       ap (λ v. pc_after events n (suc now) v) (takes_now now t (slice_get events q.done) q is at)
       ∙ undue n (suc now) stop (took q) (omega (arith, z)) u
 
-  -- and it is said which word
+  -- in the cycle in which a take is due the word that is taken is said
   pub taken_says : (n now stop t : ℕ) (q : Pc) → suc n + now ≡ stop → slice_get events q.done ≡ Some (take_of t)
       → t + 18432 ≡ now → IsUndueTo (q.done + 1) stop → items_in events (suc n) now q ≡ Taken (first_word q.bios) ∷ []
   taken_says n now stop t q z is at u =

@@ -55,7 +55,7 @@ pub record Passes (keys : Keys) (rate : ℕ) (before after : Line) (items : List
   pub said : items_of_meeting (passing before.bytes) before.pc ≡ items
 
 module _ (keys : Keys) (rate last : ℕ) where
-  -- nothing waits
+  -- if nothing waits, nothing passes in the tick, and the line stays
   pub nothing : (started : Bool) (q : Pc)
       → Passes keys rate (record { last = last; bytes = []; started = started; pc = q })
       (record { last = last; bytes = []; started = started; pc = q }) []
@@ -288,7 +288,7 @@ module _ (layout : KeyLayout) (h : KeyHistory) (ss : List Stroke) (host : h.host
       (ap (λ v. v ++ []) said_is ∙ append-nil items)
       kept)
 
-  -- so does the tick in which a word is taken
+  -- a tick of a stroke in which a word is taken leads to the next one, by the edges that it takes
   pub taking_by : n ≡ 86 + 10 * before.pc.done → before.pc.done < length ss
       → AreKept (items ++ Taken (first_word after.pc.bios) ∷ []) → (words' : List (Option ℕ))
       → words ++ taken_of (items ++ Taken (first_word after.pc.bios) ∷ []) ≡ words'
@@ -329,7 +329,7 @@ module _ (layout : KeyLayout) (h : KeyHistory) (ss : List Stroke) (host : h.host
       → Reached (keyboard layout) h ss host (suc n) (at_work [] layout.rate (with_bytes after bytes') rep' held') words'
   turn = turn_by layout h ss host n before after words items [] edges edges [] rep rep' held held' bytes' r sees takes long p m
 
-  -- so does the tick in which a word is taken
+  -- without a debounce a tick in which a word is taken takes the edges that it sees
   pub taking_turn : n ≡ 86 + 10 * before.pc.done → before.pc.done < length ss
       → AreKept (items ++ Taken (first_word after.pc.bios) ∷ []) → (words' : List (Option ℕ))
       → words ++ taken_of (items ++ Taken (first_word after.pc.bios) ∷ []) ≡ words'

@@ -84,7 +84,7 @@ looks_still now latch b up h =
     ap (λ c. record b.side { port = if b.clock && not (c && (drive p.link).clk) then edge_at now dat p.link p else p }) up
     ∙ ap (λ q. record b.side { port = q }) (look_still now dat b.clock p p.link h)
 
--- one cycle
+-- between frames, while the keyboard lets the clock go, a cycle is in byte time a quiet one
 pub one_cycle : (events : List HostEvent) (now : ℕ) (latch : Lines) (b : Pc) → latch.clk ≡ true → is_busy b.side.port.link ≡ false
     → seen_in_bytes (board_cycle events now latch b).side ≡ byte_cycle events now Quiet (seen_in_bytes b.side)
 unfolding board_cycle byte_cycle

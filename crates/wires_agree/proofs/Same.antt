@@ -86,7 +86,7 @@ module _ {F G : Type 0} (f : F → G) where
       by_count true = refl
       by_count false = refl
 
-  -- what the controller does with a byte that came doesn't depend on it either
+  -- what the controller does with a byte that came doesn't depend on what is known of a byte under way
   pub received_same : (now : ℕ) (came : Option ℕ) (p : LinkEnd F) → port_by f (received now came p) ≡ received now came (port_by f p)
   received_same now came p =
       ap (λ l. record {

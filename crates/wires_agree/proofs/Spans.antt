@@ -27,7 +27,7 @@ pub board_by : (events : List HostEvent) (now : ℕ) (latch : Lines) (b : Pc) (s
 unfolding board_cycle
 board_by events now latch b s e = ap (λ t. goes_on is_breakable events now t) e
 
--- the clock at the controller's look is high if both the keyboard and the controller let it go
+-- the clock at the controller's look is high exactly if both the keyboard and the controller let it go
 pub clock_by : (events : List HostEvent) (now : ℕ) (latch : Lines) (b : Pc)
     → (board_cycle events now latch b).clock ≡ (latch.clk && (drive b.side.port.link).clk)
 unfolding board_cycle

@@ -84,7 +84,7 @@ pub record IsEdge (n o : ℕ) : Type 0 where
   pub few : cell < n
   pub at : o ≡ 288 + 32 * cell
 
--- the clock falls just where a cell of the frame begins
+-- the clock falls only at the begin of a cell of the frame
 pub falls_at : (n o : ℕ) → clock_in n o ≡ true → clock_in n (suc o) ≡ false → IsEdge n (suc o)
 falls_at n o high low =
     let i = low_is n (suc o) low in

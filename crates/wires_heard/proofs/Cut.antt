@@ -20,7 +20,7 @@ is_last look (inr (inr (k, few, inl e))) ten = omega (arith, e, ten)
 is_last look (inr (inr (k, few, inr (e, more)))) ten = absurd (omega (arith, e, more, ten))
 
 module _ (events : List HostEvent) (x : ℕ) (start : Beside) (old v : ℕ) (was : IsReleased old) (is : IsReleased v) where
-  -- in a frame that is cut before its eleventh fall the controller pulls the clock where that fall would be
+  -- in a frame that is cut after ten falls the controller pulls the clock in the cycles of the eleventh
   pub is_broken : (frame : Frame) (fits : Fits old v was is frame) (idle : is_busy (link_of start) ≡ false)
       → IsCutBy (λ o. link_of (beside events x start old v was is frame fits idle o)) x frame → cells frame ≡ 10
       → (o : ℕ) → 594 ≤ o → o ≤ 620 → lets (beside events x start old v was is frame fits idle o) ≡ false

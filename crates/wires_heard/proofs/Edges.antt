@@ -124,7 +124,7 @@ board_waits events now latch b w still =
       awaits = ap (λ s. (goes_on is_breakable events now s).port.awaits) same ∙ next.awaits;
     }
 
--- and in a cycle of the joint run in which the clock doesn't fall
+-- a link that is free while a reply is awaited stays so in a cycle of the joint run in which the clock doesn't fall
 pub cycle_waits : (events : List HostEvent) (p2 now : ℕ) (s : Beside) → Waits s.pc.side.port → (s.pc.clock && not (latch_of p2).clk) ≡ false
     → Waits (joint_cycle events p2 now s).pc.side.port
 unfolding joint_cycle

@@ -93,7 +93,7 @@ module _ (s : Story) (k0 k1 x : ℕ) (start : Beside) (old v : ℕ) (was : IsRel
           let to : o < 304 + 32 * d.cell = d.to in
           absurd (omega (arith, few, most, to, l))
 
-  -- long before the end of a tick the latch of port 2 lets the clock go
+  -- from 330 cycles before the next tick start on, the latch of port 2 lets the clock go
   pub high_next : (y : ℕ) → x + 2000 ≤ y → k0 ≤ k1 → (j : ℕ) (u : World Beside) → j ≤ k1 → state_at s j ≡ Some u → y < u.cycle + 330
       → bit 0 u.cpu.p2 ≡ true
   high_next y far some j u l at near = by (Rattle.std.specs.Prelude.nat_lt j k0) refl

@@ -180,7 +180,7 @@ module _ (events : List HostEvent) (x : ℕ) (start : Beside) (old v : ℕ) (was
         subst (λ (s : Beside). Waits s.pc.side.port) (sym next)
         (cycle_waits events (L (m + 609)) (x + (m + 609)) (B (m + 609)) (waits_on m) (still (m + 609) (omega arith)))
 
-    -- and for a while after it
+    -- for a while after the last fall of a byte that it sends the controller leaves the clock alone
     pub steady : (o : ℕ) → 609 ≤ o → o ≤ 650 → lets (B o) ≡ true
     steady o l u =
         let z : (o - 609) + 609 ≡ o = omega (arith, l) in

@@ -187,7 +187,7 @@ module _ (events : List HostEvent) (x : ℕ) (start : Beside) (old v : ℕ) (was
   pub ends_nothing : (one next : World Beside) (o : ℕ) → In one o → (g : On one next) → (IsLast o → ⊥) → passed_in events one next ≡ []
   ends_nothing one next o i g h = ends_there one next o i g (across one next o i g) ∙ none o h
 
-  -- a step from offset 608 says that a byte passed exactly if one ends in the cycle of the last fall
+  -- what passes in the step from offset 608 is what ends in the cycle of the last fall
   pub ends_last : (one next : World Beside) (o : ℕ) → In one o → (g : On one next) → o ≡ 608
       → passed_in events one next ≡ ended_in (latch_of (L o)) (B o).pc
   ends_last one next o i g at =

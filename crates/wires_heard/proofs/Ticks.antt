@@ -164,7 +164,7 @@ module _ (events : List HostEvent) (x : ℕ) (start : Beside) (old v : ℕ) (was
       subst (λ k. Ends o (if (beside o).pc.clock && not (k && (drive l).clk) then ended_at dat l else [])) (sym (drives o))
       (by_link o l refl (beside o).pc.clock (clock_in n o) dat refl refl)
 
-  -- but in the cycle of the eleventh fall no byte ends
+  -- no byte ends in any cycle but that of the eleventh fall
   pub none_ends : (o : ℕ) → (Last o → ⊥) → ended_in (latch_of (latch o)) (beside o).pc ≡ []
   none_ends o not_last = elim (ends_in o) [ inl none ↦ none | inr last ↦ absurd (not_last last) ]
 
