@@ -14,8 +14,6 @@ CLOCK, DATA = 0, 1
 # What is drawn, each in its row.
 BIT, KEYBOARD, PC, HOLD, REQUEST, FAULT = range(6)
 EDGES = 11
-# The keyboard may give the first fall of the PC's byte as late as this, in microseconds.
-PATIENCE = 20000
 
 KEYBOARD_BYTES = {0x00: 'overrun', 0xAA: 'test passed', 0xEE: 'echo', 0xF0: 'break', 0xFA: 'acknowledge', 0xFC: 'test failed',
                   0xFE: 'resend', 0xFF: 'key error'}
@@ -89,11 +87,8 @@ class Decoder(srd.Decoder):
         self.by_pc, self.bits, self.since = by_pc, [], since
 
     def is_late(self, fall):
-        """Whether a fall comes too late to be of the frame that has begun."""
-        if not self.by_pc and not self.bits:
-            return False
-        most = self.samples('gap') if self.bits else PATIENCE * self.samplerate / 1e6
-        return fall - self.since > most
+        """Whether a fall comes too late to be of the frame that has begun. After a request the keyboard may take its time."""
+        return bool(self.bits) and fall - self.since > self.samples('gap')
 
     def give_up(self, last):
         """The frame that has begun won't be whole."""
@@ -161,11 +156,21 @@ class Decoder(srd.Decoder):
         if len(self.bits) == EDGES:
             self.finish()
 
+    def wait_for_fall(self):
+        """Waits until the clock falls, and returns the level of data then. If data rises after a request, before any fall, the PC has
+        given the request up."""
+        while self.by_pc and not self.bits:
+            _, data = self.wait([{CLOCK: 'f'}, {CLOCK: 'h', DATA: 'r'}])
+            if self.matched[0]:
+                return data
+            self.give_up(self.samplenum)
+        return self.wait({CLOCK: 'f'})[DATA]
+
     def decode(self):
         if not self.samplerate:
             raise SamplerateError('the capture has no samplerate')
         while True:
-            _, at_fall = self.wait({CLOCK: 'f'})
+            at_fall = self.wait_for_fall()
             fall = self.samplenum
             _, at_rise = self.wait([{CLOCK: 'r'}, {'skip': int(self.samples('hold'))}])
             if self.matched[0]:
