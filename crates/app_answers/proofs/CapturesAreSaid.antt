@@ -1,10 +1,10 @@
 -- What is said of a capture.
-use Rattle.std.proofs.Common.{◌≡◌, ℕ, List, [], None, Some, Ok, Err, inl, inr, refl, subst, sym}
+use Rattle.std.proofs.Common.{◌≡◌, ℕ, List, [], None, Some, Ok, Err, inr, refl, subst, sym}
 use Rattle.std.specs.declared.option.Option.{Option}
 use Rattle.capture_lines.proofs.Ends.{text_lines}
 use Rattle.capture_lines.specs.Captures.{capture_text}
 use Rattle.io_edge.proofs.Pieces.{broken_before}
-use Rattle.io_edge.specs.Said.{IsBrokenOff, Shown}
+use Rattle.io_edge.specs.Said.{IsBrokenOff, IsSaid, Shown}
 use Rattle.io_edge.specs.declared.sink.SinkFault.{SinkFault}
 use Rattle.vcd_reader.specs.Reads.{reads_of}
 use Rattle.vcd_reader.specs.declared.fault.VcdFault.{VcdFault}
@@ -28,6 +28,10 @@ module _ (clk dat dump : List ℕ) (x y : Shown) where
   captured : (first : Option VcdFault) (answer : Answer) (log : List ℕ) → First ≡ first → IsCaptured first Text answer log
       → MayAnswerCapture clk dat dump answer log
   captured first answer log is h = inr (subst (λ (f : Option VcdFault). IsCaptured f Text answer log) (sym is) h)
+
+  -- all of it was taken, and the dump has no fault
+  pub faultless : First ≡ None → IsSaid x y Text → IsSpoken MayCapture (Ok (Said (Ok tt))) x y
+  faultless is said = (Text, [], captured None (Ok Text) [] is (refl, refl), said)
 
   broken_by : (first : Option VcdFault) (failure : SinkFault) → First ≡ first → IsBrokenOff x y Text
       → IsSpoken MayCapture (Ok (Said (Err failure))) x y

@@ -1,8 +1,8 @@
 //! What a command answers of its files: each file fetched and judged, and what a command that makes no run says of it.
 //!
-//! This layer knows the forms of files, one instruction after another from reset, certificates, plans of a text, captures of
-//! the two wires, and what INT 09h says of keyboard bytes; and how a text is said, or broken off. It knows no run of the keyboard's board and no
-//! order of files. Source: our own.
+//! This layer knows the forms of files, one instruction after another from reset, certificates, plans of a text, captures
+//! of the two wires, and what INT 09h says of keyboard bytes; and how a text is said, or broken off. It knows no run of the
+//! keyboard's board and no order of files. Source: our own.
 #![tactic(auto)]
 
 mod capturing;
