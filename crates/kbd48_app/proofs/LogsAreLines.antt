@@ -1,5 +1,5 @@
 -- What is said before an answer is of whole lines.
-use Rattle.std.proofs.Common.{◌≡◌, ℕ, List, None, Some, inl, inr, sym, subst}
+use Rattle.std.proofs.Common.{ℕ, List, None, Some, inl, inr, sym, subst}
 use Rattle.std.specs.Option.{option_map}
 use Rattle.std.specs.declared.option.Option.{Option}
 use Rattle.board_probes.specs.Probes.{Watch}

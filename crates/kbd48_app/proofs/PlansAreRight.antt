@@ -39,7 +39,7 @@ use Rattle.app_answers.proofs.FileExits.{asm_answered, file_exits, hex_answered,
 use Rattle.app_boards.specs.BoardTexts.{board_story}
 use Rattle.app_boards.specs.Debugging.{script_fault}
 use Rattle.kbd48_app.specs.Causes.{Fault, InHex, InAsm, InLayout, InCert, InKeys, InScript, InText, BoardStops, IsFault, exit_at}
-use Rattle.kbd48_app.specs.Plans.{Plan, Boards, Captures, Certifies, Debugs, Fetches, Gives, Runs, Samples, Spells, capture_plan, cert_next, debug_next, debug_plan}
+use Rattle.kbd48_app.specs.Plans.{Plan, Boards, Captures, Certifies, Debugs, Fetches, Gives, Runs, Samples, Spells, cert_next, debug_next, debug_plan}
 use Rattle.kbd48_app.specs.Plans.{history_plan, keys_next, pair_plan, probe_plan}
 use Rattle.kbd48_app.specs.Plans.{plan_of, probe_next, program_next, program_plan, script_next, text_next, with_history, with_image, with_layout}
 use Rattle.app_words.specs.declared.kind.Kind.{Kind}

@@ -4,7 +4,6 @@ use Rattle.std.proofs.Common.{IfSome, ap, sym, ◌∙◌, subst, inl, inr, refl,
 use Rattle.std.specs.declared.option.Option.{Option}
 use Rattle.board_run.proofs.EndOf.{end_of}
 use Rattle.story_run.specs.declared.ending.End.{End}
-use Rattle.story_run.specs.declared.ending.End.TheVariants.{Stuck}
 use Rattle.cycle_cert.specs.Answers.{answer_of as certificate_said}
 use Rattle.cycle_cert.specs.Faults.{number_of}
 use Rattle.board_probes.specs.Probes.{Watch}

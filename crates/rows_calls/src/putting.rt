@@ -9,8 +9,9 @@ use std::alloc::{AllocError, Global};
 use std::test::Fail;
 
 /// The files of the calls: images, key files and scripts. The image `half` adds with a half carry; `lamp` lights a lamp in
-/// cycles 0 and 4,096 and is stuck after that; `pulls` pulls both wires and is stuck; `fills` writes a cell.
-static FILES: [(&str, &[u8]); 10] = [
+/// cycles 0 and 4,096 and is stuck after that; `pulls` pulls both wires and is stuck; `fills` writes a cell. In the dump
+/// `dump` an edge comes before the first fault.
+static FILES: [(&str, &[u8]); 11] = [
     ("half", b":04000000237F030156\n:00000001FF\n"),
     (
         "lamp",
@@ -24,6 +25,10 @@ static FILES: [(&str, &[u8]); 10] = [
     ("end400", b"400ms end"),
     ("ram7f", b"step 1\nram 7F\nstep 1\n"),
     ("ram20", b"step 1\nram 20\nstep 1\n"),
+    (
+        "dump",
+        b"$timescale 1 us $end $var wire 1 c clock $end $var wire 1 d data $end $enddefinitions $end\n#0 1c 1d #100 0c #140 1c #300 xd\n",
+    ),
 ];
 
 /// What `run` says of `keys`.
@@ -35,6 +40,26 @@ const HEADER: &str =
 
 /// What `board` says of `lamp` up to `end3`.
 const STUCK: &str = "-4096 lights 1\n-480 lights 0\n0 lights 1\nstuck: pc 012 byte 01\n";
+
+/// What `capture` says of `dump`, line by line.
+static CAPTURED: [&str; 16] = [
+    "100.000 edge without a start bit\n",
+    "right frames: 0\n",
+    "wrong frames: 0\n",
+    "broken off: 0\n",
+    "not whole: 0\n",
+    "edges without a start bit: 1\n",
+    "pulses too short: 0\n",
+    "holds: 0\n",
+    "holds with a request: 0\n",
+    "times outside the limits: 0\n",
+    "least clock period: 0.000\n",
+    "mean clock period: 0.000\n",
+    "greatest clock period: 0.000\n",
+    "breaks without a code: 0\n",
+    "bytes asked for three times: 0\n",
+    "input: vcd line 2 fault 9\n",
+];
 
 /// The words, the bytes that the sink has room for, the puts that fail, and what the sink has taken in the end.
 #[derive(Drop)]
@@ -241,5 +266,26 @@ fn each_put_of_a_byte_fails_in_turn(rt: HostRuntime) -> Result<(), Fail> {
             "put {number}"
         );
     }
+    Ok(())
+}
+
+/// A put a line. Last fails the line of the dump's fault.
+#[test]
+fn each_put_of_a_capture_fails_in_turn(rt: HostRuntime) -> Result<(), Fail> {
+    let alloc = rt.alloc();
+    let words = ["capture", "dump"];
+    let mut text = Vec::new(alloc);
+    let mut number = 0u32;
+    for line in &CAPTURED {
+        number = number.wrapping_add(1);
+        let sink = MemSink::new(alloc, 4096, Vec::from_slice(alloc, &[number])?)?;
+        let outcome = call(alloc, &words, &FILES, sink, &mut all_probes(alloc)?)?;
+        assert_eq!(rt; outcome.exit, Exit::Write, "put {number}");
+        assert!(rt; outcome.sink.taken() == text.as_slice(), "put {number}");
+        text.extend_from_slice(line.as_bytes())?;
+    }
+    let whole = over_short(alloc, &words, &[], 1)?;
+    assert_eq!(rt; whole.exit, Exit::Input);
+    assert!(rt; whole.sink.taken() == text.as_slice());
     Ok(())
 }

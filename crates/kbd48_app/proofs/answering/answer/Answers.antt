@@ -3,7 +3,7 @@ use Rattle.app_answers.specs.FileAnswers.{file_said}
 use Rattle.app_words.specs.Kinds.{kind_of}
 use Rattle.app_words.specs.declared.words.Command.TheVariants.{OverFile, OverPair, Debug, Probe, Board, Capture}
 use Rattle.kbd48_app.specs.Plans.{Boards, Fetches, Gives, capture_plan, debug_plan, pair_plan, probe_plan, program_plan}
-use Rattle.app_words.specs.Words.{clock_in, data_in, name_in}
+use Rattle.app_words.specs.Words.{clock_in, name_in}
 use Rattle.kbd48_app.proofs.AnswersAreSpoken.{sample_spoken, spoken_as, unsaid_as}
 use Rattle.kbd48_app.proofs.WordsAreNames.{named_1, named_2, named_3, named_4}
 use Rattle.kbd48_app.proofs.answering.answer.Goals as goal
