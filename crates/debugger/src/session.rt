@@ -1,6 +1,6 @@
 //! A session: the run of a program under a history, made step by step.
 
-ghost use Rattle.std.specs.Prelude.{◌≡◌, ◌≤◌, ◌<◌, ◌+◌, ◌&&◌, ◌||◌, List, nat_le, false, true, IfOk};
+ghost use Rattle.std.specs.Prelude.{◌≡◌, ◌≤◌, ◌<◌, ◌+◌, ◌-◌, ◌&&◌, ◌||◌, List, min, nat_le, false, true, if◌then◌else◌, IfOk};
 ghost use Rattle.joint_feed.specs.Course.{IsOnCourse};
 ghost use Rattle.debugger.specs.Sessions.{has_ended, latest_start, sitting};
 ghost use Rattle.board_probes.specs.Stuck.{sticks};
@@ -63,13 +63,14 @@ fn sticks(image: &Image, mcu: &Mcu) -> bool
     !mcu.takes_timer() && decode([image.bytes[place], image.bytes[next]]).is_none()
 }
 
-/// How many cycles quiet steps may take together that have this room before the run's end, so that with one step more they
+/// How many cycles quiet steps may take together that have this room before the run's end: as many as with one step more
 /// are at most `left`; none if probes don't rest.
 fn quiet_room(room: u64, left: u64, rest: bool) -> u64
     requires some { 0 < left }
     ensures within { result ≤ room }
     ensures few { result < left }
     ensures alone { rest ≡ false → result ≡ 0 }
+    ensures most { result ≡ (if rest then min room (left - 1) else 0) }
 {
     if rest { room.min(left - 1) } else { 0 }
 }

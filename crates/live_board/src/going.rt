@@ -1,6 +1,6 @@
 //! What goes on for some time.
 
-ghost use Rattle.std.specs.Prelude.{◌≡◌, ◌≤◌, ◌<◌, ◌^◌, ◌+◌, ◌-◌, ◌++◌, drop, map, ◌&&◌, OnErr, OnOk};
+ghost use Rattle.std.specs.Prelude.{◌≡◌, ◌≤◌, ◌<◌, ◌^◌, ◌+◌, ◌-◌, ◌++◌, drop, map, min, ◌&&◌, OnErr, OnOk};
 ghost use Rattle.joint_glide.specs.Uneventful.{HasGone};
 ghost use Rattle.joint_run.specs.Due.{with_seen};
 ghost use Rattle.live_board.specs.Heard.{HasKeptAll, heard_all, rise, said_so};
@@ -23,13 +23,14 @@ fn has_risen(watched: bool, was: Irq, is: Irq) -> bool
     watched && was.rises_to(is)
 }
 
-/// In how many cycles quiet steps may be made, so that the step after them begins before so many cycles from this one on
-/// have passed, and before the count's end.
+/// In how many cycles quiet steps may be made: as many as let the step after them begin before so many cycles from this
+/// one on have passed, and before the count's end.
 fn room(left: u64, cycle: u64) -> u64
     requires some { 0 < left }
     requires near { cycle < 2 ^ 62 }
     ensures within { result < left }
     ensures near { cycle + result < 2 ^ 62 }
+    ensures most { result ≡ min left (2 ^ 62 - cycle) - 1 }
 {
     left.min(LAST - cycle) - 1
 }

@@ -1,6 +1,6 @@
 //! A run that stops for what it is asked to.
 
-ghost use Rattle.std.specs.Prelude.{◌≡◌, ◌≤◌, ◌<◌, ◌^◌, ◌+◌, ◌⊎◌, None, true, false};
+ghost use Rattle.std.specs.Prelude.{◌≡◌, ◌≤◌, ◌<◌, ◌^◌, ◌+◌, ◌-◌, ◌⊎◌, None, min, true, false};
 ghost use Rattle.live_board.specs.Heard.{HasKeptAll};
 ghost use Rattle.live_board.specs.Pasts.{Past};
 ghost use Rattle.live_board.specs.States.{HasPast};
@@ -12,8 +12,8 @@ use crate::parts::{LAST, Parts};
 use crate::stops::{Ending, Met, Stopped, Stops, counter_met, item_met, wires_met};
 use board_terms::Lines;
 
-/// In how many cycles quiet steps may be made: in none if the run is to stop at a place of the program, and else so that
-/// the step after them is within both limits, and begins before the count's end.
+/// In how many cycles quiet steps may be made: in none if the run is to stop at a place of the program, and else in as
+/// many as leave the step after them within both limits, and its begin before the count's end.
 fn quiet_room(stops: &Stops, cycles: u64, steps: u64, cycle: u64) -> u64
     requires cycles { 0 < cycles }
     requires steps { 0 < steps }
@@ -22,6 +22,7 @@ fn quiet_room(stops: &Stops, cycles: u64, steps: u64, cycle: u64) -> u64
     ensures few { result < steps }
     ensures near { cycle + result < 2 ^ 62 }
     ensures alone { (result ≡ 0) ⊎ (stops.now.counter ≡ None) }
+    ensures most { stops.now.counter ≡ None → result ≡ min (min cycles (2 ^ 62 - cycle)) steps - 1 }
 {
     match stops.counter {
         Some(_) => 0,

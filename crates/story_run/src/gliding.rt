@@ -20,6 +20,7 @@ fn is_silent(seen: &Seen) -> bool
     ensures edges { result ≡ true → seen.now.edges ≡ 0 }
     ensures host { result ≡ true → seen.now.host ≡ 0 }
     ensures items { result ≡ true → seen.now.items.items ≡ [] }
+    ensures silent { seen.now.edges ≡ 0 → seen.now.host ≡ 0 → seen.now.items.items ≡ [] → result ≡ true }
 {
     seen.edges == 0 && seen.host == 0 && seen.items.is_empty()
 }
@@ -28,7 +29,8 @@ fn is_silent(seen: &Seen) -> bool
 /// ask for the wires.
 #[inline(always)]
 fn is_clock(joint: &Joint, clk: bool) -> bool
-    ensures { result ≡ true → (sight_of joint.now).lines.clk ≡ clk }
+    ensures level { result ≡ true → (sight_of joint.now).lines.clk ≡ clk }
+    ensures always { (sight_of joint.now).lines.clk ≡ clk → result ≡ true }
 {
     if joint.is_let_go() {
         return clk;
@@ -39,7 +41,8 @@ fn is_clock(joint: &Joint, clk: bool) -> bool
 /// Whether both wires have these levels.
 #[inline(always)]
 fn are_levels(joint: &Joint, lines: Lines) -> bool
-    ensures { result ≡ true → (sight_of joint.now).lines ≡ lines }
+    ensures levels { result ≡ true → (sight_of joint.now).lines ≡ lines }
+    ensures always { (sight_of joint.now).lines ≡ lines → result ≡ true }
 {
     if joint.is_let_go() {
         return lines.clk && lines.dat;
@@ -54,6 +57,7 @@ fn is_passed_over(follows: bool, rest: bool, clk: bool, joint: &Joint) -> bool
     ensures follows { result ≡ true → follows ≡ true }
     ensures rest { result ≡ true → rest ≡ true }
     ensures level { result ≡ true → (sight_of joint.now).lines.clk ≡ clk }
+    ensures always { follows ≡ true → rest ≡ true → (sight_of joint.now).lines.clk ≡ clk → result ≡ true }
 {
     follows && rest && is_clock(joint, clk)
 }
@@ -61,7 +65,8 @@ fn is_passed_over(follows: bool, rest: bool, clk: bool, joint: &Joint) -> bool
 /// Whether the wires, if they are sampled, have the levels that they had.
 #[inline(always)]
 fn keeps_levels(wires: bool, lines: Lines, joint: &Joint) -> bool
-    ensures { result ≡ true → wires ≡ true → (sight_of joint.now).lines ≡ lines }
+    ensures levels { result ≡ true → wires ≡ true → (sight_of joint.now).lines ≡ lines }
+    ensures always { (wires ≡ true → (sight_of joint.now).lines ≡ lines) → result ≡ true }
 {
     !wires || are_levels(joint, lines)
 }
