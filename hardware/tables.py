@@ -8,6 +8,8 @@ from typing import Dict, List, NamedTuple, Set, Tuple
 HERE = Path(__file__).resolve().parent
 TABLE = HERE / "board.txt"
 SAMPLE = HERE.parent / "examples" / "us84.toml"
+# The same keys at the same places, for switches that need a debounce.
+DEBOUNCED = SAMPLE.with_name("us84_debounced.toml")
 KINDS = ("in", "out", "io", "oc", "power", "passive")
 COLUMNS, ROWS = 12, 8
 
