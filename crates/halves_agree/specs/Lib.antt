@@ -1,0 +1,3 @@
+pub mod Loop
+pub mod Acts
+pub mod Law

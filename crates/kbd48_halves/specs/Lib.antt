@@ -1,0 +1,3 @@
+pub mod Placed
+pub mod Lends
+pub mod Words
