@@ -7,6 +7,7 @@ from pathlib import Path
 from typing import List, Tuple
 
 from boards import HERE, Refused
+from key_files import lines_of
 
 TOP = HERE.parent
 # INT 09h's own items: the simulated PC only reads the byte.
@@ -63,7 +64,7 @@ def expected(file: KeyFile, folder: Path) -> Printed:
     in_ticks = _items(kbd48("run", file.layout, path))
     if not is_in_ticks(items, in_ticks):
         raise Refused("%s: `run` and `board` differ" % file.name)
-    end = int(re.search(r"^(\d+)(ms)? end", file.keys, re.MULTILINE)[1]) * (400 if "ms end" in file.keys else 1)
+    end = next(stamp for stamp, words in lines_of(file.keys) if words == ["end"])
     wires = [change for change in _changes(kbd48("trace", file.layout, path).splitlines()) if change[0] < end + STAMP_0]
     return Printed(items, wires)
 

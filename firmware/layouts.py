@@ -3,14 +3,19 @@ import re
 from pathlib import Path
 from typing import List, NamedTuple, Tuple
 
-from boards import Refused, Table
+from boards import ROWS, Refused, Table
 
 
 class Key(NamedTuple):
-    """A key: what it sends, or Fn, and its place."""
+    """A key by its name in key files, and its place in the matrix."""
     name: str
     column: int
     row: int
+
+    @property
+    def place(self) -> int:
+        """The number of its place."""
+        return ROWS * self.column + self.row
 
 
 def text_of(path: Path) -> str:
@@ -28,7 +33,7 @@ def keys_of(path: Path) -> List[Key]:
         entry = dict(re.findall(r'^\s*(\w+)\s*=\s*"?([^"#\n]*?)"?\s*(?:#.*)?$', table, re.MULTILINE))
         if not (entry.get("column", "").isdigit() and entry.get("row", "").isdigit()):
             raise Refused("%s: a key has no column and row, each on a line of its own" % path)
-        keys.append(Key(entry.get("key", "fn"), int(entry["column"]), int(entry["row"])))
+        keys.append(Key(entry.get("key", "Fn"), int(entry["column"]), int(entry["row"])))
     if not keys:
         raise Refused("%s has no [[key]]" % path)
     return keys

@@ -9,6 +9,7 @@ from typing import Dict, List, Sequence, Tuple
 import build
 import images
 from boards import HERE, Refused, Table, read_board
+from key_files import lines_of
 from layouts import keys_of
 
 TOP = HERE.parent
@@ -74,7 +75,7 @@ def program(machine: Machine, folder: Path, layout: Path, defines: Sequence[str]
 
 def places(layout: Path) -> Dict[str, int]:
     """The place of each key of a layout, by its name."""
-    return {key.name: 8 * key.column + key.row for key in keys_of(layout)}
+    return {key.name: key.place for key in keys_of(layout)}
 
 
 def scan_codes() -> bytes:
@@ -105,15 +106,11 @@ class Asked:
 def script(layout: Path, keys: str, asked: Asked) -> bytes:
     """A key file as the simulation reads it."""
     key_places, events, end = places(layout), b"", 0
-    for line in keys.splitlines():
-        words = line.split("#")[0].split()
-        if not words:
-            continue
-        at = int(words[0][:-2]) * 400 if words[0].endswith("ms") else int(words[0])
-        if words[1] == "end":
-            end = at
+    for stamp, words in lines_of(keys):
+        if words == ["end"]:
+            end = stamp
         else:
-            events += struct.pack("<I4B", at, *_event(words[1:], key_places), 0)
+            events += struct.pack("<I4B", stamp, *_event(words, key_places), 0)
     head = struct.pack("<6I", asked.flags, asked.cycle, end, asked.stall_in, asked.stall_most, asked.seed)
     return head + scan_codes() + events + struct.pack("<I4B", 0xFFFFFFFF, NO_EVENT, 0, 0, 0)
 

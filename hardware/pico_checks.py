@@ -1,13 +1,11 @@
 """What must hold of the board with a Pico. Each check gives its faults, a line each."""
 import re
-import sys
 from typing import Callable, Dict, Iterator, List, Set, Tuple
 
 from checks import Board, Faults, electric, page_parts
-from tables import HERE, Part
-
-sys.path.insert(0, str(HERE.parent / "firmware"))
-from boards import Table, read_board as read_pins  # noqa: E402
+from tables import Part
+# tables has put the folder firmware/ on the path.
+from boards import Table, read_board as read_pins
 
 SUPPLY = ("+5V", "GND")
 GOES = {"ground": "GND", "open": None, "+3.3 V": "+3V3", "+5 V by D109": "VSYS", "the clock's transistor": "CLOCK_3V",

@@ -1,21 +1,22 @@
 """The board's table and a layout as the scripts have them: parts, pins and nets."""
 import re
 import shlex
+import sys
 from dataclasses import dataclass, field
 from pathlib import Path
 from typing import Dict, List, NamedTuple, Set, Tuple
 
 HERE = Path(__file__).resolve().parent
+# What both have of a layout and of the pins of a board.
+sys.path.insert(0, str(HERE.parent / "firmware"))
+from boards import MOST_COLUMNS as COLUMNS, ROWS, Refused  # noqa: E402
+from layouts import Key, keys_of  # noqa: E402
+
 TABLE = HERE / "board.txt"
 SAMPLE = HERE.parent / "examples" / "us84.toml"
 # The same keys at the same places, for switches that need a debounce.
 DEBOUNCED = SAMPLE.with_name("us84_debounced.toml")
 KINDS = ("in", "out", "io", "oc", "power", "passive")
-COLUMNS, ROWS = 12, 8
-
-
-class Refused(Exception):
-    """A file that can't be used, and why."""
 
 
 class Pin(NamedTuple):
@@ -41,13 +42,6 @@ class Part:
     value: str
     order: str
     nets: Dict[str, str] = field(default_factory=dict)
-
-
-class Key(NamedTuple):
-    """A key of the layout."""
-    name: str
-    column: int
-    row: int
 
 
 Node = Tuple[str, str]  # a part's reference and a pin's name
@@ -128,23 +122,11 @@ def read_blocks(path: Path = TABLE) -> Dict[str, List[str]]:
 
 
 def read_layout(path: Path) -> List[Key]:
-    """The keys of a layout file whose tables have one entry a line, as those of examples/."""
-    try:
-        text = path.read_text(encoding="utf-8")
-    except (OSError, UnicodeDecodeError) as fault:
-        raise Refused("%s can't be read: %s" % (path, fault)) from fault
-    keys = []
-    for table in re.split(r"^\s*\[\[\s*key\s*\]\].*$", text, flags=re.MULTILINE)[1:]:
-        entry = dict(re.findall(r'^\s*(\w+)\s*=\s*"?([^"#\n]*?)"?\s*(?:#.*)?$', table, re.MULTILINE))
-        try:
-            key = Key(entry.get("key", "Fn"), int(entry["column"]), int(entry["row"]))
-        except (KeyError, ValueError) as fault:
-            raise Refused("%s: a key has no column and row, each on a line of its own" % path) from fault
-        if not (0 <= key.column < COLUMNS and 0 <= key.row < ROWS):
+    """The keys of a layout file, each at a place of the matrix."""
+    keys = keys_of(path)
+    for key in keys:
+        if key.column >= COLUMNS or key.row >= ROWS:
             raise Refused("%s: %s is in no column of 0 to 11 and row of 0 to 7" % (path, key.name))
-        keys.append(key)
-    if not keys:
-        raise Refused("%s has no [[key]]" % path)
     return keys
 
 

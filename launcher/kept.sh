@@ -1,5 +1,5 @@
 # shellcheck shell=sh
-# Whether a program that was built earlier is still of these sources. The launcher and ./try read this file; `here` must be
+# Whether a program that was built earlier is still of these sources. ./kbd48 and launcher/try read this file; `here` must be
 # the top of the repository. A folder with a program has `kbd48`, and `sources.sum`, the checksum of what it was built of.
 : "${here:?}"
 

@@ -29,7 +29,7 @@ def program_here(top: str) -> str:
     asked = ["sh", "-c", 'here=$1 && . "$1/launcher/kept.sh" && stands "$2"', "sh", top, out]
     if subprocess.run(asked, check=False).returncode == 0:
         return os.path.join(out, "kbd48")
-    if subprocess.run([os.path.join(top, "try"), "--build"], check=False).returncode != 0:
+    if subprocess.run([os.path.join(top, "launcher", "try"), "--build"], check=False).returncode != 0:
         raise Unanswered("there is no program to ask")
     print("vectors: NOT PROVED: the vectors come from a build of which nothing is proved", file=sys.stderr)
     return os.path.join(out, "unproved", "kbd48")

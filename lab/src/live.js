@@ -5,10 +5,9 @@ import { Item, Status } from '../kbd48.mjs';
 import { hex } from './dom.js';
 import { BOTH, PC_SIDE, beginOf } from './wires.js';
 import { COPIES_APART, History } from './history.js';
+import { CYCLES_OF_A_MS, CYCLES_OF_A_TICK, FIRST_STAMP } from './times.js';
 
-export const CYCLES_OF_A_MS = 400, FIRST_STAMP = 4096;
 const KEPT = 40000, TRIMMED = 30000;
-const TICK_CYCLES = 2048;
 const LAST_STAMP = 240_000_000, MOST_EVENTS = 65_536; // of a key file
 // An item in the words of the log; what the page itself takes from the buffer of INT 09h isn't said.
 const SAYS = {
@@ -57,7 +56,7 @@ export class Live {
   get isCalm() { return this.isQuiet && !this.down.size && this.cycle - this.stirred > CALM_AFTER; }
 
   /** Whether an edge of a key waits, or was handed in so late that the keyboard may not have read it yet. */
-  get isUnseen() { return this.pushed.length > 0 || this.cycle - this.handedAt < TICK_CYCLES; }
+  get isUnseen() { return this.pushed.length > 0 || this.cycle - this.handedAt < CYCLES_OF_A_TICK; }
 
   // Whoever runs this keyboard hears before something is handed in.
   #stir() {

@@ -1,7 +1,7 @@
 // The processor of the keyboard that one types on, step by step: its time is stopped, and goes on by the steps that are asked
 // for. Steps back are looks at the past.
 import { hex } from './dom.js';
-import { FIRST_STAMP } from './live.js';
+import { FIRST_STAMP } from './times.js';
 import { CELLS, partsOf } from './session.js';
 
 const SENDERS = ['keyboard', 'host'];

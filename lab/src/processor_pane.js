@@ -1,7 +1,7 @@
 // The processor, step by step: a program on the board, under a layout and a key file.
 import { byId, fill, hex, make, scrollToEnd, setText, tell } from './dom.js';
 import { files, named, onFile } from './files.js';
-import { FIRST_STAMP } from './live.js';
+import { FIRST_STAMP } from './times.js';
 import { LiveSession } from './live_session.js';
 import { explained, kbd48 } from './program.js';
 import { InSight } from './in_sight.js';

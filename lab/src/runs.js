@@ -3,15 +3,16 @@ import { byId } from './dom.js';
 import { files } from './files.js';
 import { kbd48 } from './program.js';
 import { EXIT } from './refusals.js';
+import { CYCLES_OF_A_MS } from './times.js';
 import { readTrace } from './vcd.js';
 
 const END_OF_WORKER = '/* The end of what a worker runs. */';
-const LONG_RUN = 20_000, CYCLES_OF_MS = 400; // ms
+const LONG_RUN = 20_000; // ms
 
 /** The last time of a key file, in ms. */
 function endOf(keys) {
   const found = /^\s*(\d+)(ms)?\s+end\b/m.exec(keys.slice(-200));
-  return found ? Number(found[1]) / (found[2] ? 1 : CYCLES_OF_MS) : 0;
+  return found ? Number(found[1]) / (found[2] ? 1 : CYCLES_OF_A_MS) : 0;
 }
 
 const isLong = (words, all) => words.slice(1).some(word => word.endsWith('.keys') && word in all && endOf(all[word]) > LONG_RUN);

@@ -1,6 +1,6 @@
 // A run of a key file that is looked at step by step. The program makes it under a script, which shows many states in one run.
 import { hex } from './dom.js';
-import { FIRST_STAMP } from './live.js';
+import { FIRST_STAMP } from './times.js';
 import { explained, kbd48 } from './program.js';
 import { runs } from './runs.js';
 

@@ -3,7 +3,6 @@
 
 const ADDRESSED = /^(JMP|CALL|DJNZ|J(?!MPP)[A-Z0-9]+)$/;
 const LABEL = /^([A-Z_]\w*)[ \t]*:/i, EQU = /^([A-Z_]\w*)[ \t]+EQU[ \t]+(\w+)$/i;
-const LAST_PLACE = 2048;
 
 function number(text) {
   if (text.endsWith('H')) return Number.parseInt(text, 16);
@@ -48,5 +47,5 @@ export function listLines(text) {
 export function placeOf(word, labels) {
   const known = labels.get(word.toUpperCase());
   if (known !== undefined) return known;
-  return /^[0-9A-F]{3}$/i.test(word) && Number.parseInt(word, 16) < 2 * LAST_PLACE ? Number.parseInt(word, 16) : null;
+  return /^[0-9A-F]{3}$/i.test(word) ? Number.parseInt(word, 16) : null;
 }

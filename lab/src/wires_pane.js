@@ -3,7 +3,7 @@ import { byId, fill, hex, make, setText, tell } from './dom.js';
 import { named, onFile, replace } from './files.js';
 import { CLOCK, DATA } from './wires.js';
 import { Lines } from './lines.js';
-import { CYCLES_OF_A_MS, FIRST_STAMP } from './live.js';
+import { CYCLES_OF_A_MS, FIRST_STAMP } from './times.js';
 import { explained } from './program.js';
 import { runs } from './runs.js';
 import { Waveform, pullersOf } from './waveform.js';

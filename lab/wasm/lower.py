@@ -2,7 +2,11 @@
 
 Each address loses its upper half just before its use; pointers stay 64 bits wide everywhere else, so the exports keep
 their types. It holds as long as memory has less than 4 GiB, which a 32-bit memory has. What isn't known is refused. The
-format is that of the WebAssembly Core Specification 3.0, chapter 5."""
+format is that of the WebAssembly Core Specification 3.0, chapter 5.
+
+Debian's Binaryen doesn't replace this. A module of LLVM with a 64-bit memory has a 64-bit table, and version 108 of `wasm-opt`
+refuses each such module. If the table's flag is changed by hand, `--memory64-lowering` takes the module of the library, which
+calls nothing through its table. It still refuses that of the program, whose calls through the table have 64-bit numbers."""
 
 from __future__ import annotations
 

@@ -53,12 +53,7 @@ class Certificate:
     def __init__(self, fault):
         module = certify()
         self.program = module.Program.__new__(module.Program)
-        self.program.image, self.program.lines = [0] * module.SIZE, {}
-        for row in fault.files["hex"].decode("ascii").split():
-            data = bytes.fromhex(row[1:])
-            if data[3] == 0:
-                begin = data[1] << 8 | data[2]
-                self.program.image[begin : begin + data[0]] = data[4 : 4 + data[0]]
+        self.program.image, self.program.lines = module.memory_of(fault.files["hex"].decode("ascii")), {}
         self.target = int(next(it.split()[1] for it in fault.lines if it.strip()), 16)
         self.bounds = {self.target: module.Bound(0)}
         for found in filter(None, map(LINE.fullmatch, fault.lines)):

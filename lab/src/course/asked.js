@@ -1,6 +1,8 @@
 // What each kind of lesson asks of a file: `judges(say, text, files)` goes on trial by trial, and returns the first thing that is
 // wrong, or null.
 import { hex } from '../dom.js';
+import { programIn } from '../firmware/hex_file.js';
+import { PROGRAM_SIZE } from '../firmware/image_place.js';
 import { framesSent, stampOf } from './frames.js';
 import { differing, itemsIn, itemsOfBytes, judging, unfinished } from './judge.js';
 import { AT_CODES } from './programs.js';
@@ -102,25 +104,16 @@ const CELL = 0x20, CELLS_MASK = 0x7F, BANK_BIT = 0x10, MOST_STEPS = 600, POWER_O
 // Instructions with a cell that R0 or R1 names: those that read it, and those that write it, without their last bit.
 const READS = [0x10, 0x20, 0x30, 0x40, 0x50, 0x60, 0x70, 0xD0, 0xF0], WRITES = [0x10, 0x20, 0x30, 0xA0, 0xB0];
 
-/** The bytes of Intel HEX, by place. */
-function bytesOfHex(text) {
-  const bytes = new Map();
-  for (const [, size, at, kind, data] of text.matchAll(/^:(..)(....)(..)(.*)..$/gm)) {
-    for (let n = 0; kind === '00' && n < Number.parseInt(size, 16); n++) bytes.set(Number.parseInt(at, 16) + n, Number.parseInt(data.slice(2 * n, 2 * n + 2), 16));
-  }
-  return bytes;
-}
-
 // What a program does with the cell, step by step: each state has the counter, R0 and R1 of both banks, and the cell.
 function* usesOfCell(say, image, files, fill) {
   const script = [...Array.from({ length: MOST_STEPS }, () => ['show', 'ram 00', 'ram 01', 'ram 18', 'ram 19', 'ram 20', 'step 1']).flat(), ''].join('\n');
   const said = say(['probe', 'own.hex', 'board.toml', 'trial.keys', 'trial.script', '--fill', fill], { ...files, 'trial.script': script });
-  const program = bytesOfHex(image), states = said.text.split(/^(?=pc )/m).slice(1);
+  const program = programIn(image, PROGRAM_SIZE), states = said.text.split(/^(?=pc )/m).slice(1);
   for (const state of states) {
     const place = Number.parseInt(/^pc (\w+)/.exec(state)[1], 16), psw = Number.parseInt(/psw (\w+)/.exec(state)[1], 16);
     const cells = new Map([...state.matchAll(/^ram (\w+) (\w+)$/gm)].map(([, cell, byte]) => [Number.parseInt(cell, 16), Number.parseInt(byte, 16)]));
-    const operation = program.get(place), register = (psw & BANK_BIT ? 0x18 : 0) + (operation & 1);
-    if (operation === undefined || (cells.get(register) & CELLS_MASK) !== CELL) continue;
+    const operation = program[place], register = (psw & BANK_BIT ? 0x18 : 0) + (operation & 1);
+    if ((cells.get(register) & CELLS_MASK) !== CELL) continue;
     const kind = operation & ~1;
     if (READS.includes(kind)) yield { isRead: true, place, byte: cells.get(CELL) };
     if (WRITES.includes(kind)) yield { isRead: false };

@@ -1,13 +1,13 @@
 // What a trace has against the rules of a frame: eleven falls of the clock 32 cycles apart, 16 low and 16 high, and data that is
 // there before each fall. The program hears a byte if its falls are 32 cycles apart; the other rules are those of a real board.
+import { FIRST_STAMP } from '../times.js';
 import { BOTH, CLOCK, DATA } from '../wires.js';
 
 const FALLS_OF_A_FRAME = 11, FALLS_APART = 32, LOW = 16, SET_UP = 2, HELD_BY_PC = 60; // cycles
 const START = 0, PARITY = 9, STOP = 10; // falls
-const STAMP_ZERO = 4096;
 
 /** A time of a trace as the log has it. */
-export const stampOf = cycle => cycle - STAMP_ZERO;
+export const stampOf = cycle => cycle - FIRST_STAMP;
 
 // The falls of the clock, and its rises, each with the level of data and the cycles for which the clock was low; and the changes of
 // data. Each fall has its rise, if there is one.

@@ -3,6 +3,7 @@
 // `expected` and `got`, line by line, up to the first `line` that differs; and a `trace` with the cycle `at`, if it is of wires. Of a
 // file that the program refuses it has `refused` in place of the first two (refusal.js).
 import { hex } from '../dom.js';
+import { CYCLES_OF_A_TICK } from '../times.js';
 import { readTrace } from '../vcd.js';
 import { calmFault, fallsOf, heardFault, stampOf, takenFault } from './frames.js';
 import { asTheyAre, logLinesOf } from './logs.js';
@@ -36,7 +37,7 @@ export function differing(says, what, expected, got, more = {}) {
   return line < 0 ? null : { says, what, line, expected: [...expected, NOTHING], got: [...got, NOTHING], ...more };
 }
 
-const FILES = ['own.hex', 'board.toml', 'trial.keys'], CYCLES_OF_A_TICK = 2048;
+const FILES = ['own.hex', 'board.toml', 'trial.keys'];
 
 // What a program says of a trial: its log, and its trace.
 function runOf(say, image, layout, trial) {

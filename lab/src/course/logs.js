@@ -1,7 +1,6 @@
 // What a log says in items that right programs have in common, although their times differ: with the lights at each byte, and
 // without the repeats of a key that is held, if they come in time.
-/** Of the keyboard's processor. */
-export const CYCLES_OF_ONE_MS = 400;
+import { CYCLES_OF_A_MS } from '../times.js';
 
 const DELAY = [400, 600], PERIOD = [80, 120]; // ms up to the first repeat, and from each to the next: half a second and a tenth, within a fifth
 const ON_ITS_WAY = 15; // ms up to which a release may come later than a repeat would have
@@ -36,7 +35,7 @@ export function withLastLights(lines) {
     cycles one of the log's times has. The last key that went down repeats until it goes up. */
 export function withoutRepeats(lines, unit) {
   const kept = [], held = { port: null, time: 0, span: DELAY, dropped: null };
-  const since = time => (time - held.time) * unit / CYCLES_OF_ONE_MS;
+  const since = time => (time - held.time) * unit / CYCLES_OF_A_MS;
   const isOver = time => {
     if (held.port !== null && since(time) > held.span[1] + ON_ITS_WAY) kept.push({ time, item: `${held.port} isn't repeated for ${held.span[1]} ms` });
     held.port = null;

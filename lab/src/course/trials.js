@@ -3,7 +3,8 @@
 // the wires; `fill`, what memory holds at power-on; `takes`, if the keyboard takes the PC's bytes; `items`, what the PC reads in
 // place of what comes of the bytes (or of `read`), or `likeModel`, if it is what the model says; `reads`, how a log is read (logs.js).
 import { hex } from '../dom.js';
-import { CYCLES_OF_ONE_MS, asTheyAre, withLastLights, withLights, withoutRepeats } from './logs.js';
+import { asTheyAre, withLastLights, withLights, withoutRepeats } from './logs.js';
+import { CYCLES_OF_A_MS } from '../times.js';
 
 const HELD_MS = 50, REST = 40, HELD_LONG = 900, SHORT = 15; // ms
 const FIRST_MS = 10, BETWEEN_WRITES = 20;
@@ -13,12 +14,12 @@ const MOST_AT_ONCE = 4; // edges, of which five take at least 5.6 ms
 const STRAY_SEED = 48271, STRAY_MODULUS = 2147483647; // of a pseudo-random sequence, which is the same each time
 const TRIAL_FILLS = ['00', 'A5', 'FF', '5A'];
 
-const stampOfLine = ({ ms, stamp }) => stamp ?? ms * CYCLES_OF_ONE_MS;
+const stampOfLine = ({ ms, stamp }) => stamp ?? ms * CYCLES_OF_A_MS;
 
 /** A key file of lines { ms or stamp, words }, which ends some time after the last of them. */
 export function keyFileOf(lines, rest = REST) {
   const inOrder = [...lines].sort((a, b) => stampOfLine(a) - stampOfLine(b));
-  const end = stampOfLine(inOrder.at(-1)) + rest * CYCLES_OF_ONE_MS;
+  const end = stampOfLine(inOrder.at(-1)) + rest * CYCLES_OF_A_MS;
   return [...inOrder.map(line => `${stampOfLine(line)} ${line.words}`), `${end} end`, ''].join('\n');
 }
 
@@ -223,7 +224,7 @@ export const lightings = conversations([
 /** Noise turns each bit of the first byte that a keyboard sends in a trial, so that the controller asks for it again. */
 export const noisy = trial => Array.from({ length: 9 }, (_, n) => ({
   ...trial, says: `${trial.says}, and noise turns ${n === 8 ? 'the parity bit' : `bit ${n + 1}`} of the keyboard's next byte`, calm: false, takes: true,
-  keys: `${(FIRST_MS - 2) * CYCLES_OF_ONE_MS} flip ${n + 1}\n${trial.keys}`, read: trial.bytes, bytes: [trial.bytes[0], ...trial.bytes],
+  keys: `${(FIRST_MS - 2) * CYCLES_OF_A_MS} flip ${n + 1}\n${trial.keys}`, read: trial.bytes, bytes: [trial.bytes[0], ...trial.bytes],
 }));
 
 /** Five strokes while the PC doesn't read: INT 09h is masked, or the PC has switched the keyboard off within the first byte. What
@@ -257,7 +258,7 @@ export const fullTrials = (names, codes) => [HELD_FULL, HELD_FULL + 2].map(more 
 
 /** The PC switches the keyboard off in the frame of the first key, and there are four more strokes before it is on again. */
 export const strokesInHold = (names, codes) => Array.from({ length: 12 }, (_, n) => {
-  const list = [0, 1, 2, 3, 0], stamp = FIRST_MS * CYCLES_OF_ONE_MS + 60 + 25 * n;
+  const list = [0, 1, 2, 3, 0], stamp = FIRST_MS * CYCLES_OF_A_MS + 60 + 25 * n;
   return {
     says: `the PC switches the keyboard off at cycle ${stamp}, and on after four more strokes`, bytes: list.map(at => codes[at]),
     keys: keyFileOf([...list.flatMap((at, place) => stroke(names[at], FIRST_MS + place * 50, 20)), { stamp, words: 'write64 AD' }, { ms: 300, words: 'write64 AE' }], 3 * REST),
@@ -282,7 +283,7 @@ export const repeating = trials => trials.map(({ bytes, ...trial }) => ({ ...tri
 
 /** The PC writes a byte at each time around a key's frame: both the key's byte and the answer come. */
 export const writesAround = (name, code, asked, answer) => Array.from({ length: 130 }, (_, n) => {
-  const stamp = FIRST_MS * CYCLES_OF_ONE_MS - 200 + 7 * n;
+  const stamp = FIRST_MS * CYCLES_OF_A_MS - 200 + 7 * n;
   return {
     says: `the PC writes ${asked} at cycle ${stamp}, about when key ${name} goes down`, bytes: [code, answer], any: true, takes: true,
     keys: keyFileOf([press(name, FIRST_MS), { stamp, words: `write60 ${asked}` }]),
@@ -327,7 +328,7 @@ export function likeTheModel(names) {
   );
   for (let bit = 1; bit <= 9; bit++) list.push(likeModel(`noise turns bit ${bit} of the next byte`, [{ ms: 0, words: `flip ${bit}` }, ...stroke('v', 30), { ms: 150, words: `flip ${bit}` }, ...writes([[170, 'EE']])]));
   for (const seed of [5, 17, 29, 41, 59, 83]) list.push(likeModel('strokes, and what the PC writes between them', mixture(names, seed)));
-  for (let n = 0; n < 40; n++) list.push(likeModel(`the PC writes EE ${17 * n} cycles after key k goes down`, [press('k', 0), { stamp: AFTER_TEST * CYCLES_OF_ONE_MS + 17 * n, words: 'write60 EE' }, release('k', 100)], { any: true }));
+  for (let n = 0; n < 40; n++) list.push(likeModel(`the PC writes EE ${17 * n} cycles after key k goes down`, [press('k', 0), { stamp: AFTER_TEST * CYCLES_OF_A_MS + 17 * n, words: 'write60 EE' }, release('k', 100)], { any: true }));
   return list;
 }
 
