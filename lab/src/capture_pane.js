@@ -19,18 +19,20 @@ const CODES_OF_KEYS = JSON.parse(byId('codes').textContent);
 const MOST_OF_A_CAPTURE = 256 << 20, BEGINNING = 64; // bytes
 const NS_OF_ONE_CYCLE = 2500, STROKES = 'captured.keys';
 const NO_WIRES = { edges: [], bytes: [], cycle: 0 };
+const DRAGGED = 5; // pixels
 const ZIP = 'it is a ZIP archive', SESSION = 'if it is a session of sigrok, `sigrok-cli -i FILE -O vcd` makes a dump of it';
 
 /** Whether a file is a capture, by its name. */
 export const isCaptureName = name => /\.(vcd|csv|sr)$/i.test(name);
 
 export class CapturePane {
-  /** `wave` draws the wires; `opened()` answers the layout that the keyboard has, { name, text }; `show(name)` chooses a capture. */
+  /** `wave` draws the wires; `opened()` answers the layout that the keyboard has, { name, text }; `show(name)` chooses a capture, or
+      none of null. */
   constructor({ wave, opened, show }) {
-    Object.assign(this, { wave, opened, show, taken: new Map(), captured: null, turn: 0, own: null });
+    Object.assign(this, { wave, opened, show, taken: new Map(), name: null, captured: null, turn: 0, turnBeside: 0, isBeside: false });
     this.found = new LongText(byId('found'));
     this.beside = new Waveform(byId('beside-wave'), () => NO_WIRES);
-    wave.onMoved = () => { if (this.own) this.beside.follow(wave); };
+    wave.onMoved = () => { if (this.isBeside) this.beside.follow(wave); };
     wave.onDrawn = () => this.#sayTimes();
     this.beside.onMoved = () => wave.follow(this.beside);
     byId('open-capture').onchange = ({ target }) => {
@@ -43,8 +45,15 @@ export class CapturePane {
     byId('fault-before').onclick = () => this.#step(-1);
     byId('fault-next').onclick = () => this.#step(1);
     byId('hold-against').onclick = () => this.#holdAgainst();
-    byId('wave').addEventListener('click', event => {
-      const mark = this.captured && wave.markAt(event.offsetX);
+    this.#listen(byId('wave'));
+  }
+
+  // A click on a mark says its sentence. What ends a drag is no click.
+  #listen(canvas) {
+    let pressed = 0;
+    canvas.addEventListener('pointerdown', event => { pressed = event.clientX; });
+    canvas.addEventListener('click', event => {
+      const mark = this.captured && Math.abs(event.clientX - pressed) < DRAGGED && this.wave.markAt(event.offsetX);
       if (mark) this.#mark(mark);
     });
   }
@@ -62,7 +71,7 @@ export class CapturePane {
         this.taken.set(file.name, file);
         this.show(file.name);
       } catch (fault) {
-        this.#close();
+        this.show(null);
         byId('capture').hidden = false;
         this.#head(file.name, fault.message, false);
       }
@@ -126,7 +135,7 @@ export class CapturePane {
     for (const id of ['fault-before', 'fault-next']) byId(id).disabled = !found.marks.length;
     const { marks: { length: many }, unmarked } = found;
     setText(byId('fault-text'), many ? `${many + unmarked} place${many + unmarked === 1 ? ' is' : 's are'} marked${unmarked ? `, the first ${many} of them in the picture` : ''}.` : 'Nothing is marked.');
-    this.#mark(found.marks[0] ?? { begin: found.bytes[0]?.begin ?? 0 }, false);
+    this.wave.lookAt((found.marks[0] ?? found.bytes[0])?.begin ?? 0);
   }
 
   #picture(edges, { bytes, marks }) { this.wave.show({ edges, bytes, marks, cycle: (edges.at(-1)?.cycle ?? 0) + CYCLES_OF_A_MS }); }
@@ -150,10 +159,10 @@ export class CapturePane {
   }
 
   // Goes to a mark, and says its sentence.
-  #mark(mark, isSaid = true) {
+  #mark(mark) {
     this.wave.choose(mark);
     const { marks } = this.captured.found;
-    if (isSaid) setText(byId('fault-text'), `${marks.indexOf(mark) + 1} of ${marks.length}, at ${msOf(mark.begin)} ms: ${mark.sentence}`);
+    setText(byId('fault-text'), `${marks.indexOf(mark) + 1} of ${marks.length}, at ${msOf(mark.begin)} ms: ${mark.sentence}`);
   }
 
   #sayTimes() {
@@ -162,7 +171,8 @@ export class CapturePane {
   }
 
   #hideBeside() {
-    this.own = null;
+    this.turnBeside++;
+    this.isBeside = false;
     this.beside.show(null);
     for (const id of ['beside-wave', 'beside-note']) byId(id).hidden = true;
     setText(byId('held'), '');
@@ -170,7 +180,7 @@ export class CapturePane {
 
   // The same strokes on the layout that the keyboard has, run by the program; both pictures have one scale of time.
   async #holdAgainst() {
-    const { name, text } = this.opened(), { found } = this.captured, { turn } = this, keys = keysOf(text).filter(it => !it.fn);
+    const { name, text } = this.opened(), { found } = this.captured, turn = ++this.turnBeside, keys = keysOf(text).filter(it => !it.fn);
     const byCode = new Map(keys.filter(it => it.sends in CODES_OF_KEYS).reverse().map(it => [CODES_OF_KEYS[it.sends], it.name]));
     const { edges, strange } = edgesOf(found.bytes, code => byCode.get(code));
     const without = strange.length ? ` ${name} has no key for ${strange.join(', ')}.` : '';
@@ -182,7 +192,7 @@ export class CapturePane {
     const { text: keyFile, begins, left } = strokesFile(edges);
     putMade(STROKES, keyFile, this.name);
     const run = await runs.run(['trace', name, STROKES], { [name]: text, [STROKES]: keyFile });
-    if (turn !== this.turn) return;
+    if (turn !== this.turnBeside) return;
     if (!run || run.exit !== EXIT.DONE) tell(byId('held'), run ? explained(run)?.words ?? run.text : 'It was stopped.', false);
     else {
       this.#showBeside(run.traced, begins + FIRST_STAMP, edges[0].begin);
@@ -198,10 +208,11 @@ export class CapturePane {
     const right = new PackedEdges({ cycles: Float64Array.from(all, it => it.cycle + later), levels: Uint8Array.from(all, it => it.levels) });
     const [capture, other] = sideBySide(own, right);
     this.#picture(capture, found);
-    this.own = other;
+    this.isBeside = true;
     for (const id of ['beside-wave', 'beside-note']) byId(id).hidden = false;
     this.beside.show({ edges: other, cycle: capture.at(-1).cycle + CYCLES_OF_A_MS, bytes: sent.map(it => ({ ...it, begin: it.begin + later, end: it.end + later })) });
-    this.wave.choose(chosen);
+    if (chosen) this.wave.choose(chosen);
+    else this.wave.lookAt(begin);
   }
 }
 

@@ -58,7 +58,12 @@ export class Waveform {
   /** Shows the place of a mark, and that it is the chosen one. */
   choose(mark) {
     this.chosen = mark;
-    this.#aimAt(mark.begin);
+    this.lookAt(mark.begin);
+  }
+
+  /** Brings a cycle into the middle, as far as there is something on both sides. */
+  lookAt(cycle) {
+    this.#aimAt(cycle);
     this.draw();
     this.onMoved();
   }

@@ -28,7 +28,7 @@ export class WiresPane {
     this.bytes = new Lines(byId('bytes'), ({ begin, sender, byte }) => `${at(begin)}  ${sender === 'host' ? 'PC → keyboard' : 'keyboard → PC'}  ${hex(byte)}`);
     this.log = new Lines(byId('log'), entry => (typeof entry === 'string' ? entry : `${at(entry.cycle)}  ${entry.words}`));
     this.wave = new Waveform(byId('wave'), live);
-    this.capture = new CapturePane({ wave: this.wave, opened, show: name => this.#choose(name) });
+    this.capture = new CapturePane({ wave: this.wave, opened, show: name => this.#choose(name ?? LIVE) });
     for (const [words, ...bytes] of COMMANDS) {
       const button = make('button', { type: 'button', textContent: words });
       button.onclick = () => { for (const [port, byte] of bytes) live().order(port, byte); };

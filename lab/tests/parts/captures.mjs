@@ -42,8 +42,8 @@ export async function found(browser, shot, examples) {
   await browser.says('fault-text', /^19 places are marked\.$/);
   await browser.evaluate('document.getElementById("fault-next").focus()');
   await browser.write('\n');
-  await browser.says('fault-text', /^2 of 19, at 47\.188 ms: The clock is high for 52\.8 µs\. It must be 30 to 50 µs\.$/);
-  for (const [button, at] of [['before', 1], ['before', 19], ['next', 1]]) {
+  await browser.says('fault-text', /^1 of 19, at 47\.083 ms: The clock is low for 52\.8 µs\. It must be 30 to 50 µs\.$/);
+  for (const [button, at] of [['before', 19], ['next', 1], ['next', 2]]) {
     await browser.click(`#fault-${button}`);
     await browser.says('fault-text', new RegExp(`^${at} of 19, `));
   }
@@ -121,6 +121,7 @@ export async function refused(browser, folder) {
   closeSync(long);
   await openFile(browser, join(folder, 'long.csv'), /^it has 257 MB; this page reads at most 256 MB/);
   assert.equal(await browser.textOf('capture-head'), 'The capture long.csv');
+  assert.equal(await browser.valueOf('shown'), 'what I type');
   await openFile(browser, file('unknown.vcd', `${head}#0 1c 1d\n#100 0c\n#140 1c\n#300 xd\n`), /^The signals have the names clock and data\. line 5: a wire has a level that is neither 0 nor 1; what was found before it is shown\.$/);
   await browser.says('found', /^100\.000 edge without a start bit\n/);
   await browser.says('fault-text', /^1 place is marked\.$/);
