@@ -1,24 +1,18 @@
-// A capture of real wires in the pane of the wires: what is found in it, the faults one by one, and a right keyboard beside it.
-import { edgesOf, strokesFile } from './captures/strokes.js';
-import { PackedEdges, sideBySide } from './captures/packed_edges.js';
-import { byId, setText, tell } from './dom.js';
+// A capture of real wires in the pane of the wires: how it is opened, what is found in it, and its faults one by one.
 import { kindOfFile } from './boards/file_kinds.js';
+import { PackedEdges } from './captures/packed_edges.js';
+import { byId, setText, tell } from './dom.js';
 import { files } from './files.js';
-import { CYCLES_OF_A_MS, FIRST_STAMP } from './live.js';
+import { CYCLES_OF_A_MS } from './live.js';
 import { LongText } from './long_text.js';
 import { Screen } from './pc.js';
-import { keysOf } from './places.js';
 import { explained } from './program.js';
 import { EXIT } from './refusals.js';
+import { RightKeyboard } from './right_keyboard.js';
 import { runs } from './runs.js';
-import { putMade } from './taking.js';
-import { Waveform } from './waveform.js';
 
-// The code of set 2 that each of the 84 keys sends, by its name.
-const CODES_OF_KEYS = JSON.parse(byId('codes').textContent);
 const MOST_OF_A_CAPTURE = 256 << 20, BEGINNING = 64; // bytes
-const NS_OF_ONE_CYCLE = 2500, STROKES = 'captured.keys';
-const NO_WIRES = { edges: [], bytes: [], cycle: 0 };
+const NS_OF_ONE_CYCLE = 2500;
 const DRAGGED = 5; // pixels
 const ZIP = 'it is a ZIP archive', SESSION = 'if it is a session of sigrok, `sigrok-cli -i FILE -O vcd` makes a dump of it';
 
@@ -26,25 +20,24 @@ const ZIP = 'it is a ZIP archive', SESSION = 'if it is a session of sigrok, `sig
 export const isCaptureName = name => /\.(vcd|csv|sr)$/i.test(name);
 
 export class CapturePane {
-  /** `wave` draws the wires; `opened()` answers the layout that the keyboard has, { name, text }; `show(name)` chooses a capture, or
-      none of null. */
+  /** `wave` draws the wires; `opened()` answers the layout that the keyboard has, { name, text }; `show(name)` chooses a capture,
+      or none if the name is null. */
   constructor({ wave, opened, show }) {
-    Object.assign(this, { wave, opened, show, taken: new Map(), name: null, captured: null, turn: 0, turnBeside: 0, isBeside: false });
-    this.found = new LongText(byId('found'));
-    this.beside = new Waveform(byId('beside-wave'), () => NO_WIRES);
-    wave.onMoved = () => { if (this.isBeside) this.beside.follow(wave); };
+    Object.assign(this, { wave, show, taken: new Map(), name: null, captured: null, turn: 0 });
+    this.text = new LongText(byId('found'));
+    this.right = new RightKeyboard(wave, opened);
     wave.onDrawn = () => this.#sayTimes();
-    this.beside.onMoved = () => wave.follow(this.beside);
     byId('open-capture').onchange = ({ target }) => {
       const list = [...target.files];
       target.value = '';
       this.take(list);
     };
-    for (const id of ['capture-clock', 'capture-data']) byId(id).onchange = ({ target }) => this.#choose(id, Number(target.value));
+    byId('capture-clock').onchange = ({ target }) => this.#choose({ clock: Number(target.value) });
+    byId('capture-data').onchange = ({ target }) => this.#choose({ data: Number(target.value) });
     byId('capture-exchange').onclick = () => this.#open({ clock: this.captured.data, data: this.captured.clock });
     byId('fault-before').onclick = () => this.#step(-1);
     byId('fault-next').onclick = () => this.#step(1);
-    byId('hold-against').onclick = () => this.#holdAgainst();
+    byId('hold-against').onclick = () => this.right.hold({ name: this.name, edges: this.edges, found: this.captured.found });
     this.#listen(byId('wave'));
   }
 
@@ -80,19 +73,11 @@ export class CapturePane {
 
   /** Shows a capture, or none. */
   open(name) {
-    this.#close();
-    this.name = name;
-    if (name !== null) this.#open(null);
-  }
-
-  /** Another layout is open: what is beside the capture was another one's. */
-  begin() { this.#hideBeside(); }
-
-  #close() {
     this.turn++;
-    Object.assign(this, { captured: null, name: null });
-    this.#hideBeside();
+    Object.assign(this, { captured: null, name });
+    this.right.hide();
     for (const id of ['capture', 'capture-body']) byId(id).hidden = true;
+    if (name !== null) this.#open(null);
   }
 
   #head(name, text, right) {
@@ -118,111 +103,80 @@ export class CapturePane {
   }
 
   #showAll(captured) {
-    const { names, clock, data, told, text, exit, times, levels, found } = captured, words = exit === EXIT.DONE ? null : explained(captured)?.words ?? text;
+    const { names, clock, data, text, times, levels, found } = captured, { bytes, marks, words } = found;
     this.captured = captured;
-    const sentences = [...told, ...words === null ? [] : [text.includes('\n', text.indexOf('\n') + 1) ? `${words}; what was found before it is shown` : words]];
-    this.#head(this.name, sentences.map(it => `${it}.`).join(' '), words === null ? undefined : false);
-    this.#hideBeside();
+    this.edges = new PackedEdges({ cycles: Float64Array.from(times, it => it / NS_OF_ONE_CYCLE), levels });
+    this.#sayHow(captured);
+    this.right.hide();
     for (const [id, chosen] of [['capture-clock', clock], ['capture-data', data]]) {
       byId(id).replaceChildren(...names.map((it, at) => new Option(it, at)));
       byId(id).value = String(chosen);
     }
-    this.edges = new PackedEdges({ cycles: Float64Array.from(times, it => it / NS_OF_ONE_CYCLE), levels });
-    this.#picture(this.edges, found);
-    this.found.show(text);
-    this.#screen(found.words);
     byId('capture-body').hidden = names.length < 2;
-    for (const id of ['fault-before', 'fault-next']) byId(id).disabled = !found.marks.length;
-    const { marks: { length: many }, unmarked } = found;
-    setText(byId('fault-text'), many ? `${many + unmarked} place${many + unmarked === 1 ? ' is' : 's are'} marked${unmarked ? `, the first ${many} of them in the picture` : ''}.` : 'Nothing is marked.');
-    this.wave.lookAt((found.marks[0] ?? found.bytes[0])?.begin ?? 0);
+    this.text.show(text);
+    showWords(words);
+    this.wave.show({ edges: this.edges, bytes, marks, cycle: (this.edges.at(-1)?.cycle ?? 0) + CYCLES_OF_A_MS });
+    this.wave.lookAt((marks[0] ?? bytes[0])?.begin ?? 0);
+    for (const id of ['fault-before', 'fault-next']) byId(id).disabled = !marks.length;
+    setText(byId('fault-text'), saysOfMarks(found));
   }
 
-  #picture(edges, { bytes, marks }) { this.wave.show({ edges, bytes, marks, cycle: (edges.at(-1)?.cycle ?? 0) + CYCLES_OF_A_MS }); }
-
-  #screen(words) {
-    const screen = new Screen(byId('captured-screen'));
-    for (const word of words) screen.put(word & 0xFF);
-    screen.draw();
+  // How the signals were guessed, and the fault of a dump that has one.
+  #sayHow({ told, exit, text }) {
+    const isRight = exit === EXIT.DONE, sentences = [...told];
+    if (!isRight) {
+      const words = explained({ exit, text })?.words ?? text.trimEnd(), isFirstLine = text.indexOf('\n') === text.length - 1;
+      sentences.push(isFirstLine ? words : `${words}; what was found before it is shown`);
+    }
+    this.#head(this.name, sentences.map(it => `${it}.`).join(' '), isRight ? undefined : false);
   }
 
-  // A signal was chosen: if it is the other one's, the two are exchanged.
-  #choose(id, at) {
-    const { clock, data } = this.captured;
-    if (id === 'capture-clock') this.#open({ clock: at, data: at === data ? clock : data });
-    else this.#open({ clock: at === clock ? data : clock, data: at });
+  // A signal was chosen. If it is the other one's, the two are exchanged.
+  #choose(other) {
+    const { clock, data } = this.captured, chosen = { clock, data, ...other };
+    this.#open(chosen.clock === chosen.data ? { clock: data, data: clock } : chosen);
   }
 
   #step(by) {
     const { marks } = this.captured.found, at = marks.indexOf(this.wave.chosen);
-    this.#mark(marks[at < 0 ? (by > 0 ? 0 : marks.length - 1) : (at + by + marks.length) % marks.length]);
+    const next = at < 0 ? Math.min(0, by) : at + by;
+    this.#mark(marks.at(next % marks.length));
   }
 
   // Goes to a mark, and says its sentence.
   #mark(mark) {
-    this.wave.choose(mark);
     const { marks } = this.captured.found;
+    this.wave.choose(mark);
     setText(byId('fault-text'), `${marks.indexOf(mark) + 1} of ${marks.length}, at ${msOf(mark.begin)} ms: ${mark.sentence}`);
   }
 
   #sayTimes() {
-    const { seen } = this.wave;
-    setText(byId('capture-at'), this.captured ? `${msOf(seen.from)} to ${msOf(seen.to)} ms` : '');
-  }
-
-  #hideBeside() {
-    this.turnBeside++;
-    this.isBeside = false;
-    this.beside.show(null);
-    for (const id of ['beside-wave', 'beside-note']) byId(id).hidden = true;
-    setText(byId('held'), '');
-  }
-
-  // The same strokes on the layout that the keyboard has, run by the program; both pictures have one scale of time.
-  async #holdAgainst() {
-    const { name, text } = this.opened(), { found } = this.captured, turn = ++this.turnBeside, keys = keysOf(text).filter(it => !it.fn);
-    const byCode = new Map(keys.filter(it => it.sends in CODES_OF_KEYS).reverse().map(it => [CODES_OF_KEYS[it.sends], it.name]));
-    const { edges, strange } = edgesOf(found.bytes, code => byCode.get(code));
-    const without = strange.length ? ` ${name} has no key for ${strange.join(', ')}.` : '';
-    if (!edges.length) {
-      tell(byId('held'), `No stroke of a key of ${name} is in it.${without}`, false);
-      return;
-    }
-    tell(byId('held'), 'It runs ..');
-    const { text: keyFile, begins, left } = strokesFile(edges);
-    putMade(STROKES, keyFile, this.name);
-    const run = await runs.run(['trace', name, STROKES], { [name]: text, [STROKES]: keyFile });
-    if (turn !== this.turnBeside) return;
-    if (!run || run.exit !== EXIT.DONE) tell(byId('held'), run ? explained(run)?.words ?? run.text : 'It was stopped.', false);
-    else {
-      this.#showBeside(run.traced, begins + FIRST_STAMP, edges[0].begin);
-      const presses = edges.slice(0, edges.length - left).filter(it => it.down).length;
-      tell(byId('held'), `${presses} stroke${presses === 1 ? '' : 's'} on ${name}; ${STROKES} has them.${left ? ` The last ${left} presses and releases are left out: a key file has at most 600 seconds.` : ''}${without}`);
-    }
-  }
-
-  // The wires of a run from the cycle of its first stroke on. Their first byte is drawn where the capture's byte of that stroke begins.
-  #showBeside({ edges, bytes }, from, begin) {
-    const { edges: own, captured: { found } } = this, { chosen } = this.wave, sent = bytes.filter(it => it.begin >= from), later = begin - sent[0].begin;
-    const all = Array.from({ length: edges.length }, (_, at) => edges.at(at)).filter(it => it.cycle >= from);
-    const right = new PackedEdges({ cycles: Float64Array.from(all, it => it.cycle + later), levels: Uint8Array.from(all, it => it.levels) });
-    const [capture, other] = sideBySide(own, right);
-    this.#picture(capture, found);
-    this.isBeside = true;
-    for (const id of ['beside-wave', 'beside-note']) byId(id).hidden = false;
-    this.beside.show({ edges: other, cycle: capture.at(-1).cycle + CYCLES_OF_A_MS, bytes: sent.map(it => ({ ...it, begin: it.begin + later, end: it.end + later })) });
-    if (chosen) this.wave.choose(chosen);
-    else this.wave.lookAt(begin);
+    const { from, to } = this.wave.seen;
+    setText(byId('capture-at'), this.captured ? `${msOf(from)} to ${msOf(to)} ms` : '');
   }
 }
 
 // Refuses a file that is too long for this page, or whose first bytes say that it is no text.
 async function judgeFile(file) {
   if (file.size > MOST_OF_A_CAPTURE) {
-    throw new Error(`it has ${Math.ceil(file.size / (1 << 20))} MB; this page reads at most 256 MB, and kbd48 capture on a command line less than 4 GB`);
+    const size = Math.ceil(file.size / (1 << 20));
+    throw new Error(`it has ${size} MB; this page reads at most 256 MB, and kbd48 capture on a command line less than 4 GB`);
   }
   const kind = kindOfFile(new Uint8Array(await file.slice(0, BEGINNING).arrayBuffer()), file.name);
   if (kind) throw new Error(kind.startsWith(ZIP) ? `${ZIP}; ${SESSION.replace('FILE', file.name)}` : kind);
+}
+
+// What the words that INT 09h entered put on a PC's screen.
+function showWords(words) {
+  const screen = new Screen(byId('captured-screen'));
+  for (const word of words) screen.put(word & 0xFF);
+  screen.draw();
+}
+
+function saysOfMarks({ marks: { length: many }, unmarked }) {
+  if (!many) return 'Nothing is marked.';
+  const all = many + unmarked, said = `${all} place${all === 1 ? ' is' : 's are'} marked`;
+  return unmarked ? `${said}, the first ${many} of them in the picture.` : `${said}.`;
 }
 
 const msOf = cycle => (cycle / CYCLES_OF_A_MS).toFixed(3);

@@ -50,7 +50,8 @@ export class Waveform {
   zoomBy(factor) {
     this.zoom = Math.min(MOST_ZOOM, Math.max(LEAST_ZOOM, this.zoom * factor));
     // What is in the middle of a picture that stays, stays there.
-    if (this.shown && this.places) this.#aimAt([...this.places].find(([, x]) => x <= this.size[0] / 2)?.[0] ?? 0);
+    const middle = this.shown && [...this.places ?? []].find(([, x]) => x <= this.size[0] / 2);
+    if (middle) this.#aimAt(middle[0]);
     this.draw();
     this.onMoved();
   }
@@ -77,7 +78,12 @@ export class Waveform {
   }
 
   /** The mark at so many pixels from the left, or undefined. */
-  markAt(x) { return this.#seenMarks().findLast(mark => x >= this.places.get(mark.begin) - NEAR_MARK && x <= Math.max(this.places.get(mark.begin), this.places.get(mark.end) ?? 0) + NEAR_MARK); }
+  markAt(x) {
+    return this.#seenMarks().findLast(({ begin, end }) => {
+      const left = this.places.get(begin), right = Math.max(left, this.places.get(end) ?? this.size[0]);
+      return x >= left - NEAR_MARK && x <= right + NEAR_MARK;
+    });
+  }
 
   /** Keeps what is shown now, whatever passes. */
   set paused(paused) {
@@ -127,7 +133,11 @@ export class Waveform {
       return;
     }
     const wide = n => Math.min(LONG, (edges.at(n + 1)?.cycle ?? cycle) - edges.at(n).cycle) * this.zoom;
-    if (this.aim !== null) Object.assign(this, { right: Math.min(this.aim, edges.length - 1), aim: null, back: wide(Math.min(this.aim, edges.length - 1)) + AT_RIGHT - width / 2 });
+    if (this.aim !== null) {
+      this.right = Math.min(this.aim, edges.length - 1);
+      this.back = wide(this.right) + AT_RIGHT - width / 2;
+      this.aim = null;
+    }
     for (; this.right > 0 && this.back - AT_RIGHT > wide(this.right); this.right--) this.back -= wide(this.right);
     while (this.back < 0 && this.right < edges.length - 1) this.back += wide(++this.right);
     this.back = Math.max(0, this.right === 0 ? Math.min(this.back, wide(0)) : this.back);

@@ -60,10 +60,10 @@ export class WiresPane {
     byId('noise').onclick = () => live().flip(Number(byId('noisy-bit').value));
   }
 
-  /** Another keyboard runs. A capture stays in sight. */
+  /** Another keyboard runs. A capture stays in sight, without what is beside it: that was the other keyboard. */
   begin() {
     if (this.capture.name === null) this.#choose(LIVE);
-    else this.capture.begin();
+    else this.capture.right.hide();
   }
 
   // What may be shown: what one types, the runs of key files, and captures.

@@ -10,8 +10,8 @@ const DOLLAR_SIGN = 36, BLANK = 32;
 
 const isDump = (name, bytes) => /\.vcd$/i.test(name) || bytes[bytes.findIndex(it => it > BLANK)] === DOLLAR_SIGN;
 
-// The two wires of a dump by the names that the program takes without words; or those that are guessed. Of a dump the program says
-// what is wrong, so nothing is refused here.
+// The two wires of a dump by the names that the program takes without words, or as they are guessed. The program says what is
+// wrong with a dump, so nothing is refused here.
 function wiresOfDump(recording) {
   const [clock, data] = NAMES.map(it => recording.names.indexOf(it));
   if (clock >= 0 && data >= 0) return { clock, data, told: ['The signals have the names clock and data'] };
@@ -23,15 +23,15 @@ function wiresOfDump(recording) {
   }
 }
 
-/** What is in a capture, by its name and bytes: { names, clock, data, told, exit, text, times, levels, found }; or { refused }, which says why
-    nothing is. `chosen` has the places of both signals among the names, or is null: then they are guessed, which `told` says. */
+/** What is in a capture, by its name and bytes: { names, clock, data, told, exit, text, times, levels, found }; or { refused }, which
+    says why nothing is. `chosen` has the places of both signals among the names, or is null. Then they are guessed, which `told` says. */
 export function captureOf(program, { name, bytes, chosen }) {
   try {
-    const isOfSignals = isDump(name, bytes), recording = isOfSignals ? vcdRecording(bytes) : csvRecording(bytes), { names } = recording;
-    const { clock, data, told = [] } = chosen ?? (isOfSignals ? wiresOfDump(recording) : recording.guess());
+    const hasSignals = isDump(name, bytes), recording = hasSignals ? vcdRecording(bytes) : csvRecording(bytes), { names } = recording;
+    const { clock, data, told = [] } = chosen ?? (hasSignals ? wiresOfDump(recording) : recording.guess());
     const wires = names.length ? recording.wires(clock, data) : { times: new Float64Array(), levels: new Uint8Array() };
-    const words = isOfSignals && names.length && (names[clock] !== NAMES[0] || names[data] !== NAMES[1]) ? [names[clock], names[data]] : [];
-    const { exit, text } = program.run(['capture', DUMP, ...words], { [DUMP]: isOfSignals ? bytes : dumpOf(wires) });
+    const signals = hasSignals && names.length ? [names[clock], names[data]] : NAMES, words = signals.join() === NAMES.join() ? [] : signals;
+    const { exit, text } = program.run(['capture', DUMP, ...words], { [DUMP]: hasSignals ? bytes : dumpOf(wires) });
     return { names, clock, data, told, exit, text, ...wires, found: foundIn(text, wires) };
   } catch (fault) {
     if (!(fault instanceof Refused)) throw fault;

@@ -1,5 +1,5 @@
-// Tables of samples, as analysers save them: of Saleae's Logic, with a time in seconds and a level a channel; or of sigrok, with a
-// level a channel for each sample, and the sample rate in a comment. The rules are those of examples/captured.
+// Tables of samples, as analysers save them. Saleae's Logic writes a time in seconds and a level a channel; sigrok writes a level a
+// channel for each sample, and the sample rate in a comment. The rules are those of examples/captured.
 import { Refused } from '../boards/refused.js';
 import { Recording } from './recording.js';
 
@@ -54,30 +54,34 @@ class Table {
   /** The fields of a line. */
   fields({ from, end }) { return fieldsOf(this.#text(from, end)); }
 
-  /** Reads the levels of a line, from this place on. It refuses another number of fields than there are levels; `more` is how many
-      fields came before. */
-  levels(row, at, levels, more, first) {
-    const { bytes } = this;
-    // Nearly all lines have digits and commas alone.
-    if (row.end - at === 2 * levels.length - 1) {
-      let isPlain = true;
-      for (let n = 0; n < levels.length && isPlain; n++) {
-        const digit = bytes[at + 2 * n];
-        isPlain = (digit === ZERO_DIGIT || digit === ONE_DIGIT) && (n === levels.length - 1 || bytes[at + 2 * n + 1] === COMMA);
-        levels[n] = digit - ZERO_DIGIT;
-      }
-      if (isPlain) return;
-    }
-    const fields = this.fields(row);
-    if (fields.length !== levels.length + more) throw new Refused(`line ${this.line}: ${fields.length} fields, and ${first} ${levels.length + more}`);
+  /** Reads the levels of a line, from the place `at` on, before which it has `more` fields. It refuses another number of fields than
+      `first` says, and a field that is no level. */
+  levels(row, at, levels, { more, first }) {
+    if (this.#plainLevels(row, at, levels)) return;
+    const fields = this.fields(row), wanted = levels.length + more;
+    if (fields.length !== wanted) throw new Refused(`line ${this.line}: ${fields.length} fields, and ${first} ${wanted}`);
     fields.slice(more).forEach((field, n) => { levels[n] = levelOf(field, this.line); });
+  }
+
+  // Nearly all lines have digits and commas alone, so these are read without making texts. Whether this line is one.
+  #plainLevels({ end }, at, levels) {
+    const { bytes } = this;
+    if (end - at !== 2 * levels.length - 1) return false;
+    for (let n = 0; n < levels.length; n++) {
+      const digit = bytes[at + 2 * n];
+      if (digit !== ZERO_DIGIT && digit !== ONE_DIGIT) return false;
+      if (n > 0 && bytes[at + 2 * n - 1] !== COMMA) return false;
+      levels[n] = digit - ZERO_DIGIT;
+    }
+    return true;
   }
 }
 
 /** The fields of a line, which may be in quotes. */
 function fieldsOf(text) {
   if (!text.includes('"')) return text.split(',');
-  return Array.from(text.matchAll(/(?:^|,)(?:"((?:[^"]|"")*)"([^,]*)|([^,]*))/g), ([, quoted, rest, plain]) => (quoted === undefined ? plain : quoted.replaceAll('""', '"') + rest));
+  const fieldOf = ([, quoted, rest, plain]) => (quoted === undefined ? plain : quoted.replaceAll('""', '"') + rest);
+  return Array.from(text.matchAll(/(?:^|,)(?:"((?:[^"]|"")*)"([^,]*)|([^,]*))/g), fieldOf);
 }
 
 function levelOf(field, line) {
@@ -89,12 +93,12 @@ function levelOf(field, line) {
 function ofSaleae(table) {
   const top = table.take();
   if (!top) throw new Refused('the file has no samples');
-  const head = table.fields(top), first = `line ${table.line} has`, recording = new Recording(head.slice(1).map(it => it.trim()));
-  const levels = new Uint8Array(head.length - 1);
+  const head = table.fields(top), recording = new Recording(head.slice(1).map(it => it.trim()));
+  const levels = new Uint8Array(head.length - 1), form = { more: 1, first: `line ${table.line} has` };
   for (let row; (row = table.take()) !== null;) {
-    const comma = table.bytes.indexOf(COMMA, row.from);
-    table.levels(row, comma < 0 || comma >= row.end ? row.end : comma + 1, levels, 1, first);
-    const [seconds] = table.fields({ from: row.from, end: comma < 0 || comma >= row.end ? row.end : comma });
+    const comma = table.bytes.subarray(row.from, row.end).indexOf(COMMA), end = comma < 0 ? row.end : row.from + comma;
+    table.levels(row, end + 1, levels, form);
+    const [seconds] = table.fields({ from: row.from, end });
     if (!SECONDS.test(seconds)) throw new Refused(`line ${table.line}: '${seconds}' is no time in seconds`);
     recording.sample(wholeTime(Number(seconds) * NS_OF_A_SECOND, table.line), levels);
   }
@@ -102,19 +106,24 @@ function ofSaleae(table) {
 }
 
 function ofSigrok(table) {
-  const rate = table.comments.map(it => RATE.exec(it)).filter(Boolean).map(([, number, unit]) => Number(number) * HERTZ[unit.toLowerCase()])[0];
-  if (!(rate >= 1)) throw new Refused('no comment says the sample rate: sigrok writes one, \'; Samplerate: 1 MHz\'');
+  const said = table.comments.map(it => RATE.exec(it)).find(Boolean), rate = said ? Number(said[1]) * HERTZ[said[2].toLowerCase()] : 0;
+  if (rate < 1) throw new Refused('no comment says the sample rate: sigrok writes one, \'; Samplerate: 1 MHz\'');
   let row = table.take();
   if (row && !/^\s*[01]*\s*$/.test(table.fields(row).join(''))) row = table.take();
   if (!row) throw new Refused('the file has no samples');
-  const width = table.fields(row).length, said = table.comments.map(it => CHANNEL_NAMES.exec(it)?.[1]).find(Boolean) ?? '';
-  const names = said.split(',').map(it => it.trim()).filter(Boolean);
-  const recording = new Recording(names.length === width ? names : Array.from({ length: width }, (_, at) => `D${at}`)), levels = new Uint8Array(width);
+  const levels = new Uint8Array(table.fields(row).length), form = { more: 0, first: 'the first sample has' };
+  const recording = new Recording(namesOfSigrok(table.comments, levels.length));
   for (let place = 0; row !== null; row = table.take(), place++) {
-    table.levels(row, row.from, levels, 0, 'the first sample has');
+    table.levels(row, row.from, levels, form);
     recording.sample(wholeTime(place * NS_OF_A_SECOND / rate, table.line), levels);
   }
   return withSamples(recording);
+}
+
+/** The names of so many channels: those that a comment says, if it says as many. */
+function namesOfSigrok(comments, many) {
+  const said = comments.map(it => CHANNEL_NAMES.exec(it)?.[1]).find(Boolean) ?? '', names = said.split(',').map(it => it.trim()).filter(Boolean);
+  return names.length === many ? names : Array.from({ length: many }, (_, at) => `D${at}`);
 }
 
 function withSamples(recording) {

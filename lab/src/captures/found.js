@@ -5,7 +5,8 @@ const NS_OF_A_US = 1000, NS_OF_A_CYCLE = 2500;
 const SHORTEST_LOW = 5000; // ns: a shorter pulse of the clock is none of a frame
 const ELEVEN = 11, MOST_MARKS = 100_000;
 const LINE = /^(\d+)\.(\d{3}) (.*)$/;
-const FRAME_LINE = /^(keyboard|host) ([0-9A-F]{2})(?:, (.*))?$/, PART = /^(keyboard|host) (only|broken off after|unfinished after) (\d+) of 11 edges$/;
+const FRAME_LINE = /^(keyboard|host) ([0-9A-F]{2})(?:, (.*))?$/;
+const PART = /^(keyboard|host) (only|broken off after|unfinished after) (\d+) of 11 edges$/;
 const AGAIN_LINE = /^asks for ([0-9A-F]{2}) again$/, WORD_LINE = /^word ([0-9A-F]{4})$/;
 
 const THE_SENDER = { keyboard: 'the keyboard', host: 'the PC' };
@@ -19,23 +20,23 @@ const PARTS = {
   'broken off after': (who, many) => `The PC held the clock when the frame of ${who} had ${many} of 11 edges.`,
   'unfinished after': (who, many) => `The capture ends within a frame of ${who}, after ${many} of 11 edges.`,
 };
+const outside = (what, time, limits) => `${what} ${Number(time)} µs. It must be ${limits} µs.`;
 // Other lines that are marked, each with its sentence.
 const SENTENCES = [
   [AGAIN_LINE, byte => `The PC sent FE: it asks for the byte ${byte} again.`],
   [/^edge without a start bit$/, () => 'The clock falls while data is high, so no frame begins.'],
   [/^pulse too short$/, () => 'The clock is low for at most 5 µs, which is too short for a bit.'],
   [/^clock stays low$/, () => 'The clock stays low up to the end of the capture.'],
-  [/^clock (low|high) for ([\d.]+), not (\d+) to (\d+)$/, (level, time, least, most) => `The clock is ${level} for ${shorter(time)} µs. It must be ${least} to ${most} µs.`],
-  [/^data changed ([\d.]+) before the fall, not (\d+) or more$/, (time, least) => `Data changes ${shorter(time)} µs before the clock falls. It must be ${least} µs or more.`],
-  [/^hold of ([\d.]+), not (\d+) or more$/, (time, least) => `The PC holds the clock for ${shorter(time)} µs. It must be ${least} µs or more.`],
+  [/^clock (low|high) for ([\d.]+), not (\d+ to \d+)$/, (level, time, limits) => outside(`The clock is ${level} for`, time, limits)],
+  [/^data changed ([\d.]+) before the fall, not (\d+ or more)$/, (time, limits) => outside('Data changes before the clock falls, by', time, limits)],
+  [/^hold of ([\d.]+), not (\d+ or more)$/, (time, limits) => outside('The PC holds the clock for', time, limits)],
 ];
 
-const shorter = time => String(Number(time));
 const capital = text => text[0].toUpperCase() + text.slice(1);
 
-/** What a capture's text says: { bytes, marks, words }, in cycles of 2.5 microseconds. Of a frame that isn't right a byte has
-    `fault`. A mark is a place with a sentence: { begin, end, sentence }; at most 100,000 are kept, and `unmarked` counts the others. `wires`
-    has the changes that the text is about, { times, levels }. */
+/** What a capture's text says: { bytes, marks, words, unmarked }, in cycles of 2.5 microseconds. The byte of a frame that isn't right
+    has `fault`. A mark is a place with a sentence, { begin, end, sentence }. At most 100,000 are kept, and `unmarked` counts the
+    others. `wires` has the changes that the text is about, { times, levels }. */
 export function foundIn(text, wires) {
   const found = { bytes: [], marks: [], words: [], unmarked: 0 };
   for (let from = 0, end; from < text.length; from = end + 1) {
@@ -58,7 +59,8 @@ function readLine(found, time, said, wires) {
   if (line) {
     const [, sender, byte, fault] = line, end = endAfter(ELEVEN);
     found.bytes.push({ begin, end, sender, byte: Number.parseInt(byte, 16), ...(fault && { fault }) });
-    if (fault) mark(`${capital(THE_SENDER[sender])} sends ${byte}, and ${fault.split(', ').map(it => FRAME_FAULTS[it] ?? it).join(', and ')}.`, end);
+    const faults = fault?.split(', ').map(it => FRAME_FAULTS[it] ?? it).join(', and ');
+    if (fault) mark(`${capital(THE_SENDER[sender])} sends ${byte}, and ${faults}.`, end);
     return;
   }
   line = PART.exec(said);

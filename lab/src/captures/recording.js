@@ -13,7 +13,8 @@ export class Recording {
   /** Channels of these names, which have no sample yet. `times` has the time of each sample at which a channel changes, and of
       the first, in nanoseconds. Of a channel `first` is its level at first, and `changes` has the places in `times`. */
   constructor(names) {
-    Object.assign(this, { names, times: [], channels: names.map(() => ({ first: 1, changes: [] })), last: new Uint8Array(names.length) });
+    const channels = names.map(() => ({ first: 1, changes: [] }));
+    Object.assign(this, { names, times: [], channels, last: new Uint8Array(names.length) });
   }
 
   /** The next sample: its time, and the level of each channel, 0 or 1. */
@@ -83,7 +84,10 @@ export class Recording {
 
 // The first of these places with the greatest measure, a list of numbers.
 function greatestOf(places, measure) {
-  const isGreater = (one, other) => { const at = one.findIndex((it, n) => it !== other[n]); return at >= 0 && one[at] > other[at]; };
+  const isGreater = (one, other) => {
+    const at = one.findIndex((it, n) => it !== other[n]);
+    return at >= 0 && one[at] > other[at];
+  };
   return places.reduce((best, place) => (isGreater(measure(place), measure(best)) ? place : best));
 }
 

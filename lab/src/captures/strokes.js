@@ -3,7 +3,8 @@
 const BREAK_PREFIX = 0xF0, EXTENDED = [0xE0, 0xE1], RESEND = 0xFE;
 // What a keyboard sends that is no key's: it answers, or says how its test ended.
 const NO_KEYS = new Set([0x00, 0xAA, 0xEE, 0xFA, 0xFC, 0xFE, 0xFF]);
-const BEGINS = 163_840, AFTER = 40_000; // stamps: of the first stroke, when the self-test is over; and from the last one to the end
+// Stamps: of the first stroke, when the self-test is over; and from the last one to the end.
+const BEGINS = 163_840, AFTER = 40_000;
 // What a key file's history keeps: two edges of one key, and the first and the fifth in a row, are so far apart.
 const APART = 2240, IN_A_ROW = 4;
 const MOST_EDGES = 65_536, LATEST_STAMP = 240_000_000;
@@ -55,7 +56,8 @@ const byteText = byte => byte.toString(16).toUpperCase().padStart(2, '0');
 export function strokesFile(edges) {
   const stamps = [], lastOf = new Map(), [first] = edges;
   for (const { begin, name } of edges) {
-    const stamp = Math.max(BEGINS + Math.round(begin - first.begin), stamps.at(-1) ?? 0, (lastOf.get(name) ?? -APART) + APART, (stamps.at(-IN_A_ROW) ?? -APART) + APART);
+    const soonest = [stamps.at(-1) ?? 0, ...[lastOf.get(name), stamps.at(-IN_A_ROW)].map(it => (it ?? -APART) + APART)];
+    const stamp = Math.max(BEGINS + Math.round(begin - first.begin), ...soonest);
     if (stamps.length === MOST_EDGES || stamp > LATEST_STAMP) break;
     stamps.push(stamp);
     lastOf.set(name, stamp);

@@ -19,7 +19,9 @@ export function vcdRecording(bytes) {
 
 class DumpReader {
   // `places` has the signals of each code, and `short` those of a code of one character.
-  constructor(bytes) { Object.assign(this, { bytes, from: 0, to: 0, scale: 1, names: [], places: new Map(), short: [], recording: null, now: 0, levels: null }); }
+  constructor(bytes) {
+    Object.assign(this, { bytes, from: 0, to: 0, scale: 1, names: [], places: new Map(), short: [], recording: null, now: 0, levels: null });
+  }
 
   /** Goes to the next word. Whether there is one. */
   take() {
@@ -43,7 +45,10 @@ class DumpReader {
   }
 
   // The signals of the code after the first character.
-  #signals() { return (this.to - this.from === 2 ? this.short[this.bytes[this.from + 1]] : this.places.get(this.#word(1))) ?? NO_SIGNALS; }
+  #signals() {
+    const isShort = this.to - this.from === 2;
+    return (isShort ? this.short[this.bytes[this.from + 1]] : this.places.get(this.#word(1))) ?? NO_SIGNALS;
+  }
 
   // The words up to `$end`.
   #section() {

@@ -71,23 +71,23 @@ export async function signals(browser, examples) {
 export async function beside(browser, shot) {
   await browser.click('#hold-against');
   await browser.says('held', /^2 strokes on us84\.toml; captured\.keys has them\.$/);
-  assert.equal(await bytesOf(browser, 'lab.wires.capture.beside'), '12,33,F0,33,F0,12');
+  assert.equal(await bytesOf(browser, 'lab.wires.capture.right.beside'), '12,33,F0,33,F0,12');
   assert.match(await browser.evaluate('lab.files["captured.keys"]'), /^163840 press lshift\n182273 press h\n202753 release h\n223232 release lshift\n263232 end\n$/);
   assert.match(await browser.evaluate('lab.program.run(["run", "us84.toml", "captured.keys"], lab.files).text'), /word 2348/);
   const alike = async () => assert.ok(await browser.evaluate(`(() => {
-    const { wires: { wave, capture: { beside } } } = lab, at = it => [it.zoom, it.right, it.back, it.shown.edges.length].join();
+    const { wires: { wave, capture: { right: { beside } } } } = lab, at = it => [it.zoom, it.right, it.back, it.shown.edges.length].join();
     return at(wave) === at(beside) && [...wave.places].join() === [...beside.places].join();
   })()`), 'both pictures have the same stretches');
   await alike();
   const before = await browser.evaluate('lab.wires.wave.zoom');
   await browser.click('#zoom-in');
-  assert.equal(await browser.evaluate('lab.wires.capture.beside.zoom'), 2 * before);
+  assert.equal(await browser.evaluate('lab.wires.capture.right.beside.zoom'), 2 * before);
   await alike();
   await browser.evaluate('document.getElementById("beside-wave").focus()');
   await browser.stroke('ArrowLeft', 5);
   await alike();
   // The first byte of both is at one place, and no other is more than a tick away.
-  const late = await browser.evaluate('lab.wires.capture.beside.shown.bytes.map((it, at) => it.begin - lab.wires.wave.shown.bytes[at].begin)');
+  const late = await browser.evaluate('lab.wires.capture.right.beside.shown.bytes.map((it, at) => it.begin - lab.wires.wave.shown.bytes[at].begin)');
   assert.ok(late[0] === 0 && late.every(it => Math.abs(it) <= TICK_OF_CYCLES), late.join());
   await shot('beside');
   await browser.size(NARROW, 2, true);
