@@ -121,9 +121,10 @@ export class CapturePane {
     setText(byId('fault-text'), saysOfMarks(found));
   }
 
-  // How the signals were guessed, and the fault of a dump that has one.
-  #sayHow({ told, exit, text }) {
+  // How the signals were guessed, whether it is another kind of keyboard, and the fault of a dump that has one.
+  #sayHow({ told, exit, text, found }) {
     const isRight = exit === EXIT.DONE, sentences = [...told];
+    if (found.isOfSet1) sentences.push('These are codes of set 1: it is an XT keyboard, which no AT reads');
     if (!isRight) {
       const words = explained({ exit, text })?.words ?? text.trimEnd(), isFirstLine = text.indexOf('\n') === text.length - 1;
       sentences.push(isFirstLine ? words : `${words}; what was found before it is shown`);

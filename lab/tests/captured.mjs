@@ -116,6 +116,31 @@ function captures() {
   }
 }
 
+/** A dump of frames of the keyboard with these bytes, in microseconds. */
+function dumpOfFrames(...bytes) {
+  const lines = ['$timescale 1 us $end $var wire 1 c clock $end $var wire 1 d data $end $enddefinitions $end', '#0 1c 1d'];
+  let at = 1000;
+  for (const byte of bytes) {
+    const data = Array.from({ length: 8 }, (_, bit) => byte >> bit & 1), parity = data.reduce((sum, bit) => sum ^ bit, 1);
+    for (const bit of [0, ...data, parity, 1]) {
+      lines.push(`#${at} ${bit}d`, `#${at + 20} 0c`, `#${at + 60} 1c`);
+      at += 80;
+    }
+    at += 1000;
+  }
+  return Buffer.from(`${lines.join('\n')}\n#${at}\n`);
+}
+
+/** A keyboard of an XT is named; the codes of set 2 are the strokes that they mean. */
+function kinds() {
+  const read = (...bytes) => captureOf(program, { name: 'frames.vcd', bytes: dumpOfFrames(...bytes), chosen: null }).found;
+  assert.deepEqual([read(0x1E, 0x9E).isOfSet1, read(0x1C, 0xF0, 0x1C).isOfSet1], [true, false]);
+  const { edges } = edgesOf(read(0xAA, 0x12, 0x33, 0xF0, 0x33, 0xF0, 0x12).bytes, code => NAMES[code]);
+  assert.equal(edges.map(({ name, down }) => `${down ? '+' : '-'}${name}`).join(' '), '+lshift +h -h -lshift');
+  const said = program.run(['run', 'us84.toml', 'k'], { 'us84.toml': layout, k: strokesFile(edges).text });
+  assert.match(said.text, /word 2348\n/);
+}
+
 /** Each line that the program may print of a fault has its sentence. */
 function sentences() {
   const wires = { times: Float64Array.of(0, 1000), levels: Uint8Array.of(2, 3) };
@@ -132,6 +157,7 @@ function sentences() {
     'data changed 1.000 before the fall, not 5 or more', 'hold of 56.000, not 60 or more']) assert.equal(said(line).length, 1, line);
   for (const line of ['keyboard 12', 'port 2A', 'word 2348', 'hold', 'hold and request', 'lights 4', 'overrun']) assert.deepEqual(said(line), [], line);
   assert.deepEqual(foundIn('1.000 word 2348\nright frames: 6\n', wires).words, [0x2348]);
+  assert.deepEqual(['these are codes of set 1: an XT keyboard\n', 'right frames: 6\n'].map(it => foundIn(it, wires).isOfSet1), [true, false]);
 }
 
 const byteAt = (begin, byte, more = {}) => ({ begin, sender: 'keyboard', byte, ...more });
@@ -182,6 +208,7 @@ try {
   lawful();
   beside();
   captures();
+  kinds();
   console.log(`captures: ${tables} tables as examples/captured reads them, the captures of examples/, the strokes of ${BURSTS} others`);
 } finally {
   rmSync(work, { recursive: true, force: true });

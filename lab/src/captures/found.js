@@ -7,6 +7,8 @@ const ELEVEN = 11, MOST_MARKS = 100_000;
 const LINE = /^(\d+)\.(\d{3}) (.*)$/;
 const FRAME_LINE = /^(keyboard|host) ([0-9A-F]{2})(?:, (.*))?$/;
 const PART = /^(keyboard|host) (only|broken off after|unfinished after) (\d+) of 11 edges$/;
+// A line of the summary that says of the whole capture what is wrong.
+const OF_SET_1 = 'these are codes of set 1: an XT keyboard';
 const AGAIN_LINE = /^asks for ([0-9A-F]{2}) again$/, WORD_LINE = /^word ([0-9A-F]{4})$/;
 
 const THE_SENDER = { keyboard: 'the keyboard', host: 'the PC' };
@@ -34,16 +36,17 @@ const SENTENCES = [
 
 const capital = text => text[0].toUpperCase() + text.slice(1);
 
-/** What a capture's text says: { bytes, marks, words, unmarked }, in cycles of 2.5 microseconds. The byte of a frame that isn't right
+/** What a capture's text says: { bytes, marks, words, unmarked, isOfSet1 }, in cycles of 2.5 microseconds. The byte of a frame that isn't right
     has `fault`. A mark is a place with a sentence, { begin, end, sentence }. At most 100,000 are kept, and `unmarked` counts the
     others. `wires` has the changes that the text is about, { times, levels }. */
 export function foundIn(text, wires) {
-  const found = { bytes: [], marks: [], words: [], unmarked: 0 };
+  const found = { bytes: [], marks: [], words: [], unmarked: 0, isOfSet1: false };
   for (let from = 0, end; from < text.length; from = end + 1) {
     end = text.indexOf('\n', from);
     if (end < 0) end = text.length;
-    const line = LINE.exec(text.slice(from, end));
+    const said = text.slice(from, end), line = LINE.exec(said);
     if (line) readLine(found, Number(line[1]) * NS_OF_A_US + Number(line[2]), line[3], wires);
+    else if (said === OF_SET_1) found.isOfSet1 = true;
   }
   for (const list of [found.bytes, found.marks]) list.sort((one, other) => one.begin - other.begin);
   return found;
