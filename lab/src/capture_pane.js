@@ -12,7 +12,6 @@ import { RightKeyboard } from './right_keyboard.js';
 import { runs } from './runs.js';
 
 const MOST_OF_A_CAPTURE = 256 << 20, BEGINNING = 64; // bytes
-const NS_OF_ONE_CYCLE = 2500;
 const DRAGGED = 5; // pixels
 const ZIP = 'it is a ZIP archive', SESSION = 'if it is a session of sigrok, `sigrok-cli -i FILE -O vcd` makes a dump of it';
 
@@ -103,9 +102,9 @@ export class CapturePane {
   }
 
   #showAll(captured) {
-    const { names, clock, data, text, times, levels, found } = captured, { bytes, marks, words } = found;
+    const { names, clock, data, text, cycles, levels, found } = captured, { bytes, marks, words } = found;
     this.captured = captured;
-    this.edges = new PackedEdges({ cycles: Float64Array.from(times, it => it / NS_OF_ONE_CYCLE), levels });
+    this.edges = new PackedEdges({ cycles, levels });
     this.#sayHow(captured);
     this.right.hide();
     for (const [id, chosen] of [['capture-clock', clock], ['capture-data', data]]) {

@@ -21,7 +21,7 @@ export function serveRuns(scope) {
   };
   const read = async ({ number, capture: { file, ...asked } }) => {
     const captured = captureOf(program, { ...asked, bytes: new Uint8Array(await file.arrayBuffer()) });
-    scope.postMessage({ number, captured }, captured.refused ? [] : [captured.times.buffer, captured.levels.buffer]);
+    scope.postMessage({ number, captured }, captured.refused ? [] : [captured.cycles.buffer, captured.levels.buffer]);
   };
   scope.onmessage = async ({ data }) => {
     if (data instanceof Uint8Array) {

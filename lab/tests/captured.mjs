@@ -105,14 +105,14 @@ const MARKED = {
 
 function captures() {
   for (const [name, [many, first]] of Object.entries(MARKED)) {
-    const { text, exit, found, times } = captureOf(program, { name, bytes: readFileSync(join(stored, name)), chosen: null });
+    const { text, exit, found, cycles } = captureOf(program, { name, bytes: readFileSync(join(stored, name)), chosen: null });
     assert.equal(exit, 0);
     assert.equal(text, readFileSync(join(stored, name.replace(/\..*/, '.text')), 'utf8'));
     assert.deepEqual([found.marks.length, found.marks[0]?.sentence], [many, first]);
     // Each line of a frame is a byte or a mark, and each begins and ends at an edge.
-    const frames = text.split('\n').filter(line => /^[\d.]+ (keyboard|host) /.test(line)).length, cycles = new Set(times.map(it => it / 2500));
+    const frames = text.split('\n').filter(line => /^[\d.]+ (keyboard|host) /.test(line)).length, edges = new Set(cycles);
     assert.equal(found.bytes.length + found.marks.filter(it => it.sentence.includes(' of 11 ')).length, frames);
-    for (const { begin, end } of [...found.bytes, ...found.marks]) assert.ok(cycles.has(begin) && cycles.has(end) && begin <= end, `${begin} to ${end}`);
+    for (const { begin, end } of [...found.bytes, ...found.marks]) assert.ok(edges.has(begin) && edges.has(end) && begin <= end, `${begin} to ${end}`);
   }
 }
 

@@ -1,7 +1,7 @@
 // A capture of two real wires: what the program finds in it, and the levels that are drawn.
 import { Refused } from '../boards/refused.js';
 import { csvRecording } from './csv_recording.js';
-import { foundIn } from './found.js';
+import { NS_OF_A_CYCLE, foundIn } from './found.js';
 import { dumpOf } from './recording.js';
 import { vcdRecording } from './vcd_recording.js';
 
@@ -23,8 +23,8 @@ function wiresOfDump(recording) {
   }
 }
 
-/** What is in a capture, by its name and bytes: { names, clock, data, told, exit, text, times, levels, found }; or { refused }, which
-    says why nothing is. `chosen` has the places of both signals among the names, or is null. Then they are guessed, which `told` says. */
+/** What is in a capture, by its name and bytes: { names, clock, data, told, exit, text, cycles, levels, found }; or { refused }, which
+    says why nothing is. From each cycle on, of 2.5 microseconds, both wires have the levels beside it. `chosen` has the places of both signals among the names, or is null. Then they are guessed, which `told` says. */
 export function captureOf(program, { name, bytes, chosen }) {
   try {
     const hasSignals = isDump(name, bytes), recording = hasSignals ? vcdRecording(bytes) : csvRecording(bytes), { names } = recording;
@@ -32,7 +32,8 @@ export function captureOf(program, { name, bytes, chosen }) {
     const wires = names.length ? recording.wires(clock, data) : { times: new Float64Array(), levels: new Uint8Array() };
     const signals = hasSignals && names.length ? [names[clock], names[data]] : NAMES, words = signals.join() === NAMES.join() ? [] : signals;
     const { exit, text } = program.run(['capture', DUMP, ...words], { [DUMP]: hasSignals ? bytes : dumpOf(wires) });
-    return { names, clock, data, told, exit, text, ...wires, found: foundIn(text, wires) };
+    const cycles = wires.times.map(it => it / NS_OF_A_CYCLE);
+    return { names, clock, data, told, exit, text, cycles, levels: wires.levels, found: foundIn(text, wires) };
   } catch (fault) {
     if (!(fault instanceof Refused)) throw fault;
     return { refused: fault.message };

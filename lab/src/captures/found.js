@@ -1,7 +1,8 @@
 // What `capture` prints, line by line: the bytes, what is marked in the picture, and the words that INT 09h entered.
 import { CLOCK, firstFrom } from '../wires.js';
 
-const NS_OF_A_US = 1000, NS_OF_A_CYCLE = 2500;
+export const NS_OF_A_CYCLE = 2500;
+const NS_OF_A_US = 1000;
 const SHORTEST_LOW = 5000; // ns: a shorter pulse of the clock is none of a frame
 const ELEVEN = 11, MOST_MARKS = 100_000;
 const LINE = /^(\d+)\.(\d{3}) (.*)$/;
