@@ -156,8 +156,9 @@ export class CapturePane {
   }
 }
 
-// Refuses a file that is too long for this page, or whose first bytes say that it is no text.
+// Refuses a file with another ending, one that is too long for this page, and one whose first bytes say that it is no text.
 async function judgeFile(file) {
+  if (!isCaptureName(file.name)) throw new Error('its name doesn\'t end in .vcd or .csv');
   if (file.size > MOST_OF_A_CAPTURE) {
     const size = Math.ceil(file.size / (1 << 20));
     throw new Error(`it has ${size} MB; this page reads at most 256 MB, and kbd48 capture on a command line less than 4 GB`);

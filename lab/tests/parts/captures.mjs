@@ -116,6 +116,8 @@ export async function refused(browser, folder) {
   await openFile(browser, file('rate.csv', '; sigrok\nlogic,logic\n1,1\n0,1\n'), /^no comment says the sample rate/);
   assert.ok(await browser.evaluate('document.getElementById("capture-body").hidden'));
   await openFile(browser, file('session.sr', Buffer.from('504B030414000000', 'hex')), /^it is a ZIP archive; if it is a session of sigrok, `sigrok-cli -i session\.sr -O vcd` makes a dump of it$/);
+  await openFile(browser, file('typed.keys', '5ms end\n'), /^its name doesn't end in \.vcd or \.csv$/);
+  assert.ok(await browser.evaluate('!lab.wires.capture.has("typed.keys")'));
   const long = openSync(join(folder, 'long.csv'), 'w');
   ftruncateSync(long, TOO_LONG);
   closeSync(long);
