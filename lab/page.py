@@ -18,15 +18,17 @@ from tables import tables
 LAB = Path(__file__).resolve().parent
 ROOT = LAB.parent
 PAGE = LAB / "lab.html"
-MOST_BYTES = 900_000
+MOST_BYTES = 980_000
+MANY_KEYS = 84
 
-# The examples that the page has, and what they are called when that differs.
+# The examples that the page has.
 EXAMPLES = """
     us84.toml sixty.json sixty.toml sixty_fn.toml four_keys.toml typing_hi.keys capital_a.keys held_key.keys caps_lock.keys
     host.keys ctrl_alt_del.keys noisy_line.keys broken_frame.keys sixty_fn.keys right_ctrl.keys hello.text
     make_code.keys make_code.script four_keys.asm four_keys.hex four_keys.keys four_keys.script four_keys.cert
     wrong_parity.script unset_cell.asm run_on.asm timer.asm delay.asm delay.hex delay.cert us84.hex
     kernel_delay.cert every_instruction.asm
+    captures/parity.csv captures/missing.vcd
 """.split()
 # The documents that the page shows.
 DOCUMENTS = {"firmware": "OWN-FIRMWARE.md", "instructions": "INSTRUCTIONS.md"}
@@ -84,9 +86,18 @@ def kernel() -> str:
     return found[1]
 
 
+def codes() -> dict[str, int]:
+    """The code that the keyboard sends for each of the 84 keys, by the key's name."""
+    text = (ROOT / "crates/pc_tables/src/key_table.rt").read_text(encoding="utf-8")
+    found = {name: int(code, 16) for name, code in re.findall(r'=> row\("(\w+)", 0x([0-9a-f]{2}), ', text)}
+    if len(found) != MANY_KEYS or len(set(found.values())) != MANY_KEYS:
+        raise Broken(f"crates/pc_tables/src/key_table.rt: {len(found)} keys")
+    return found
+
+
 def examples() -> dict[str, str]:
     """The files that the page begins with."""
-    files = {name: (ROOT / "examples" / name).read_text(encoding="utf-8") for name in EXAMPLES}
+    files = {Path(name).name: (ROOT / "examples" / name).read_text(encoding="utf-8") for name in EXAMPLES}
     return {**files, "kernel.asm": kernel()}
 
 
@@ -146,6 +157,7 @@ def page(keyboard: str, program: str, sources: str) -> str:
         "/*BOARDS*/": data(tables()),
         "/*MANUAL*/": data({name: (ROOT / "docs" / page).read_text(encoding="utf-8") for name, page in DOCUMENTS.items()}),
         "/*CHIPS*/": data(chips()),
+        "/*CODES*/": data(codes()),
         "/*KEYBOARD*/": keyboard,
         "/*PROGRAM*/": program,
         "/*SCRIPT*/": code,

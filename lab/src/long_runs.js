@@ -1,10 +1,12 @@
 // Runs that take long are made in a worker, so that the page goes on. The worker's program is the part of this page's script up
 // to the mark at the end of this file.
 import { Program } from '../kbd48.mjs';
+import { captureOf } from './captures/capture.js';
 import { readTrace } from './vcd.js';
 
-/** In a worker: answers each call { number, words, files } with { number, exit, text }, and the edges and bytes of a trace; or with
-    { number, failed }, which says why there is no answer. The first message is the module. */
+/** In a worker: answers each call { number, words, files } with { number, exit, text }, and the edges and bytes of a trace; each call
+    { number, capture } with { number, captured }; or any with { number, failed }, which says why there is no answer. The first
+    message is the module. */
 export function serveRuns(scope) {
   let module = null, program = null;
   const answer = ({ number, words, files }, { exit, text }) => {
@@ -17,6 +19,10 @@ export function serveRuns(scope) {
     const cycles = Float64Array.from(traced.edges, it => it.cycle), levels = Uint8Array.from(traced.edges, it => it.levels);
     scope.postMessage({ number, exit, text, traced: { cycles, levels, bytes: traced.bytes, cycle: traced.cycle } }, [cycles.buffer, levels.buffer]);
   };
+  const read = async ({ number, capture: { file, ...asked } }) => {
+    const captured = captureOf(program, { ...asked, bytes: new Uint8Array(await file.arrayBuffer()) });
+    scope.postMessage({ number, captured }, captured.refused ? [] : [captured.cycles.buffer, captured.levels.buffer]);
+  };
   scope.onmessage = async ({ data }) => {
     if (data instanceof Uint8Array) {
       module = data;
@@ -24,7 +30,8 @@ export function serveRuns(scope) {
     }
     try {
       program ??= await Program.load(module);
-      answer(data, program.run(data.words, data.files));
+      if (data.capture) await read(data);
+      else answer(data, program.run(data.words, data.files));
     } catch (error) {
       program = null;
       scope.postMessage({ number: data.number, failed: error.message });

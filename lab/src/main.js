@@ -2,6 +2,7 @@
 import { Keyboard, Program } from '../kbd48.mjs';
 import { serveRuns } from './long_runs.js';
 import { answerOfBoards } from './board_opener.js';
+import { isCaptureName } from './capture_pane.js';
 import { byId, setHidden, setText } from './dom.js';
 import { files } from './files.js';
 import { fillGlossary } from './glossary.js';
@@ -78,6 +79,7 @@ class Lab {
     });
     listenToDrops((list, target) => {
       if (target.closest('#keyboard')) this.keys.boards.take(list);
+      else if (target.closest('#wires') && list.every(file => isCaptureName(file.name))) this.wires.capture.take(list);
       else {
         this.show('workbench', true);
         this.workbench.take(list);

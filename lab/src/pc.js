@@ -43,7 +43,7 @@ export class Pc {
 }
 
 // Rows of text, each an element of its own: a letter more costs a picture of its row, not of the screen.
-class Screen {
+export class Screen {
   constructor(element) {
     Object.assign(this, { element, rows: [''], lines: [], drawn: [], isNew: true });
     element.replaceChildren();

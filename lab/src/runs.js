@@ -1,13 +1,16 @@
 // The program's answers, from a worker if the run is long.
 import { byId } from './dom.js';
+import { captureOf } from './captures/capture.js';
+import { PackedEdges } from './captures/packed_edges.js';
 import { files } from './files.js';
-import { kbd48 } from './program.js';
+import { kbd48, say } from './program.js';
 import { EXIT } from './refusals.js';
 import { CYCLES_OF_A_MS } from './times.js';
 import { readTrace } from './vcd.js';
 
 const END_OF_WORKER = '/* The end of what a worker runs. */';
 const LONG_RUN = 20_000; // ms
+const LONG_CAPTURE = 1 << 18; // bytes
 
 /** The last time of a key file, in ms. */
 function endOf(keys) {
@@ -18,16 +21,6 @@ function endOf(keys) {
 const isLong = (words, all) => words.slice(1).some(word => word.endsWith('.keys') && word in all && endOf(all[word]) > LONG_RUN);
 
 const answerOf = (exit, text, traced = null) => ({ exit, text, bytes: { length: new Blob([text]).size }, traced });
-
-// The edges of a worker's trace, of which there may be millions: each is made when it is looked at.
-class TracedEdges {
-  constructor({ cycles, levels }) { Object.assign(this, { cycles, levels, length: cycles.length }); }
-
-  at(n) {
-    const place = n < 0 ? this.length + n : n;
-    return place in this.cycles ? { cycle: this.cycles[place], levels: this.levels[place] } : undefined;
-  }
-}
 
 class Runs {
   /** `module` has the bytes of the program's module; `serves` is the name of the function that answers in a worker. */
@@ -52,7 +45,17 @@ class Runs {
       that the browser has no room for has `failed`, which says so. */
   run(words, more = {}) {
     const all = { ...files, ...more };
-    return isLong(words, all) && this.#start() ? this.#later(words, more, all) : this.#now(words, more);
+    if (!isLong(words, all) || !this.#start()) return this.#now(words, more);
+    const needed = Object.fromEntries(words.slice(1).filter(word => Object.hasOwn(all, word)).map(word => [word, all[word]]));
+    return this.#later({ words, files: needed }, () => this.#now(words, more), ({ exit, text, traced }) =>
+      answerOf(exit, text, traced && { ...traced, edges: new PackedEdges(traced) }));
+  }
+
+  /** What is in a capture { file, name, chosen }, as `captureOf` answers it; or { failed }, or undefined if somebody stopped it. A large
+      one is read in the worker. */
+  async capture(asked) {
+    const here = async () => captureOf({ run: say }, { ...asked, bytes: new Uint8Array(await asked.file.arrayBuffer()) });
+    return asked.file.size > LONG_CAPTURE && this.#start() ? this.#later({ capture: asked }, here, ({ captured }) => captured) : here();
   }
 
   #now(words, more) {
@@ -62,14 +65,13 @@ class Runs {
 
   // Hands each answer to the call that it is of. `waiting` has the calls without an answer, by their numbers.
   #listen(worker) {
-    worker.onmessage = ({ data: { number, exit, text, traced, failed } }) => this.#end(number, () =>
-      (failed ? { ...answerOf(EXIT.MEMORY, ''), failed } : answerOf(exit, text, traced && { ...traced, edges: new TracedEdges(traced) })));
+    worker.onmessage = ({ data }) => this.#end(data.number, ({ read }) => (data.failed ? { ...answerOf(EXIT.MEMORY, ''), failed: data.failed } : read(data)));
     // A browser may let this page have no worker: then the runs are made at once.
     worker.onerror = event => {
       event.preventDefault();
       this.isBarred = true;
       this.worker = null;
-      this.#endAll(({ words, more }) => this.#now(words, more));
+      this.#endAll(({ here }) => here());
     };
   }
 
@@ -85,8 +87,9 @@ class Runs {
 
   #endAll(answerTo) { for (const number of [...this.waiting.keys()]) this.#end(number, answerTo); }
 
-  #later(words, more, all) {
-    const needed = Object.fromEntries(words.slice(1).filter(word => Object.hasOwn(all, word)).map(word => [word, all[word]])), number = ++this.last;
+  // `here` makes the call in the page, if there is no worker after all; `read` makes the answer of what the worker posts.
+  #later(call, here, read) {
+    const number = ++this.last;
     byId('runs').hidden = false;
     this.stop = () => {
       this.worker.terminate();
@@ -94,8 +97,8 @@ class Runs {
       this.#endAll(() => undefined);
     };
     return new Promise(answered => {
-      this.waiting.set(number, { words, more, answered });
-      this.worker.postMessage({ number, words, files: needed });
+      this.waiting.set(number, { here, read, answered });
+      this.worker.postMessage({ number, ...call });
     });
   }
 }

@@ -18,3 +18,14 @@ export function beginOf(edges, last) {
   }
   return begin;
 }
+
+/** The first place in a list of rising numbers that isn't less than this one; `of` answers the number of an entry. */
+export function firstFrom(list, number, of = it => it) {
+  let low = 0, high = list.length;
+  while (low < high) {
+    const middle = (low + high) >> 1;
+    if (of(list.at(middle)) < number) low = middle + 1;
+    else high = middle;
+  }
+  return low;
+}

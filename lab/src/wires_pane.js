@@ -1,7 +1,8 @@
 // What passes between keyboard and PC while one types, and what the PC says.
 import { byId, fill, hex, make, setText, tell } from './dom.js';
-import { named, onFile, replace } from './files.js';
+import { files, named, onFile, replace } from './files.js';
 import { CLOCK, DATA } from './wires.js';
+import { CapturePane, isCaptureName } from './capture_pane.js';
 import { Lines } from './lines.js';
 import { CYCLES_OF_A_MS, FIRST_STAMP } from './times.js';
 import { explained } from './program.js';
@@ -27,6 +28,7 @@ export class WiresPane {
     this.bytes = new Lines(byId('bytes'), ({ begin, sender, byte }) => `${at(begin)}  ${sender === 'host' ? 'PC → keyboard' : 'keyboard → PC'}  ${hex(byte)}`);
     this.log = new Lines(byId('log'), entry => (typeof entry === 'string' ? entry : `${at(entry.cycle)}  ${entry.words}`));
     this.wave = new Waveform(byId('wave'), live);
+    this.capture = new CapturePane({ wave: this.wave, opened, show: name => this.#choose(name ?? LIVE) });
     for (const [words, ...bytes] of COMMANDS) {
       const button = make('button', { type: 'button', textContent: words });
       button.onclick = () => { for (const [port, byte] of bytes) live().order(port, byte); };
@@ -45,9 +47,8 @@ export class WiresPane {
     byId('zoom-out').onclick = () => this.wave.zoomBy(0.5);
     byId('wave-back').onclick = () => this.wave.move(STEP);
     byId('wave-on').onclick = () => this.wave.move(-STEP);
-    const list = () => fill(byId('shown'), [LIVE, ...named('.keys')], LIVE);
-    list();
-    onFile(({ isNew }) => { if (isNew) list(); });
+    this.#list();
+    onFile(({ isNew }) => { if (isNew) this.#list(); });
     byId('shown').onchange = ({ target }) => this.#show(target.value);
     byId('session').onclick = () => {
       const file = live().keyFile();
@@ -59,10 +60,22 @@ export class WiresPane {
     byId('noise').onclick = () => live().flip(Number(byId('noisy-bit').value));
   }
 
-  /** Another keyboard runs. */
+  /** Another keyboard runs. A capture stays in sight, without what is beside it: that was the other keyboard. */
   begin() {
-    byId('shown').value = LIVE;
-    this.#show(LIVE);
+    if (this.capture.name === null) this.#choose(LIVE);
+    else this.capture.right.hide();
+  }
+
+  // What may be shown: what one types, the runs of key files, and captures.
+  #list() {
+    const captures = new Set([...Object.keys(files).filter(isCaptureName).sort(), ...this.capture.names]);
+    fill(byId('shown'), [LIVE, ...named('.keys'), ...captures], LIVE);
+  }
+
+  #choose(name) {
+    this.#list();
+    byId('shown').value = name;
+    this.#show(name);
   }
 
   #any(port) {
@@ -77,7 +90,12 @@ export class WiresPane {
     this.bytes.clear();
     this.log.clear();
     this.wave.show(null);
-    if (keys === LIVE) return;
+    const isCapture = this.capture.has(keys);
+    this.capture.open(isCapture ? keys : null);
+    byId('pause').disabled = keys !== LIVE;
+    byId('pause').setAttribute('aria-pressed', 'false');
+    for (const id of ['pullers', 'wire-lists', 'clock-text']) byId(id).hidden = isCapture;
+    if (keys === LIVE || isCapture) return;
     const { name, text } = this.opened(), layout = { [name]: text };
     const trace = await runs.run(['trace', name, keys], layout), run = trace && await runs.run(['run', name, keys], layout);
     if (!run || byId('shown').value !== keys) return;

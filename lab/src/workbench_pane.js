@@ -25,6 +25,7 @@ const OFFERS = {
   cert: [['cert STEM.hex NAME']],
   script: [['debug us84.toml STEM.keys NAME'], ['probe STEM.hex STEM.toml STEM.keys NAME']],
   text: [['type us84.toml NAME']],
+  vcd: [['capture NAME']],
   json: [['from_kle NAME'], ['from_kle --table NAME'], ['from_kle --wiring NAME']],
 };
 // What a command makes is kept under the file's name with this ending.

@@ -16,7 +16,7 @@ function isWide(bytes) {
 }
 
 /** What a file's first bytes say of it, in words; or null. */
-function kindOfBytes(bytes, name) {
+export function kindOfFile(bytes, name) {
   const begin = Array.from(bytes.slice(0, 4), byte => byte.toString(16).padStart(2, '0').toUpperCase()).join('');
   const found = BY_BYTES.find(entry => begin.startsWith(entry.begins)) ?? (isWide(bytes) ? WIDE_TEXT : null);
   return found ? said(found, name) : null;
@@ -30,7 +30,7 @@ export function kindOfText(text, name) {
 
 /** The text of a file's bytes, without a byte order mark. */
 export function textOfBytes(bytes, name) {
-  const found = kindOfBytes(bytes, name);
+  const found = kindOfFile(bytes, name);
   if (found) throw new Refused(found);
   try {
     return new TextDecoder('utf-8', { fatal: true }).decode(bytes);

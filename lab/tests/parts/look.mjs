@@ -64,31 +64,34 @@ export async function contrast(browser) {
 /** Each control of each pane is come to by Tab alone, in the order of the page, and shows that it has the focus. */
 export async function focus(browser) {
   let many = 0;
-  for (const pane of PANES) {
-    await browser.only(pane);
-    await browser.evaluate('document.querySelector("#panes button").focus()');
-    const wanted = await browser.evaluate(`[...document.querySelectorAll('button, select, input, textarea, [tabindex="0"], summary')].filter(it => it.checkVisibility() && !it.disabled).length`);
-    const seen = new Set(), dull = [];
-    for (let count = 0; count < wanted + 5; count++) {
-      if (await browser.evaluate('document.activeElement.id') === 'board') {
-        for (let tries = 0; tries < 10 && !await browser.evaluate('lab.keys.hasLeft'); tries++) for (let n = 0; n < 2; n++) await browser.stroke('Escape', 5);
-      }
-      const now = await browser.evaluate(`(() => {
-        const it = document.activeElement, box = it.closest('.button') ?? it, style = getComputedStyle(box);
-        it.dataset.n ??= String(document.querySelectorAll('[data-n]').length);
-        return { n: it.dataset.n, name: it.id || it.textContent.slice(0, 30), dull: document.hasFocus() && (style.outlineStyle === 'none' || Number.parseFloat(style.outlineWidth) < 2), body: it === document.body };
-      })()`);
-      if (!now.body) seen.add(now.n);
-      // The first got the focus from a script, of which browsers show nothing; nor does a window that isn't the active one.
-      if (now.dull && !now.body && count > 0) dull.push(now.name);
-      if (seen.size === wanted) break;
-      await browser.stroke('Tab', 2);
-    }
-    assert.deepEqual(dull, [], 'the focus is seen');
-    assert.equal(seen.size, wanted, `Tab comes to all controls of ${pane}`);
-    many += seen.size;
-  }
+  for (const pane of PANES) many += await focusOf(browser, pane);
   return many;
+}
+
+/** The same of one pane. How many controls it has. */
+export async function focusOf(browser, pane) {
+  await browser.only(pane);
+  await browser.evaluate('document.querySelector("#panes button").focus()');
+  const wanted = await browser.evaluate(`[...document.querySelectorAll('button, select, input, textarea, [tabindex="0"], summary')].filter(it => it.checkVisibility() && !it.disabled).length`);
+  const seen = new Set(), dull = [];
+  for (let count = 0; count < wanted + 5; count++) {
+    if (await browser.evaluate('document.activeElement.id') === 'board') {
+      for (let tries = 0; tries < 10 && !await browser.evaluate('lab.keys.hasLeft'); tries++) for (let n = 0; n < 2; n++) await browser.stroke('Escape', 5);
+    }
+    const now = await browser.evaluate(`(() => {
+      const it = document.activeElement, box = it.closest('.button') ?? it, style = getComputedStyle(box);
+      it.dataset.n ??= String(document.querySelectorAll('[data-n]').length);
+      return { n: it.dataset.n, name: it.id || it.textContent.slice(0, 30), dull: document.hasFocus() && (style.outlineStyle === 'none' || Number.parseFloat(style.outlineWidth) < 2), body: it === document.body };
+    })()`);
+    if (!now.body) seen.add(now.n);
+    // The first got the focus from a script, of which browsers show nothing; nor does a window that isn't the active one.
+    if (now.dull && !now.body && count > 0) dull.push(now.name);
+    if (seen.size === wanted) break;
+    await browser.stroke('Tab', 2);
+  }
+  assert.deepEqual(dull, [], 'the focus is seen');
+  assert.equal(seen.size, wanted, `Tab comes to all controls of ${pane}`);
+  return seen.size;
 }
 
 /** On small screens nothing is wider than the screen, and fingers type: Shift sticks until the next key is let go. */
