@@ -99,6 +99,15 @@ static void add_queue(const kbd48_keys *q) {
     for (int i = 0; i < 160; i++) add(q->edges[i].stamp), add(q->edges[i].place), add(q->edges[i].down);
 }
 
+static void saves_of_the_queue(kbd48_keys *q) {
+    static uint8_t bytes[KBD48_SAVED_KEYS + 1];
+    size_t length = random_below(8) ? KBD48_SAVED_KEYS : random_below(KBD48_SAVED_KEYS);
+    add_status(kbd48_save_keys(q, bytes, length)), add_bytes(bytes, sizeof bytes);
+    if (random_below(2)) bytes[random_below(random_below(3) ? 60 : KBD48_SAVED_KEYS)] = (uint8_t)random_below(256);
+    length = random_below(16) ? KBD48_SAVED_KEYS : random_below(KBD48_SAVED_KEYS + 2);
+    add_status(kbd48_load_keys(q, bytes, length));
+}
+
 static void of_the_queue(kbd48 *k, kbd48_keys *q) {
     uint64_t cycle = 0, passed = 5;
     kbd48_spot spot = {6, 7};
@@ -109,7 +118,7 @@ static void of_the_queue(kbd48 *k, kbd48_keys *q) {
     else if (what < 7) add_status(kbd48_run_keys(k, q, a, down, &passed, &spot));
     else if (place == 0) add_status(kbd48_release_all(q, cycle + a));
     add_status(kbd48_queued(q, &count)), add(count), add(passed), add(spot.counter), add(spot.byte);
-    if (a % 16 == 0) add_queue(q);
+    if (a % 16 == 0) saves_of_the_queue(q), add_queue(q);
 }
 
 static void host(kbd48 *k) {

@@ -69,10 +69,10 @@ enum {
     KBD48_KEY_DUE = 17,       /* the next edge of the queue is due: call again with the cycles that are left */
     KBD48_NO_SUCH_KEY = 18,   /* no key has the name, or the layout has no such key */
     KBD48_NO_SUCH_BIT = 19,   /* noise turns round the bits 1 to 9 of a frame */
-    KBD48_BAD_SIZE = 20,      /* a saved keyboard has KBD48_SAVED bytes: the buffer is too short, or these are more or fewer */
-    KBD48_NOT_SAVED = 21,     /* the bytes don't begin as those of a saved keyboard */
+    KBD48_BAD_SIZE = 20,      /* a saved keyboard has KBD48_SAVED bytes, a saved queue KBD48_SAVED_KEYS: here are fewer, or more */
+    KBD48_NOT_SAVED = 21,     /* the bytes don't begin as those of a saved keyboard, or a saved queue */
     KBD48_OTHER_VERSION = 22, /* the bytes are of another version of the format */
-    KBD48_BAD_STATE = 23      /* the bytes mean no state that a keyboard can be in */
+    KBD48_BAD_STATE = 23      /* the bytes mean no state that a keyboard or a queue can be in */
 };
 
 /* The status in words; there is a text for every number. */
@@ -82,8 +82,8 @@ static inline const char *kbd48_text(int32_t status) {
         "no such place", "no such port", "no room", "the processor is stuck", "stuck before stamp 0",
         "the count of cycles is at its end", "no word", "the interrupt line rose", "no such cell",
         "nothing was said", "more was said than is kept", "the key is so already", "the next edge is due",
-        "no such key", "no such bit", "not the size of a saved keyboard", "no saved keyboard", "saved in another version",
-        "no keyboard is in such a state",
+        "no such key", "no such bit", "not the size of a saved keyboard or queue", "no saved keyboard or queue",
+        "saved in another version", "no keyboard or queue is in such a state",
     };
     return status >= 0 && (size_t)status < sizeof texts / sizeof *texts ? texts[status] : "no such status";
 }
@@ -148,8 +148,8 @@ int32_t kbd48_copy(kbd48 *from, kbd48 *to);
 
 /* Writes the keyboard's state at the beginning of a buffer of at least KBD48_SAVED bytes; the bytes after these stay as
    they were. `docs/CALLS.md` has the format byte by byte. It has no pointer and no memory of this machine, so it can
-   be stored and loaded elsewhere. A queue of edges (below) is a struct of yours: store it beside these bytes. Returns
-   KBD48_BAD_SIZE if the buffer is too short, and writes nothing then. */
+   be stored and loaded elsewhere. A queue of edges (below) is a struct of yours: store what kbd48_save_keys writes of it
+   beside these bytes. Returns KBD48_BAD_SIZE if the buffer is too short, and writes nothing then. */
 #define KBD48_SAVED 3077
 int32_t kbd48_save(kbd48 *handle, uint8_t *buffer, size_t length);
 
@@ -202,6 +202,16 @@ int32_t kbd48_release_all(kbd48_keys *queue, uint64_t cycle);
 
 /* How many edges wait, at most 160. */
 int32_t kbd48_queued(kbd48_keys *queue, uint8_t *count);
+
+/* Writes the queue at the beginning of a buffer of at least KBD48_SAVED_KEYS bytes; the bytes after these stay as they
+   were. `docs/CALLS.md` has the format byte by byte. It is the same on every machine, whatever the struct is there. Store
+   it beside the bytes of kbd48_save. Returns KBD48_BAD_SIZE if the buffer is too short, and writes nothing then. */
+#define KBD48_SAVED_KEYS 1629
+int32_t kbd48_save_keys(kbd48_keys *queue, uint8_t *buffer, size_t length);
+
+/* Makes the queue the one that KBD48_SAVED_KEYS bytes mean. Any bytes may be given: those that mean no queue return
+   KBD48_BAD_SIZE, KBD48_NOT_SAVED, KBD48_OTHER_VERSION or KBD48_BAD_STATE. On any failure the queue is as it was. */
+int32_t kbd48_load_keys(kbd48_keys *queue, const uint8_t *bytes, size_t length);
 
 /* Hands over the edge of the queue that is due, and then runs as kbd48_run does, but at most up to the next edge that
    is due. KBD48_KEY_DUE says that fewer than `cycles` cycles have passed: call again with the rest. The edge is handed

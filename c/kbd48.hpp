@@ -29,7 +29,7 @@ public:
     static Kbd48 of_sample() { return opened(kbd48_open_sample); }
     static Kbd48 ready_of_sample() { return opened(kbd48_open_ready_sample); }
 
-    // The state as bytes, and a keyboard in that state. Its queue of edges is not among them: `queue` has that.
+    // The state as bytes, and a keyboard in that state. Its queue of edges is not among them: `save_queue` has that.
     std::vector<uint8_t> save() const {
         std::vector<uint8_t> bytes(KBD48_SAVED);
         need(kbd48_save(&handle, bytes.data(), bytes.size()));
@@ -40,6 +40,12 @@ public:
         need(kbd48_load(&keyboard.handle, bytes.data(), bytes.size()));
         return keyboard;
     }
+    std::vector<uint8_t> save_queue() const {
+        std::vector<uint8_t> bytes(KBD48_SAVED_KEYS);
+        need(kbd48_save_keys(&keys, bytes.data(), bytes.size()));
+        return bytes;
+    }
+    void load_queue(const std::vector<uint8_t> &bytes) { need(kbd48_load_keys(&keys, bytes.data(), bytes.size())); }
     const kbd48_keys &queue() const { return keys; }
     void set_queue(const kbd48_keys &other) { keys = other; }
 
@@ -173,7 +179,7 @@ public:
 
 private:
     mutable kbd48 handle = KBD48_EMPTY; // a look goes through it too, and leaves it as it was
-    kbd48_keys keys = KBD48_NO_KEYS;
+    mutable kbd48_keys keys = KBD48_NO_KEYS; // and so does a save of the queue
 
     Kbd48() = default;
 

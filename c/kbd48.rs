@@ -10,6 +10,9 @@ use std::{fmt, ptr};
 /// How many bytes a saved keyboard has.
 pub const SAVED: usize = 3077;
 
+/// How many bytes a saved queue has.
+pub const SAVED_KEYS: usize = 1629;
+
 /// Why a call did nothing, or why a run ended early.
 #[derive(Clone, Copy, Debug, PartialEq, Eq)]
 pub enum Error {
@@ -32,9 +35,9 @@ pub enum Error {
     NoSuchKey,
     /// Noise turns round the bits 1 to 9 of a frame.
     NoSuchBit,
-    /// A saved keyboard has `SAVED` bytes.
+    /// A saved keyboard has `SAVED` bytes, a saved queue `SAVED_KEYS`.
     BadSize,
-    /// The bytes don't begin as those of a saved keyboard.
+    /// The bytes don't begin as those of a saved keyboard, or a saved queue.
     NotSaved,
     OtherVersion,
     /// A number in the bytes is out of range.
@@ -165,6 +168,8 @@ unsafe extern "C" {
     fn kbd48_queue_key(queue: *mut Keys, cycle: u64, place: u8, down: bool) -> i32;
     fn kbd48_release_all(queue: *mut Keys, cycle: u64) -> i32;
     fn kbd48_queued(queue: *mut Keys, count: *mut u8) -> i32;
+    fn kbd48_save_keys(queue: *mut Keys, buffer: *mut u8, length: usize) -> i32;
+    fn kbd48_load_keys(queue: *mut Keys, bytes: *const u8, length: usize) -> i32;
     fn kbd48_run_keys(handle: *mut Handle, queue: *mut Keys, cycles: u64, watched: bool, passed: *mut u64, spot: *mut Spot) -> i32;
     fn kbd48_power_on(handle: *mut Handle, fill: u8) -> i32;
     fn kbd48_copy(from: *mut Handle, to: *mut Handle) -> i32;
@@ -318,6 +323,18 @@ impl Keyboard {
         *self.keys.get_mut() = keys;
     }
 
+    /// The queue as bytes, to be stored beside those of `save`.
+    pub fn save_queue(&self) -> [u8; SAVED_KEYS] {
+        let mut bytes = [0; SAVED_KEYS];
+        unsafe { kbd48_save_keys(self.keys.get(), bytes.as_mut_ptr(), SAVED_KEYS) };
+        bytes
+    }
+
+    /// Puts the queue that these bytes mean in the place of this keyboard's. If they mean none, it stays.
+    pub fn load_queue(&mut self, bytes: &[u8]) -> Result<(), Error> {
+        done(unsafe { kbd48_load_keys(self.keys.get(), bytes.as_ptr(), bytes.len()) })
+    }
+
     /// Runs as `run` does, and hands over each edge of the queue when it is due.
     pub fn run_keys(&mut self, cycles: u64, watched: bool) -> Result<KeysRan, Error> {
         let mut ran = KeysRan { passed: 0, rises: 0, rose: false };
@@ -343,7 +360,7 @@ impl Keyboard {
         done(unsafe { kbd48_copy(self.handle.get(), copy.handle.get()) }).map(|()| copy)
     }
 
-    /// The state as bytes, without the edges in the queue.
+    /// The state as bytes, without the edges in the queue, which `save_queue` has.
     pub fn save(&self) -> [u8; SAVED] {
         let mut bytes = [0; SAVED];
         unsafe { kbd48_save(self.handle.get(), bytes.as_mut_ptr(), SAVED) };

@@ -45,10 +45,20 @@ int main() {
     CHECK(sample.queue_key(shift, true) && sample.queue_key(h, true) && sample.queue_key(h, true));
     sample.release_all();
     CHECK(sample.queued() == 4);
+    std::vector<uint8_t> kept = sample.save_queue();
     copy = sample;
     for (uint8_t byte : {0x2a, 0x23, 0xa3, 0xaa})
         CHECK(copy.run_keys(400000, true).rose && copy.read60() == byte);
     CHECK(copy.queued() == 0 && sample.queued() == 4 && sample.run_keys(40000).rises == 1);
+    copy.load_queue(kept);
+    CHECK(kept.size() == KBD48_SAVED_KEYS && copy.queued() == 4 && copy.save_queue() == kept);
+    kept[0]++;
+    try {
+        copy.load_queue(kept);
+        return failed(__LINE__);
+    } catch (const Kbd48::Error &thrown) {
+        CHECK(thrown.status == KBD48_NOT_SAVED && copy.queued() == 4);
+    }
     Kbd48 ready = Kbd48::ready_of_layout(text);
     ready.flip(9);
     CHECK(ready.pulls().controller == 1 && !ready.wires().clock && ready.wires().data);

@@ -3,6 +3,19 @@ mod kbd48;
 
 use kbd48::{Error, Keyboard};
 
+/// The bytes of a queue of four edges are loaded as this queue; others are refused, and it stays.
+fn loaded_queue(keyboard: &mut Keyboard, bytes: &mut [u8; kbd48::SAVED_KEYS]) -> Result<(), Error> {
+    keyboard.power_on(0)?;
+    assert_eq!(keyboard.queued(), 0);
+    keyboard.load_queue(bytes)?;
+    assert_eq!((keyboard.queued(), keyboard.save_queue() == *bytes), (4, true));
+    bytes[7] += 1;
+    assert_eq!(keyboard.load_queue(bytes), Err(Error::OtherVersion));
+    assert_eq!(keyboard.load_queue(&bytes[1..]), Err(Error::BadSize));
+    assert_eq!(keyboard.queued(), 4);
+    Ok(())
+}
+
 fn main() -> Result<(), Box<dyn std::error::Error>> {
     let mut first = Keyboard::of_layout(&std::fs::read("examples/us84.toml")?)?;
     assert!(first.run(400_000, true)?.rose && first.interrupt() && first.rises() == 1);
@@ -35,6 +48,8 @@ fn main() -> Result<(), Box<dyn std::error::Error>> {
     assert_eq!(sample.copied()?.queued(), 4);
     first.set_queue(sample.queue());
     assert_eq!(first.queued(), 4);
+    let mut queue = sample.save_queue();
+    loaded_queue(&mut first.copied()?, &mut queue)?;
     for byte in [0x2a, 0x23, 0xa3, 0xaa] {
         assert!(sample.run_keys(400_000, true)?.rose);
         assert_eq!(sample.read60()?, byte);

@@ -134,7 +134,34 @@ static void later(void) {
     run_to(now() + 100 * CYCLES_PER_MS);
 }
 
-/* What is in no order: whatever bytes a queue has, no call goes wrong. */
+/* The queue as bytes: a save is loaded as the same queue, which goes on as the other does; and nothing beyond them is written. */
+static void saved(void) {
+    static const uint8_t name[] = {'K', 'B', 'D', '4', '8', 'Q', 'U', 1};
+    uint8_t bytes[KBD48_SAVED_KEYS + 1], again[KBD48_SAVED_KEYS], a = place_of("a");
+    kbd48_keys loaded = KBD48_NO_KEYS, empty = KBD48_NO_KEYS;
+    push(a, true), push(a, false), push(95, true);
+    bytes[KBD48_SAVED_KEYS] = 7;
+    CHECK(kbd48_save_keys(&keys, bytes, KBD48_SAVED_KEYS - 1) == KBD48_BAD_SIZE);
+    CHECK(kbd48_save_keys(&keys, bytes, sizeof bytes) == KBD48_DONE && bytes[KBD48_SAVED_KEYS] == 7);
+    CHECK(!memcmp(bytes, name, sizeof name) && bytes[16] == 3);
+    for (int i = 17; i < 29; i++) CHECK(bytes[i] == (i == 28 ? 0x7f : 0xff));
+    for (int i = 0; i < 3; i++) CHECK(bytes[29 + 10 * i + 8] == (i < 2 ? a : 95) && bytes[29 + 10 * i + 9] == (i != 1));
+    for (int i = 29 + 3 * 10; i < KBD48_SAVED_KEYS; i++) CHECK(bytes[i] == 0);
+    CHECK(kbd48_load_keys(&loaded, bytes, KBD48_SAVED_KEYS) == KBD48_DONE && loaded.count == 3 && loaded.down[95]);
+    CHECK(loaded.ready == keys.ready && loaded.edges[0].stamp == keys.edges[0].stamp && !loaded.edges[1].down);
+    CHECK(kbd48_save_keys(&loaded, again, sizeof again) == KBD48_DONE && !memcmp(bytes, again, sizeof again));
+    keys = loaded;
+    length = 0;
+    run_to(now() + 100 * CYCLES_PER_MS);
+    CHECK(length == 1 && typed[0] == 'a' && queued() == 0);
+    CHECK(kbd48_release_all(&keys, now()) == KBD48_DONE && queued() == 1);
+    run_to(now() + 100 * CYCLES_PER_MS);
+    CHECK(kbd48_save_keys(&empty, again, sizeof again) == KBD48_DONE && again[16] == 0);
+    CHECK(kbd48_load_keys(&loaded, again, sizeof again) == KBD48_DONE && loaded.count == 0 && !loaded.down[95] && !loaded.ready);
+}
+
+/* What is in no order: whatever bytes a queue has, no call goes wrong. Its save is loaded as the same queue, or it has an edge at
+   no place. */
 static void random_queues(void) {
     for (unsigned i = 0; i < 2000; i++) {
         kbd48_keys any;
@@ -149,6 +176,13 @@ static void random_queues(void) {
         CHECK(kbd48_queued(&any, &count) == KBD48_DONE && count <= 160);
         CHECK(kbd48_run_keys(&keyboard, &any, 100, false, &passed, &spot) < 32);
         CHECK(kbd48_release_all(&any, now()) == KBD48_DONE);
+        uint8_t first[KBD48_SAVED_KEYS], second[KBD48_SAVED_KEYS];
+        bool placed = true;
+        CHECK(kbd48_queued(&any, &count) == KBD48_DONE);
+        for (size_t j = 0; j < count; j++) placed = placed && any.edges[j].place < 96;
+        CHECK(kbd48_save_keys(&any, first, sizeof first) == KBD48_DONE);
+        CHECK(kbd48_load_keys(&any, first, sizeof first) == (placed ? KBD48_DONE : KBD48_BAD_STATE));
+        CHECK(kbd48_save_keys(&any, second, sizeof second) == KBD48_DONE && !memcmp(first, second, sizeof first));
     }
 }
 
@@ -167,6 +201,7 @@ int main(void) {
     strokes();
     refusals();
     later();
+    saved();
     random_queues();
     CHECK(kbd48_close(&keyboard) == KBD48_DONE);
     puts("the queue of edges: what was typed arrived");

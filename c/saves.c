@@ -1,5 +1,6 @@
 /* Bytes that are nearly a saved keyboard: kbd48_load refuses them by name and leaves the handle as it was, or opens a
-   keyboard whose save is read as the same keyboard, and which goes on as any other.
+   keyboard whose save is read as the same keyboard, and which goes on as any other. And each byte of a saved queue turned round:
+   kbd48_load_keys refuses it by name and leaves the queue as it was, or its save has the same bytes again.
    saves HEX COUNT SEED */
 #include "kbd48.h"
 #include <stdio.h>
@@ -51,6 +52,43 @@ static size_t mutated(void) {
     return KBD48_SAVED;
 }
 
+/* What kbd48_load_keys must answer if the byte at a place of a queue with three edges is another. */
+static int32_t queue_status(size_t at, uint8_t byte) {
+    if (at < 8) return at < 7 ? KBD48_NOT_SAVED : KBD48_OTHER_VERSION;
+    if (at == 16) return byte > 160 ? KBD48_BAD_STATE : KBD48_DONE;
+    if (at < 29 || at >= 29 + 3 * 10) return KBD48_DONE;
+    return ((at - 29) % 10 == 8 && byte > 95) || ((at - 29) % 10 == 9 && byte > 1) ? KBD48_BAD_STATE : KBD48_DONE;
+}
+
+/* Each byte of a saved queue with other values: those that are read with all 256. */
+static void queues(void) {
+    kbd48_keys keys = KBD48_NO_KEYS, kept;
+    uint8_t saved[KBD48_SAVED_KEYS + 1], again[KBD48_SAVED_KEYS];
+    CHECK(kbd48_queue_key(&keys, 5000, 95, true) == KBD48_DONE && kbd48_queue_key(&keys, 6000, 0, true) == KBD48_DONE);
+    CHECK(kbd48_queue_key(&keys, UINT64_MAX, 95, false) == KBD48_DONE);
+    kept = keys;
+    CHECK(kbd48_save_keys(&keys, saved, KBD48_SAVED_KEYS) == KBD48_DONE);
+    for (size_t size = 0; size <= KBD48_SAVED_KEYS + 1; size++)
+        CHECK(kbd48_load_keys(&keys, saved, size) == (size == KBD48_SAVED_KEYS ? KBD48_DONE : KBD48_BAD_SIZE));
+    for (size_t at = 0; at < KBD48_SAVED_KEYS; at++) {
+        uint8_t was = saved[at];
+        for (int more = 1; more < 256; more += at < 29 + 3 * 10 ? 1 : 17) {
+            saved[at] = (uint8_t)(was + more);
+            keys = kept;
+            int32_t status = kbd48_load_keys(&keys, saved, KBD48_SAVED_KEYS);
+            CHECK(status == queue_status(at, saved[at]));
+            if (status != KBD48_DONE) {
+                CHECK(!memcmp(&keys, &kept, sizeof keys));
+            } else {
+                /* the edges after the last are not read, so they are zeros again */
+                size_t used = 29 + 10 * (size_t)saved[16];
+                CHECK(kbd48_save_keys(&keys, again, sizeof again) == KBD48_DONE && !memcmp(saved, again, used));
+            }
+        }
+        saved[at] = was;
+    }
+}
+
 int main(int argc, char **argv) {
     static uint8_t hex[16384];
     kbd48 k = KBD48_EMPTY, other = KBD48_EMPTY;
@@ -78,6 +116,7 @@ int main(int argc, char **argv) {
         }
     }
     CHECK(kbd48_close(&k) == KBD48_DONE && kbd48_close(&other) == KBD48_DONE);
+    queues();
     CHECK(tally[KBD48_BAD_SIZE] && tally[KBD48_NOT_SAVED] && tally[KBD48_OTHER_VERSION] && tally[KBD48_BAD_STATE]);
     CHECK(tally[0] + tally[KBD48_BAD_SIZE] + tally[KBD48_NOT_SAVED] + tally[KBD48_OTHER_VERSION] + tally[KBD48_BAD_STATE] == count);
     printf("saves: %lu changed saves, %lu of them loaded, the others refused by name\n", count, tally[0]);

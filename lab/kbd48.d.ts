@@ -107,6 +107,8 @@ export declare class Keyboard {
   copyTo(other: Keyboard): void;
   save(): Uint8Array;
   load(bytes: Uint8Array): void;
+  saveQueue(): Uint8Array;
+  loadQueue(bytes: Uint8Array): void;
   key(place: number, down: boolean): StatusNumber;
   run(cycles: number, watched?: boolean): StatusNumber;
   step(): StatusNumber;

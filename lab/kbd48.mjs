@@ -23,8 +23,8 @@ const STATUS_TEXTS = ['done', 'the handle is empty', 'there is no memory left', 
   'there is no such place', 'there is no such port', 'there is no room', 'the processor is stuck',
   'the processor stuck before stamp 0', 'the count of cycles is at its end', 'there is no word', 'the interrupt line rose', 'there is no such cell', 'nothing was said',
   'more was said than is kept', 'the key is so already', 'the next edge is due', 'there is no such key',
-  'there is no such bit', 'that is not the size of a saved keyboard', 'these bytes are no saved keyboard',
-  'the keyboard was saved in another version', 'no keyboard is in such a state'];
+  'there is no such bit', 'that is not the size of a saved keyboard or queue',
+  'these bytes are no saved keyboard or queue', 'this was saved in another version', 'no keyboard or queue is in such a state'];
 
 /** A call that was refused. `position` and `number` say which rule a text breaks, and at which entry or line. */
 export class Kbd48Error extends Error {
@@ -94,7 +94,7 @@ async function started(module) {
 const PLACES = {
   handle: 0, fault: 8, passed: 16, spot: 24, byte: 28, word: 30, one: 32, two: 33, cycle: 40, item: 48, shown: 64, queue: 96,
 };
-const SAVED_SIZE = 3077, QUEUE_SIZE = 2672, PLACES_SIZE = PLACES.queue + QUEUE_SIZE;
+const SAVED_SIZE = 3077, SAVED_QUEUE_SIZE = 1629, QUEUE_SIZE = 2672, PLACES_SIZE = PLACES.queue + QUEUE_SIZE;
 const ONE = 1n, ANY_NUMBER = (1n << 64n) - 1n;
 const COUNTS = ['off', 'cycles', 'falls of T1'];
 
@@ -230,24 +230,33 @@ export class Keyboard {
     other.#queue().set(this.#queue());
   }
 
-  /** The state as 3,077 bytes, which `load` reads. The edges that wait in the queue are not among them. */
-  save() {
-    const { machine } = this, at = machine.take(SAVED_SIZE);
-    const status = machine.call('kbd48_save', this.to.handle, at, BigInt(SAVED_SIZE));
-    const bytes = new Uint8Array(machine.view.buffer, Number(at), SAVED_SIZE).slice();
+  /** The state as 3,077 bytes, which `load` reads. The edges that wait in the queue are not among them: `saveQueue` has these. */
+  save() { return this.#saved('kbd48_save', this.to.handle, SAVED_SIZE); }
+
+  /** The queue as 1,629 bytes, the same for every form of the library, which `loadQueue` reads. */
+  saveQueue() { return this.#saved('kbd48_save_keys', this.to.queue, SAVED_QUEUE_SIZE); }
+
+  // The bytes that a call writes of the handle or of the queue.
+  #saved(call, of, size) {
+    const { machine } = this, at = machine.take(size);
+    const status = machine.call(call, of, at, BigInt(size));
+    const bytes = new Uint8Array(machine.view.buffer, Number(at), size).slice();
     machine.give(at);
     this.#done(status);
     return bytes;
   }
 
   /** Opens a keyboard in the state of these bytes, with an empty queue. Other bytes are refused, and it stays as it was. */
-  load(bytes) { this.#opened(this.#loaded(bytes)); }
+  load(bytes) { this.#opened(this.#loaded('kbd48_load', this.to.handle, bytes)); }
 
-  // The bytes go in after the handle.
-  #loaded(bytes) {
+  /** Puts the queue of these bytes in the place of this keyboard's. Other bytes are refused, and it stays as it was. */
+  loadQueue(bytes) { this.#done(this.#loaded('kbd48_load_keys', this.to.queue, bytes)); }
+
+  // The bytes go in after the handle, or after the queue.
+  #loaded(call, to, bytes) {
     const { machine } = this, at = machine.take(bytes.length + 1);
     machine.put(bytes, Number(at));
-    const status = machine.call('kbd48_load', this.to.handle, at, BigInt(bytes.length));
+    const status = machine.call(call, to, at, BigInt(bytes.length));
     machine.give(at);
     return status;
   }

@@ -62,7 +62,7 @@ def check_queue(layout):
         assert keyboard.queue_key(shift, True) and keyboard.queue_key(h, True) and keyboard.queue_key(h, True)
         keyboard.release_all()
         assert keyboard.queued == 4 and refusal(keyboard.queue_key, 96, True).status == Status.NO_SUCH_PLACE
-        twin = keyboard.copy()
+        twin, saved = keyboard.copy(), keyboard.save_queue()
         for byte in (0x2A, 0x23, 0xA3, 0xAA):
             assert twin.run_keys(400_000, watched=True).rose and twin.read60() == byte
         assert twin.queued == 0 and keyboard.queued == 4 and keyboard.run_keys(40_000).rises == 1
@@ -71,6 +71,11 @@ def check_queue(layout):
         assert keyboard.queued == 0 and isinstance(refusal(setattr, keyboard, "queue", kept[1:]), ValueError)
         keyboard.queue = kept
         assert keyboard.queue == kept
+        twin.load_queue(saved)
+        assert len(saved) == 1629 and twin.queued == 4 and twin.save_queue() == saved
+        assert refusal(twin.load_queue, saved[1:]).status == Status.BAD_SIZE
+        assert refusal(twin.load_queue, saved[:16] + b"\xa1" + saved[17:]).status == Status.BAD_STATE
+        assert twin.queued == 4
 
 
 def check_docs():

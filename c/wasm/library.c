@@ -93,6 +93,43 @@ int32_t kbd48_queued(kbd48_keys *queue, uint8_t *count) {
     return (int32_t)status;
 }
 
+/* A queue and its bytes: the calls that have both need a stack, which begins below the bytes. */
+enum { SAVED_KEYS = HANDLE - 1632, STACK_FOR_QUEUES = 24 * 1024, LOWEST_FOR_QUEUES = SAVED_KEYS - STACK_FOR_QUEUES };
+HOLDS(a_saved_queue_fits, KBD48_SAVED_KEYS + 1 <= HANDLE - SAVED_KEYS && SAVED_KEYS % 16 == 0);
+HOLDS(save_of_a_queue_has_room, (long)NEED_kbd48_save_keys <= (long)STACK_FOR_QUEUES);
+HOLDS(load_of_a_queue_has_room, (long)NEED_kbd48_load_keys <= (long)STACK_FOR_QUEUES);
+
+typedef struct {
+    machine m;
+    u64 memory[(END_OF_DATA - LOWEST_FOR_QUEUES) / 8 + 1];
+} queue_machine;
+
+static machine *for_queue(queue_machine *it) {
+    begin_in(&it->m, it->memory, LOWEST_FOR_QUEUES, END_OF_DATA, SAVED_KEYS);
+    load_data(&it->m);
+    return &it->m;
+}
+
+int32_t kbd48_save_keys(kbd48_keys *queue, uint8_t *buffer, size_t length) {
+    queue_machine it;
+    machine *m = for_queue(&it);
+    put_queue(m, queue);
+    u32 status = wasm_kbd48_save_keys(m, BYTES, SAVED_KEYS, length < KBD48_SAVED_KEYS ? length : KBD48_SAVED_KEYS);
+    if (status == KBD48_DONE) get(m, SAVED_KEYS, buffer, KBD48_SAVED_KEYS);
+    return (int32_t)status;
+}
+
+int32_t kbd48_load_keys(kbd48_keys *queue, const uint8_t *bytes, size_t length) {
+    queue_machine it;
+    machine *m = for_queue(&it);
+    if (length > KBD48_SAVED_KEYS) length = KBD48_SAVED_KEYS + 1; /* refused for its length, however long */
+    put_queue(m, queue);
+    put(m, SAVED_KEYS, bytes, length);
+    u32 status = wasm_kbd48_load_keys(m, BYTES, SAVED_KEYS, length);
+    if (status == KBD48_DONE) get_queue(m, queue);
+    return (int32_t)status;
+}
+
 int32_t kbd48_sample_key(const uint8_t *name, size_t length, uint8_t *place) {
     u64 memory[(END_OF_DATA - SMALL_LOWEST) / 8 + 1];
     machine m;

@@ -190,6 +190,7 @@ async function queue() {
   assert.deepEqual(ran, { status: Status.DONE, passed: keyboard.passed, rises: 32 });
   assert.ok(ran.passed === 160_000 || ran.passed === 160_001, 'it goes on through each edge');
   assert.equal(keyboard.queued(), 0);
+  const empty = keyboard.saveQueue();
   assert.equal(taken(keyboard), text);
   assert.equal(copy.queued(), 32, 'the copy has a queue of its own');
   const queue = copy.queue;
@@ -198,6 +199,19 @@ async function queue() {
   copy.queue = queue;
   assert.equal(copy.queued(), 32);
   assert.throws(() => { copy.queue = queue.subarray(1); }, RangeError);
+  const saved = copy.saveQueue();
+  assert.equal(saved.length, 1629);
+  keyboard.loadQueue(saved);
+  assert.deepEqual([keyboard.queued(), keyboard.saveQueue()], [32, saved], 'a queue that was saved is loaded as it was');
+  keyboard.loadQueue(empty);
+  assert.equal(keyboard.queued(), 0);
+  for (const [at, status] of [[0, Status.NOT_SAVED], [7, Status.OTHER_VERSION], [16, Status.BAD_STATE]]) {
+    const other = saved.slice();
+    other[at] ^= 0xFF;
+    refused(() => copy.loadQueue(other), status);
+  }
+  refused(() => copy.loadQueue(saved.subarray(1)), Status.BAD_SIZE);
+  assert.deepEqual(copy.queue, queue, 'a queue stays if bytes are refused');
   let rises = 0;
   for (let end = keyboard.cycle(); copy.cycle() < end - 100;) {
     const { status, rises: more } = copy.runKeys(1000, true);

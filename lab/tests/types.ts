@@ -23,6 +23,7 @@ export async function everyCall(keyboardModule: Uint8Array, layout: Uint8Array, 
   keyboard.releaseAll(keyboard.cycle());
   lines.push(`${version} ${ran} ${watched} ${stopped.met} ${changed} ${pushed} ${keys.rises} ${keyboard.queued()} ${keyboard.passed}`);
   keyboard.queue = keyboard.queue.slice();
+  keyboard.loadQueue(keyboard.saveQueue());
   const written: StatusNumber = keyboard.write(0x60, 0xED), byte: number = keyboard.read60(), status: number = keyboard.status();
   keyboard.bios(true);
   keyboard.flip(9);

@@ -11,3 +11,4 @@ pub mod Queueing
 pub mod Names
 pub mod Stopping
 pub mod Saving
+pub mod QueueSaving

@@ -17,6 +17,7 @@ mod noise;
 mod opening;
 mod pointer;
 mod power;
+mod queue_saving;
 mod queueing;
 mod ready;
 mod saving;

@@ -25,11 +25,10 @@ fn unloaded_status(fault: Unloaded) -> i32
     }
 }
 
-/// Writes a keyboard's bytes at the beginning of a buffer that has room for them.
-fn put(bytes: &[u8], buffer: &mut [u8])
-    requires count { length bytes.now ≡ 3077 }
-    requires room { 3077 ≤ length buffer.old }
-    ensures { buffer.new ≡ bytes.now ++ drop 3077 buffer.old }
+/// Writes bytes at the beginning of a buffer that has room for them.
+pub(crate) fn put(bytes: &[u8], buffer: &mut [u8])
+    requires room { length bytes.now ≤ length buffer.old }
+    ensures { buffer.new ≡ bytes.now ++ drop (length bytes.now) buffer.old }
 {
     buffer[..bytes.len()].copy_from_slice(bytes);
 }

@@ -11,6 +11,7 @@ from .library import LIBRARY
 VERSION = "@VERSION@"
 
 SAVED = 3077  # how many bytes a saved keyboard has
+SAVED_KEYS = 1629  # how many a saved queue has
 
 
 class Status(IntEnum):
@@ -56,10 +57,10 @@ TEXTS = {
     Status.LOST: "more was said than is kept",
     Status.NO_SUCH_KEY: "no key has this name",
     Status.NO_SUCH_BIT: "noise turns round the bits 1 to 9 of a frame",
-    Status.BAD_SIZE: "a saved keyboard has 3,077 bytes",
-    Status.NOT_SAVED: "these bytes are no saved keyboard",
-    Status.OTHER_VERSION: "the keyboard was saved in another version of the format",
-    Status.BAD_STATE: "no keyboard is in such a state",
+    Status.BAD_SIZE: "a saved keyboard has 3,077 bytes, a saved queue 1,629",
+    Status.NOT_SAVED: "these bytes are no saved keyboard, or no saved queue",
+    Status.OTHER_VERSION: "this was saved in another version of the format",
+    Status.BAD_STATE: "no keyboard or queue is in such a state",
 }
 
 
@@ -286,7 +287,8 @@ class Keyboard:
     __copy__ = copy
 
     def save(self) -> bytes:
-        """The state as 3,077 bytes, which `of_saved` reads. The edges that wait in the queue are not among them."""
+        """The state as 3,077 bytes, which `of_saved` reads. The edges that wait in the queue are not among them: `save_queue`
+        has these."""
         buffer = c.create_string_buffer(SAVED)
         self._done("save", buffer, SAVED)
         return buffer.raw
@@ -357,6 +359,16 @@ class Keyboard:
         if len(data) != c.sizeof(library.Keys):
             raise ValueError(f"a queue has {c.sizeof(library.Keys)} bytes")
         self._keys = library.Keys.from_buffer_copy(data)
+
+    def save_queue(self) -> bytes:
+        """The queue as 1,629 bytes, the same on every machine, which `load_queue` reads."""
+        buffer = c.create_string_buffer(SAVED_KEYS)
+        LIBRARY.kbd48_save_keys(self._keys, buffer, SAVED_KEYS)
+        return buffer.raw
+
+    def load_queue(self, data: bytes) -> None:
+        """Puts the queue that these bytes mean in the place of this keyboard's. Other bytes are refused, and it stays."""
+        _need(Status(LIBRARY.kbd48_load_keys(self._keys, data, len(data))))
 
     def run_keys(self, cycles: int, watched: bool = False) -> KeysRan:
         """Runs as `run` does, and hands over each edge of the queue when it is due."""

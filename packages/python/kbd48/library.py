@@ -95,6 +95,8 @@ OTHERS = {
     "queue_key": [_to(Keys), c.c_uint64, c.c_uint8, c.c_bool],
     "release_all": [_to(Keys), c.c_uint64],
     "queued": [_to(Keys), _to(c.c_uint8)],
+    "save_keys": [_to(Keys), c.c_char_p, c.c_size_t],
+    "load_keys": [_to(Keys), c.c_char_p, c.c_size_t],
 }
 
 

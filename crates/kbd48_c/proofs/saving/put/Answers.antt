@@ -1,8 +1,5 @@
-use Rattle.std.proofs.Common.{◌++◌, drop}
+use Rattle.std.proofs.Common.{ℕ, List, ◌++◌, ap, drop, length}
 use Rattle.kbd48_c.proofs.saving.put.Goals as goal
 
 pub returns : goal.returns
-returns c =
-    let same = c.copy_from_slice.ensures.after in
-    let count = c.requires.count in
-    λ i. same i ++ drop (count i) c.args.buffer.now
+returns c = ap (λ (s : List ℕ). s ++ drop (length c.args.bytes.now) c.args.buffer.now) c.copy_from_slice.ensures.after
