@@ -36,22 +36,33 @@ def suite():
     return words["VERSION_CODENAME"]
 
 
-def fetch(work, source, packages):
-    """A source package as an archive in work/packages, and other packages unpacked in work/root. Lists and cache are in
-    work/apt, so the system's stay as they are. Returns the archive."""
-    apt, folder = work / "apt", work / "packages"
-    for path in (apt / "state" / "lists" / "partial", apt / "cache" / "archives" / "partial", folder):
+def apt(work):
+    """Where apt-get runs: lists and cache are in work/apt, so the system's stay as they are. What it fetches is in
+    work/packages."""
+    folder, packages = work / "apt", work / "packages"
+    for path in (folder / "state" / "lists" / "partial", folder / "cache" / "archives" / "partial", packages):
         path.mkdir(parents=True, exist_ok=True)
     lines = [f"{kind} [signed-by={KEYRING}] {MIRROR} {suite()} main" for kind in ("deb", "deb-src")]
-    (apt / "sources.list").write_text("\n".join(lines) + "\n")
-    (apt / "apt.conf").write_text(APT.format(apt=apt))
-    where = {"cwd": folder, "env": {**os.environ, "APT_CONFIG": str(apt / "apt.conf")}}
+    (folder / "sources.list").write_text("\n".join(lines) + "\n")
+    (folder / "apt.conf").write_text(APT.format(apt=folder))
+    return {"cwd": packages, "env": {**os.environ, "APT_CONFIG": str(folder / "apt.conf")}}
+
+
+def unpack(work, packages):
+    """Packages, unpacked in work/root."""
+    run(["apt-get", "download", *packages], **apt(work))
+    for package in packages:
+        for file in (work / "packages").glob(f"{package}_*.deb"):
+            run(["dpkg", "-x", file, work / "root"])
+
+
+def fetch(work, source, packages):
+    """A source package as an archive in work/packages, and other packages unpacked in work/root. Returns the archive."""
+    where = apt(work)
     run(["apt-get", "update"], **where)
     run(["apt-get", "--download-only", "--tar-only", "source", source], **where)
-    run(["apt-get", "download", *packages], **where)
-    for package in folder.glob("*.deb"):
-        run(["dpkg", "-x", package, work / "root"])
-    return next(folder.glob(f"{source}_*.orig.tar.*"))
+    unpack(work, packages)
+    return next(where["cwd"].glob(f"{source}_*.orig.tar.*"))
 
 
 class Report:

@@ -66,6 +66,15 @@ static inline void host_end_hold(host_end *end, bool hold)
     end->hold = hold;
 }
 
+/* Whether an end that was loaded is one that these calls make. */
+static inline bool host_end_is_sound(const host_end *end)
+{
+    bool waits = end->state == HOST_END_REQUESTS || end->state == HOST_END_SENDS;
+
+    return end->state <= HOST_END_SENDS && end->falls <= HOST_END_BITS && end->count <= HOST_END_WAITING &&
+           (!waits || end->count > 0);
+}
+
 /* The levels that this end drives. */
 static inline uint32_t host_end_drive(const host_end *end)
 {

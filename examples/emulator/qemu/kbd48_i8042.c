@@ -237,7 +237,7 @@ static int post_load(void *opaque, int version)
 {
     Kbd48State *k = opaque;
 
-    if (!kbd48_controller_load(&k->controller, &k->saved)) {
+    if (!keyboard_end_is_sound(&k->end) || !kbd48_controller_load(&k->controller, &k->saved)) {
         return -EINVAL;
     }
     kbd48_clock_later(&k->clock, k->now, false);

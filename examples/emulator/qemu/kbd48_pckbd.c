@@ -10,7 +10,6 @@
 #include "hw/isa/isa.h"
 #include "migration/vmstate.h"
 #include "sysemu/runstate.h"
-#include "ui/input.h"
 
 #include "kbd48.h"
 #include "kbd48_clock.h"
@@ -117,8 +116,10 @@ static void stepped(Kbd48State *k)
         qemu_irq_lower(k->irq);
     }
     qemu_set_irq(k->irq, up);
-    while (kbd48_next(&k->board, &item) != KBD48_NOTHING_SAID) {
-        heed(k, &item);
+    for (int32_t status; (status = kbd48_next(&k->board, &item)) != KBD48_NOTHING_SAID;) {
+        if (status == KBD48_DONE) {
+            heed(k, &item);
+        }
     }
 }
 
@@ -247,14 +248,13 @@ static void key_event(DeviceState *device, QemuConsole *console, InputEvent *eve
     InputKeyEvent *key = event->u.key.data;
     uint8_t place = k->places[qemu_input_key_value_to_qcode(key->key)];
 
-    if (place == NO_PLACE) {
-        return;
+    if (place != NO_PLACE) {
+        advance(k);
+        if (kbd48_queue_key(&k->keys, cycle(k), place, key->down) == KBD48_FULL) {
+            say(k, "no room", place);
+        }
+        acted(k);
     }
-    advance(k);
-    if (kbd48_queue_key(&k->keys, cycle(k), place, key->down) == KBD48_FULL) {
-        say(k, "no room", place);
-    }
-    acted(k);
 }
 
 static QemuInputHandler handler = { .name = "kbd48", .mask = INPUT_EVENT_MASK_KEY, .event = key_event };
@@ -267,14 +267,25 @@ static int pre_save(void *opaque)
     return kbd48_save(&k->board, k->saved, sizeof k->saved) == KBD48_DONE ? 0 : -EINVAL;
 }
 
+/* Whether the queue is one that its calls make. */
+static bool keys_are_sound(const kbd48_keys *keys)
+{
+    bool sound = keys->count <= ARRAY_SIZE(keys->edges);
+
+    for (size_t i = 0; i < ARRAY_SIZE(keys->edges); i++) {
+        sound = sound && keys->edges[i].place < ARRAY_SIZE(keys->down);
+    }
+    return sound;
+}
+
 static int post_load(void *opaque, int version)
 {
     Kbd48State *k = opaque;
 
-    if (kbd48_load(&k->board, k->saved, sizeof k->saved) != KBD48_DONE) {
+    memcpy(&k->keys, k->saved_keys, sizeof k->keys);
+    if (!keys_are_sound(&k->keys) || kbd48_load(&k->board, k->saved, sizeof k->saved) != KBD48_DONE) {
         return -EINVAL;
     }
-    memcpy(&k->keys, k->saved_keys, sizeof k->keys);
     run_later(k);
     return 0;
 }

@@ -142,7 +142,7 @@ static int post_load(void *opaque, int version)
 {
     Kbd48Keyboard *k = opaque;
 
-    if (!kbd48_keyboard_load(&k->board, &k->saved)) {
+    if (!host_end_is_sound(&k->end) || !key_edges_are_sound(&k->edges) || !kbd48_keyboard_load(&k->board, &k->saved)) {
         return -EINVAL;
     }
     kbd48_clock_later(&k->clock, k->now, false);
@@ -199,7 +199,7 @@ static void realize(DeviceState *device, Error **errp)
         error_setg(errp, "kbd48: KBD48_LAYOUT names no layout, or KBD48_IMAGE no program memory");
         return;
     }
-    run_to(k, SELF_TEST_CYCLES); /* QEMU has no power-on: the test is over. Its AA goes with the queue, which QEMU's reset clears */
+    run_to(k, SELF_TEST_CYCLES); /* QEMU has no power-on: the test is over. QEMU's reset clears the queue, and so the AA */
     kbd48_clock_open(&k->clock, k->now, timer_due, k);
     qemu_input_handler_register(device, &handler);
     vmstate_register(NULL, 0, &vmstate, k);

@@ -51,6 +51,17 @@ static inline bool key_edges_take(key_edges *queue, uint64_t cycle, key_edge *ed
     return true;
 }
 
+/* Whether a queue that was loaded is one that these calls make. */
+static inline bool key_edges_are_sound(const key_edges *queue)
+{
+    bool sound = queue->first < KEY_EDGES_ROOM && queue->count <= KEY_EDGES_ROOM;
+
+    for (int i = 0; i < KEY_EDGES_ROOM; i++) {
+        sound = sound && queue->edges[i].place < sizeof queue->down;
+    }
+    return sound;
+}
+
 /* No edge waits, and no key is down. */
 static inline bool key_edges_idle(const key_edges *queue)
 {

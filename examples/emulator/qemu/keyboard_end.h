@@ -59,13 +59,11 @@ static inline bool keyboard_end_send(keyboard_end *end, uint8_t byte)
     return true;
 }
 
-/* Takes back the byte that waits, and stops sending it. Returns it, or KEYBOARD_END_NOTHING. */
-static inline int keyboard_end_take_back(keyboard_end *end)
+/* Whether an end that was loaded is one that these calls make. */
+static inline bool keyboard_end_is_sound(const keyboard_end *end)
 {
-    int byte = end->waiting;
-
-    end->waiting = KEYBOARD_END_NOTHING;
-    return byte;
+    return end->state <= KEYBOARD_END_RECEIVES && end->falls <= KEYBOARD_END_BITS && end->waiting >= KEYBOARD_END_NOTHING &&
+           end->waiting <= 0xFF && (end->state != KEYBOARD_END_SENDS || end->waiting != KEYBOARD_END_NOTHING);
 }
 
 /* The levels that this end drives. */
@@ -84,6 +82,18 @@ static inline void keyboard_end_let_go(keyboard_end *end)
     end->state = KEYBOARD_END_FREE;
     end->cycles = 0;
     end->drive = KEYBOARD_END_CLOCK | KEYBOARD_END_DATA;
+}
+
+/* Takes back the byte that waits, and stops sending it. Returns it, or KEYBOARD_END_NOTHING. */
+static inline int keyboard_end_take_back(keyboard_end *end)
+{
+    int byte = end->waiting;
+
+    if (end->state == KEYBOARD_END_SENDS) {
+        keyboard_end_let_go(end);
+    }
+    end->waiting = KEYBOARD_END_NOTHING;
+    return byte;
 }
 
 /* The first fall comes KEYBOARD_END_PERIOD - KEYBOARD_END_CHANGE cycles later. */
