@@ -3,25 +3,14 @@
        KBD48_LOG  a file that gets the bytes of both ports, A20 and the reset, if it is named */
 #include "qemu/osdep.h"
 #include "qapi/error.h"
-#include "hw/input/i8042.h"
-#include "hw/irq.h"
-#include "hw/isa/isa.h"
 #include "migration/vmstate.h"
-#include "sysemu/runstate.h"
 
 #include "kbd48_clock.h"
 #include "kbd48_halves.h"
+#include "kbd48_isa.h"
 #include "keyboard_end.h"
 
-enum {
-    WRITE_AGAIN = 64,       /* cycles until a byte that found no room is written again */
-    WRITES = 256,           /* 41 ms, longer than a byte to the keyboard takes */
-    IRQ = 1,
-    OUTPUT_FULL = 0x01,     /* of the status */
-    ADDRESS_LINE_20 = 0x02, /* of the output port */
-    RESET_LINE = 0x01,
-    RESEND = 0xFE
-};
+enum { RESEND = 0xFE }; /* the keyboard's answer to a byte that came wrong */
 
 typedef struct {
     ISADevice parent_obj;
@@ -39,14 +28,6 @@ typedef struct {
 } Kbd48State;
 
 DECLARE_INSTANCE_CHECKER(Kbd48State, KBD48, TYPE_I8042)
-
-static void say(Kbd48State *k, const char *what, unsigned value)
-{
-    if (k->log) {
-        fprintf(k->log, "%.2f %s %02X\n", qemu_clock_get_ns(QEMU_CLOCK_VIRTUAL) / 1e6, what, value);
-        fflush(k->log);
-    }
-}
 
 /* The next byte of QEMU's keyboard. Answers to commands come first, then a byte that was broken off. */
 static int next_byte(Kbd48State *k)
@@ -92,18 +73,16 @@ static void heed(Kbd48State *k, int32_t did)
 
     switch (KBD48_DID(did)) {
     case KBD48_DID_OUTPUT:
-        say(k, "output port", byte);
+        kbd48_say(k->log, "output port", byte);
         qemu_set_irq(k->a20, (byte & ADDRESS_LINE_20) != 0);
         break;
     case KBD48_DID_PULSE:
-        say(k, "pulse", byte);
+        kbd48_say(k->log, "pulse", byte);
         break;
     default:
         return;
     }
-    if (!(byte & RESET_LINE)) {
-        qemu_system_reset_request(SHUTDOWN_CAUSE_GUEST_RESET);
-    }
+    kbd48_reset_if_low(byte);
 }
 
 static uint32_t wires(Kbd48State *k)
@@ -181,7 +160,7 @@ static uint64_t in60(void *opaque, hwaddr address, unsigned size)
     byte = kbd48_controller_read60(&k->controller);
     qemu_set_irq(k->irq, kbd48_controller_interrupt(&k->controller));
     settle(k);
-    say(k, "in 60", byte);
+    kbd48_say(k->log, "in 60", byte);
     kbd48_clock_acted(&k->clock, k->now);
     return byte;
 }
@@ -190,7 +169,7 @@ static uint64_t in60(void *opaque, hwaddr address, unsigned size)
 static void out(Kbd48State *k, bool command, uint8_t byte)
 {
     advance(k);
-    say(k, command ? "out 64" : "out 60", byte);
+    kbd48_say(k->log, command ? "out 64" : "out 60", byte);
     for (int i = 0; i < WRITES; i++) {
         bool done;
         look(k);
@@ -202,7 +181,7 @@ static void out(Kbd48State *k, bool command, uint8_t byte)
         }
         run_to(k, k->now + WRITE_AGAIN);
     }
-    say(k, "lost", byte);
+    kbd48_say(k->log, "lost", byte);
 }
 
 static void out60(void *opaque, hwaddr address, uint64_t value, unsigned size)
@@ -264,9 +243,8 @@ static const VMStateDescription vmstate = {
 static void realize(DeviceState *device, Error **errp)
 {
     Kbd48State *k = KBD48(device);
-    const char *log = getenv("KBD48_LOG");
 
-    k->log = log ? fopen(log, "w") : NULL;
+    k->log = kbd48_open_log();
     k->end = (keyboard_end) KEYBOARD_END;
     k->later = KEYBOARD_END_NOTHING;
     kbd48_controller_reset(&k->controller);
@@ -275,8 +253,8 @@ static void realize(DeviceState *device, Error **errp)
     }
     qdev_connect_gpio_out(DEVICE(&k->keyboard), PS2_DEVICE_IRQ, qdev_get_gpio_in(device, 0));
     isa_connect_gpio_out(ISA_DEVICE(device), 0, IRQ);
-    isa_register_ioport(ISA_DEVICE(device), &k->data, 0x60);
-    isa_register_ioport(ISA_DEVICE(device), &k->command, 0x64);
+    isa_register_ioport(ISA_DEVICE(device), &k->data, DATA_PORT);
+    isa_register_ioport(ISA_DEVICE(device), &k->command, COMMAND_PORT);
     kbd48_clock_open(&k->clock, k->now, timer_due, k);
 }
 
@@ -306,6 +284,7 @@ static void class_init(ObjectClass *class, void *data)
     device->realize = realize;
     device->vmsd = &vmstate;
     set_bit(DEVICE_CATEGORY_INPUT, device->categories);
+    ACPI_DEV_AML_IF_CLASS(class)->build_dev_aml = kbd48_build_aml;
 }
 
 static const TypeInfo info = {
@@ -313,7 +292,8 @@ static const TypeInfo info = {
     .parent = TYPE_ISA_DEVICE,
     .instance_size = sizeof(Kbd48State),
     .instance_init = init,
-    .class_init = class_init
+    .class_init = class_init,
+    .interfaces = (InterfaceInfo[]) {{TYPE_ACPI_DEV_AML_IF}, {}}
 };
 
 static void register_types(void)
@@ -322,13 +302,3 @@ static void register_types(void)
 }
 
 type_init(register_types)
-
-void i8042_setup_a20_line(ISADevice *device, qemu_irq a20)
-{
-    qdev_connect_gpio_out_named(DEVICE(device), I8042_A20_LINE, 0, a20);
-}
-
-/* The board has no mouse. */
-void i8042_isa_mouse_fake_event(ISAKBDState *isa)
-{
-}

@@ -5,27 +5,18 @@
        KBD48_HELP    the BIOS that gets help, `seabios` or `bochs`. What the guest sees then isn't the machine's */
 #include "qemu/osdep.h"
 #include "qapi/error.h"
-#include "hw/input/i8042.h"
-#include "hw/irq.h"
-#include "hw/isa/isa.h"
 #include "migration/vmstate.h"
-#include "sysemu/runstate.h"
 
 #include "kbd48.h"
 #include "kbd48_clock.h"
+#include "kbd48_isa.h"
 #include "kbd48_names.h"
 
 enum {
-    WRITE_AGAIN = 64,       /* cycles until a byte that found no room is written again */
-    WRITES = 256,           /* 41 ms, longer than a byte to the keyboard takes */
-    SECOND = 400000,        /* in cycles */
-    IRQ = 1,
-    OUTPUT_FULL = 0x01,     /* of the status */
-    ADDRESS_LINE_20 = 0x02, /* of the output port */
-    RESET_LINE = 0x01,
+    SECOND = 400000,           /* in cycles */
     WRITE_COMMAND_BYTE = 0x60, /* commands of the controller with a parameter */
     WRITE_OUTPUT_PORT = 0xD1,
-    CHOOSE_SCAN_SET = 0xF0, /* commands of the keyboard, and its answer */
+    CHOOSE_SCAN_SET = 0xF0,    /* commands of the keyboard, and its answer */
     SELF_TEST = 0xFF,
     NO_EFFECT = 0xEF,
     ACKNOWLEDGED = 0xFA,
@@ -50,14 +41,6 @@ typedef struct {
 
 DECLARE_INSTANCE_CHECKER(Kbd48State, KBD48, TYPE_I8042)
 
-static void say(Kbd48State *k, const char *what, unsigned value)
-{
-    if (k->log) {
-        fprintf(k->log, "%.2f %s %02X\n", qemu_clock_get_ns(QEMU_CLOCK_VIRTUAL) / 1e6, what, value);
-        fflush(k->log);
-    }
-}
-
 static uint64_t cycle(Kbd48State *k)
 {
     uint64_t at = 0;
@@ -74,31 +57,24 @@ static kbd48_registers registers(Kbd48State *k)
     return r;
 }
 
-static void reset_if_low(unsigned lines)
-{
-    if (!(lines & RESET_LINE)) {
-        qemu_system_reset_request(SHUTDOWN_CAUSE_GUEST_RESET);
-    }
-}
-
 static void heed(Kbd48State *k, const kbd48_item *item)
 {
     k->clock.last = item->cycle;
     switch (item->kind) {
     case KBD48_ITEM_READ:
-        say(k, "in 60", item->value);
+        kbd48_say(k->log, "in 60", item->value);
         break;
     case KBD48_ITEM_LIGHTS:
-        say(k, "lights", item->value);
+        kbd48_say(k->log, "lights", item->value);
         break;
     case KBD48_ITEM_OUTPUT:
-        say(k, "output port", item->value);
+        kbd48_say(k->log, "output port", item->value);
         qemu_set_irq(k->a20, (item->value & ADDRESS_LINE_20) != 0);
-        reset_if_low(item->value);
+        kbd48_reset_if_low(item->value);
         break;
     case KBD48_ITEM_PULSE:
-        say(k, "pulse", item->value);
-        reset_if_low(item->value);
+        kbd48_say(k->log, "pulse", item->value);
+        kbd48_reset_if_low(item->value);
         break;
     }
 }
@@ -211,7 +187,7 @@ static void out(Kbd48State *k, uint8_t port, uint8_t byte)
         }
         run(k, WRITE_AGAIN);
     }
-    say(k, "lost", byte);
+    kbd48_say(k->log, "lost", byte);
 }
 
 static void out60(void *opaque, hwaddr address, uint64_t value, unsigned size)
@@ -220,7 +196,7 @@ static void out60(void *opaque, hwaddr address, uint64_t value, unsigned size)
     uint8_t byte = value;
 
     advance(k);
-    say(k, "out 60", byte);
+    kbd48_say(k->log, "out 60", byte);
     if (!k->parameter) {
         if (k->help_seabios && k->last_byte == CHOOSE_SCAN_SET) {
             byte = NO_EFFECT;
@@ -228,7 +204,7 @@ static void out60(void *opaque, hwaddr address, uint64_t value, unsigned size)
         k->last_byte = byte;
     }
     k->parameter = false;
-    out(k, 0x60, byte);
+    out(k, DATA_PORT, byte);
 }
 
 static void out64(void *opaque, hwaddr address, uint64_t value, unsigned size)
@@ -236,9 +212,9 @@ static void out64(void *opaque, hwaddr address, uint64_t value, unsigned size)
     Kbd48State *k = opaque;
 
     advance(k);
-    say(k, "out 64", value);
+    kbd48_say(k->log, "out 64", value);
     k->parameter = value == WRITE_COMMAND_BYTE || value == WRITE_OUTPUT_PORT;
-    out(k, 0x64, value);
+    out(k, COMMAND_PORT, value);
 }
 
 /* The queue of edges sees to order and time, and leaves out the repeats of the window system. */
@@ -251,7 +227,7 @@ static void key_event(DeviceState *device, QemuConsole *console, InputEvent *eve
     if (place != NO_PLACE) {
         advance(k);
         if (kbd48_queue_key(&k->keys, cycle(k), place, key->down) == KBD48_FULL) {
-            say(k, "no room", place);
+            kbd48_say(k->log, "no room", place);
         }
         acted(k);
     }
@@ -329,7 +305,7 @@ static bool open_board(Kbd48State *k, const uint8_t *text, size_t length)
 static void realize(DeviceState *device, Error **errp)
 {
     Kbd48State *k = KBD48(device);
-    const char *layout = getenv("KBD48_LAYOUT"), *log = getenv("KBD48_LOG"), *help = getenv("KBD48_HELP");
+    const char *layout = getenv("KBD48_LAYOUT"), *help = getenv("KBD48_HELP");
     g_autofree char *text = NULL;
     gsize length = 0;
 
@@ -337,12 +313,12 @@ static void realize(DeviceState *device, Error **errp)
         error_setg(errp, "kbd48: KBD48_LAYOUT names no layout");
         return;
     }
-    k->log = log ? fopen(log, "w") : NULL;
+    k->log = kbd48_open_log();
     k->help_seabios = help && !strcmp(help, "seabios");
     k->help_bochs = help && !strcmp(help, "bochs");
     isa_connect_gpio_out(ISA_DEVICE(device), 0, IRQ);
-    isa_register_ioport(ISA_DEVICE(device), &k->data, 0x60);
-    isa_register_ioport(ISA_DEVICE(device), &k->command, 0x64);
+    isa_register_ioport(ISA_DEVICE(device), &k->data, DATA_PORT);
+    isa_register_ioport(ISA_DEVICE(device), &k->command, COMMAND_PORT);
     qemu_input_handler_register(device, &handler);
     kbd48_clock_open(&k->clock, cycle(k), timer_due, k);
 }
@@ -371,6 +347,7 @@ static void class_init(ObjectClass *class, void *data)
     device->realize = realize;
     device->vmsd = &vmstate;
     set_bit(DEVICE_CATEGORY_INPUT, device->categories);
+    ACPI_DEV_AML_IF_CLASS(class)->build_dev_aml = kbd48_build_aml;
 }
 
 static const TypeInfo info = {
@@ -378,7 +355,8 @@ static const TypeInfo info = {
     .parent = TYPE_ISA_DEVICE,
     .instance_size = sizeof(Kbd48State),
     .instance_init = init,
-    .class_init = class_init
+    .class_init = class_init,
+    .interfaces = (InterfaceInfo[]) {{TYPE_ACPI_DEV_AML_IF}, {}}
 };
 
 static void register_types(void)
@@ -387,13 +365,3 @@ static void register_types(void)
 }
 
 type_init(register_types)
-
-void i8042_setup_a20_line(ISADevice *device, qemu_irq a20)
-{
-    qdev_connect_gpio_out_named(DEVICE(device), I8042_A20_LINE, 0, a20);
-}
-
-/* The board has no mouse. */
-void i8042_isa_mouse_fake_event(ISAKBDState *isa)
-{
-}
