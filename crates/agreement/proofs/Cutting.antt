@@ -8,6 +8,7 @@ use Rattle.board_terms.specs.declared.lines.Lines.{Lines}
 use Rattle.ctl_link.specs.Pulls.{pulled}
 use Rattle.ctl_link.specs.declared.link.Link.{Link}
 use Rattle.ctl_link.specs.declared.link.Link.TheVariants.{Free, Hold, Ask, Request, Busy}
+use Rattle.ctl_wire.specs.Wire.{drive}
 use Rattle.ctl_wire.specs.declared.wire.Wire.{Wire}
 use Rattle.fw_keys.specs.Frameless.{latch_now}
 use Rattle.fw_link.proofs.Lets.{lets_at}
@@ -41,6 +42,7 @@ module _ (events : List HostEvent) (latch start : ℕ) (released : IsReleased la
   Since (CutFrame byte cut) =
       (since : ℕ) × (pulled (link_at (CutFrame byte cut) cut) ≡ Some since) × (start + 256 ≤ since)
       × ((earlier : ℕ) → IsLook earlier → earlier < cut → start + (260 + earlier) ≤ since)
+      × ((earlier : ℕ) → IsLook earlier → earlier < cut → (drive (link_at (CutFrame byte cut) earlier)).clk ≡ true)
   Since ReceivedFrame = Unit {0}
 
   abbrev lets : ℕ → ℕ → Bool
@@ -61,6 +63,11 @@ module _ (events : List HostEvent) (latch start : ℕ) (released : IsReleased la
                 ∙ known.pulls,
             known.from,
             known.afterwards,
+            λ earlier is l.
+                ap (λ (pc : Pc). (drive pc.side.port.link).clk)
+                (cut_sides latch start byte released events first.look (4 + earlier) (256 + start) look first.is
+                (omega (arith, l)))
+                ∙ first.before earlier is l,
           )
 
   abbrev each : ℕ → Frame
@@ -101,5 +108,10 @@ module _ (edges : List Edge) (events : List HostEvent) (world : World Beside)
         ∙ since.1,
     since.2,
     since.3,
+    λ earlier looks l.
+        ap (λ (pc : Pc). (drive pc.side.port.link).clk)
+        (at_clock_look edges events (joint_board edges events) (λ board. board) (itself edges events) world lit released
+        (CutFrame byte cut) earlier)
+        ∙ since.4 earlier looks l,
   )
   is_cut_by ReceivedFrame since = tt

@@ -49,13 +49,15 @@ beside_in edges events latch w n =
     after_cycles n 0 (λ o. (joint_board edges events).cycle (latch o) (w.cycle + o)) w.board
 
 -- a frame is cut at the first look after the cycle in which the controller began to pull the clock: by the controller's
--- link at each offset, it pulls there, since a cycle that isn't earlier than the tick's own look, nor than the looks before
+-- link at each offset, it pulls there, since a cycle that isn't earlier than the tick's own look, nor than the looks
+-- before; and at these it leaves the clock alone
 abbrev pub IsCutBy : (ℕ → Link Wire) → ℕ → Frame → Type 0
 IsCutBy link start NoFrame = Unit {0}
 IsCutBy link start (SentFrame byte) = Unit {0}
 IsCutBy link start (CutFrame byte look) =
     (since : ℕ) × (pulled (link (260 + look)) ≡ Some since) × (start + 256 ≤ since)
     × ((earlier : ℕ) → IsLook earlier → earlier < look → start + (260 + earlier) ≤ since)
+    × ((earlier : ℕ) → IsLook earlier → earlier < look → (drive (link (260 + earlier))).clk ≡ true)
 IsCutBy link start ReceivedFrame = Unit {0}
 
 -- what the controller does in a tick with this frame, by the PC's side at each offset. At the first edge it has seen

@@ -172,7 +172,8 @@ module _ (events : List HostEvent) (x : ℕ) (start : Beside) (old v : ℕ) (was
             absurd (omega (arith, where_, few, l))
         by false e d g = rw e refl
 
-    waits_on : (m : ℕ) → Waits (B (m + 609)).pc.side.port
+    -- after the last edge of a byte that the keyboard receives, the controller waits for the reply, in each cycle of the tick
+    pub waits_on : (m : ℕ) → Waits (B (m + 609)).pc.side.port
     waits_on zero = let z : 0 + 609 ≡ 609 = omega arith in waits
     waits_on (suc m) =
         let z : suc m + 609 ≡ suc (m + 609) = omega arith in
@@ -212,6 +213,22 @@ module _ (events : List HostEvent) (x : ℕ) (start : Beside) (old v : ℕ) (was
         by false e =
             let down : (latch_of (L (289 + 32 * k))).dat ≡ false = level_in k few ∙ ap (λ c. if c then true else nat_le 16 1) e in
             ap (λ d. d && (drive (link_of (B (290 + 32 * k)))).dat) down ∙ sym (ap (λ c. if c then frame_bit byte (k + 1) else false) e)
+
+    -- and they are so as the clock rises again
+    pub rise_data : (k : ℕ) → k < 10 → (wires (latch_of (L (305 + 32 * k))) (B (306 + 32 * k)).pc).dat ≡ acknowledged byte k
+    rise_data k less =
+        let e : nat_lt k 10 ≡ true = grind (arith, nat_tests, less) in
+        let y : 305 + 32 * k ≡ 260 + (28 + 32 * k + 17) = omega arith in
+        let z : 306 + 32 * k ≡ 288 + (32 * k + suc 17) = omega arith in
+        let up : (latch_of (L (305 + 32 * k))).dat ≡ true =
+        ap (λ o. (latch_of (L o)).dat) y
+        ∙ ap (λ p. (latch_of p).dat) (in_frame (28 + 32 * k + 17) (omega (arith, less)) ∙ in_cell v k 17 (omega arith))
+        ∙ data_of_latch true (if nat_lt k 10 then true else true) v is ∙ ap (λ c. if c then true else true) e in
+        let bit_is : (drive (link_of (B (306 + 32 * k)))).dat ≡ frame_bit byte (k + 1) =
+        ap (λ o. (drive (link_of (B o))).dat) z ∙ ap (λ (c : Pc). (drive c.side.port.link).dat) (there (32 * k + suc 17))
+        ∙ frame_shown events drives_ now byte received_bit b is_frame asks high k 17 less (omega arith) in
+        ap (λ d. d && (drive (link_of (B (306 + 32 * k)))).dat) up ∙ bit_is
+        ∙ sym (ap (λ c. if c then frame_bit byte (k + 1) else false) e)
 
     -- so the transfer that these are is the byte that ends
     pub heard_so : listed (transfer_in (eleven_of (λ k. (wires (latch_of (L (289 + 32 * k))) (B (290 + 32 * k)).pc).dat)))
