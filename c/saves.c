@@ -72,7 +72,7 @@ static void queues(void) {
         CHECK(kbd48_load_keys(&keys, saved, size) == (size == KBD48_SAVED_KEYS ? KBD48_DONE : KBD48_BAD_SIZE));
     for (size_t at = 0; at < KBD48_SAVED_KEYS; at++) {
         uint8_t was = saved[at];
-        for (int more = 1; more < 256; more += at < 29 + 3 * 10 ? 1 : 17) {
+        for (int more = 1; more < 256; more += at < 29 + 3 * 10 ? 1 : 85) {
             saved[at] = (uint8_t)(was + more);
             keys = kept;
             int32_t status = kbd48_load_keys(&keys, saved, KBD48_SAVED_KEYS);

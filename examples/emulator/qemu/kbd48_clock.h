@@ -8,6 +8,7 @@ enum {
     KBD48_NS_PER_CYCLE = 2500,
     KBD48_BUSY_NS = 1000000,
     KBD48_REST_NS = 50000000,
+    KBD48_STALL = 8000,  /* 20 ms, in cycles */
     KBD48_QUIET = 160000 /* 400 ms: longer than the self-test after FF, the longest thing that a keyboard does by itself */
 };
 
@@ -18,10 +19,17 @@ typedef struct {
     bool resting;
 } kbd48_clock;
 
-/* The cycle that the device should have reached. */
-static inline uint64_t kbd48_clock_goal(const kbd48_clock *clock)
+/* The cycle that the device, which is at this cycle, should have reached. If it is run so late while something may happen, the
+   computer has stalled QEMU. The guest couldn't read meanwhile, so no time has passed for the device either. */
+static inline uint64_t kbd48_clock_goal(kbd48_clock *clock, uint64_t cycle)
 {
-    return clock->start + qemu_clock_get_ns(QEMU_CLOCK_VIRTUAL) / KBD48_NS_PER_CYCLE;
+    uint64_t goal = clock->start + qemu_clock_get_ns(QEMU_CLOCK_VIRTUAL) / KBD48_NS_PER_CYCLE;
+
+    if (!clock->resting && goal > cycle + KBD48_STALL) {
+        clock->start -= goal - (cycle + KBD48_STALL);
+        goal = cycle + KBD48_STALL;
+    }
+    return goal;
 }
 
 /* The device is at this cycle, and is run again later. `idle` says that no key is down and no byte is under way. If besides

@@ -122,7 +122,7 @@ static void run_to(Kbd48State *k, uint64_t goal)
 
 static void advance(Kbd48State *k)
 {
-    run_to(k, kbd48_clock_goal(&k->clock));
+    run_to(k, kbd48_clock_goal(&k->clock, k->now));
 }
 
 static void timer_due(void *opaque)

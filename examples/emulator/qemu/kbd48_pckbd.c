@@ -115,7 +115,7 @@ static void run(Kbd48State *k, uint64_t cycles)
 /* The keyboard goes on to QEMU's time. What a call runs too far is taken off the next. */
 static void advance(Kbd48State *k)
 {
-    uint64_t now = cycle(k), goal = kbd48_clock_goal(&k->clock);
+    uint64_t now = cycle(k), goal = kbd48_clock_goal(&k->clock, now);
 
     if (now < goal) {
         run(k, goal - now);

@@ -97,7 +97,7 @@ static void timer_due(void *opaque)
 {
     Kbd48Keyboard *k = opaque;
 
-    run_to(k, kbd48_clock_goal(&k->clock));
+    run_to(k, kbd48_clock_goal(&k->clock, k->now));
     kbd48_clock_later(&k->clock, k->now, key_edges_idle(&k->edges));
 }
 
@@ -106,7 +106,7 @@ void ps2_write_keyboard(PS2KbdState *port, int byte)
 {
     Kbd48Keyboard *k = &keyboard;
 
-    run_to(k, kbd48_clock_goal(&k->clock));
+    run_to(k, kbd48_clock_goal(&k->clock, k->now));
     if (k->help_seabios && k->last_byte == CHOOSE_SCAN_SET) {
         byte = NO_EFFECT;
     }
@@ -122,7 +122,7 @@ static void key_event(DeviceState *device, QemuConsole *console, InputEvent *eve
     uint8_t place = k->places[qemu_input_key_value_to_qcode(key->key)];
 
     if (place != NO_PLACE) {
-        run_to(k, kbd48_clock_goal(&k->clock));
+        run_to(k, kbd48_clock_goal(&k->clock, k->now));
         key_edges_push(&k->edges, place, key->down);
         kbd48_clock_acted(&k->clock, k->now);
     }

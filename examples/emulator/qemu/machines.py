@@ -87,7 +87,7 @@ class Machine:
 
     def wait_for_boot(self, boots=1):
         """Until the guest has begun to ask for keys."""
-        return self.wait(lambda words: words.count("booted") == boots and words[-3] == "booted")
+        return self.wait(lambda words: words.count("booted") == boots and words[-3:-2] == ["booted"])
 
     def typed(self, keys, ms=60, pause=0.06):
         """The words that these strokes make."""
