@@ -103,7 +103,10 @@ static void saves_of_the_queue(kbd48_keys *q) {
     static uint8_t bytes[KBD48_SAVED_KEYS + 1];
     size_t length = random_below(8) ? KBD48_SAVED_KEYS : random_below(KBD48_SAVED_KEYS);
     add_status(kbd48_save_keys(q, bytes, length)), add_bytes(bytes, sizeof bytes);
-    if (random_below(2)) bytes[random_below(random_below(3) ? 60 : KBD48_SAVED_KEYS)] = (uint8_t)random_below(256);
+    if (random_below(2)) {
+        uint32_t at = random_below(random_below(3) ? 60 : KBD48_SAVED_KEYS), byte = random_below(256);
+        bytes[at] = (uint8_t)byte;
+    }
     length = random_below(16) ? KBD48_SAVED_KEYS : random_below(KBD48_SAVED_KEYS + 2);
     add_status(kbd48_load_keys(q, bytes, length));
 }
