@@ -64,11 +64,38 @@ static void empty_handle(void) {
     CHECK(kbd48_column(&k, 0, &byte) == KBD48_NOT_OPEN && kbd48_cell(&k, 0, &byte) == KBD48_NOT_OPEN && byte == 7);
 }
 
+/* Help for two BIOSes: what is written in place of each byte, and when the keyboard is to run on. */
+static void helps(void) {
+    static const struct { uint8_t port, byte, instead; } written[] = {
+        {0x60, 0xf0, 0xf0}, {0x60, 0x02, 0xef}, {0x60, 0x02, 0x02}, /* the byte after F0 alone */
+        {0x60, 0xf0, 0xf0}, {0x60, 0xf0, 0xef}, {0x60, 0x02, 0x02}, /* EF is what was given, not F0 */
+        {0x64, 0x60, 0x60}, {0x60, 0xf0, 0xf0}, {0x60, 0x45, 0x45}, /* the controller's parameter is no byte for the keyboard */
+        {0x64, 0xf0, 0xf0}, {0x60, 0x02, 0x02},                     /* nor is a command */
+        {0x60, 0xf0, 0xf0}, {0x64, 0xd1, 0xd1}, {0x60, 0xcf, 0xcf}, {0x60, 0x02, 0xef}, /* a parameter between the two */
+        {0x60, 0xf0, 0xf0}, {0x64, 0xae, 0xae}, {0x60, 0x02, 0xef}, /* AE awaits no parameter */
+        {0x60, 0xf0, 0xf0}, {0x61, 0xf0, 0xf0}, {0x60, 0x02, 0xef}, /* another port is no matter */
+    };
+    kbd48_help seabios = {.seabios = true}, bochs = {.bochs = true}, none = {0};
+    for (size_t i = 0; i < sizeof written / sizeof *written; i++) {
+        CHECK(kbd48_help_write(&seabios, written[i].port, written[i].byte) == written[i].instead);
+        CHECK(kbd48_help_write(&bochs, written[i].port, written[i].byte) == written[i].byte);
+        CHECK(kbd48_help_write(&none, written[i].port, written[i].byte) == written[i].byte);
+        CHECK(!kbd48_help_read(&seabios, 0xfa) && !kbd48_help_read(&bochs, 0xfa) && !kbd48_help_read(&none, 0xfa));
+    }
+    CHECK(kbd48_help_write(&bochs, 0x60, 0xff) == 0xff && kbd48_help_write(&seabios, 0x60, 0xff) == 0xff);
+    CHECK(kbd48_help_write(&none, 0x60, 0xff) == 0xff);
+    CHECK(!kbd48_help_read(&bochs, 0xfe) && kbd48_help_read(&bochs, 0xfa) && !kbd48_help_read(&bochs, 0xfa)); /* once */
+    CHECK(!kbd48_help_read(&seabios, 0xfa) && !kbd48_help_read(&none, 0xfa));
+    CHECK(seabios.seabios && !seabios.bochs && bochs.bochs && !bochs.seabios && !none.seabios && !none.bochs);
+}
+
 static void bad_texts(void) {
     kbd48 k = KBD48_EMPTY;
     kbd48_fault fault = {9, 9};
-    const uint8_t no_layout[] = "format = ", no_hex[] = ":00000001FF\n:0";
+    const uint8_t no_layout[] = "format = ", no_utf8[] = "format = 1 # \xff", no_hex[] = ":00000001FF\n:0";
     CHECK(kbd48_open_layout(no_layout, sizeof no_layout - 1, &k, &fault) == KBD48_BAD_TEXT && !k.at);
+    CHECK(fault.position == 0 && fault.number == 1);
+    CHECK(kbd48_open_layout(no_utf8, sizeof no_utf8 - 1, &k, &fault) == KBD48_BAD_TEXT && !k.at);
     CHECK(fault.position == 0 && fault.number == 1);
     CHECK(kbd48_open_hex(no_hex, sizeof no_hex - 1, &k, &fault) == KBD48_BAD_TEXT && fault.position == 2);
     fault.position = fault.number = 9;
@@ -265,21 +292,18 @@ static int32_t a_copy(kbd48 *k) {
     CHECK(kbd48_key(&copy, 0, true) == KBD48_DONE && kbd48_run(&copy, 4, false, &passed, &spot) == KBD48_DONE);
     CHECK(kbd48_column(&copy, 0, &rows) == KBD48_DONE && rows == 0xfe);
     CHECK(kbd48_column(k, 0, &rows) == KBD48_DONE && rows == 0xff);
-    status = kbd48_copy(k, &copy); /* closes the first copy, or leaves it */
+    CHECK(kbd48_copy(k, &copy) == KBD48_DONE); /* in place of the first copy: no memory is taken */
+    kbd48 twin = KBD48_EMPTY;
+    status = kbd48_copy(&copy, &twin);
     CHECK(status == KBD48_DONE || status == KBD48_NO_MEMORY);
     if (status == KBD48_DONE) {
-        kbd48 twin = KBD48_EMPTY;
-        status = kbd48_copy(&copy, &twin);
-        CHECK(status == KBD48_DONE || status == KBD48_NO_MEMORY);
-        if (status == KBD48_DONE) {
-            CHECK(kbd48_read60(&copy, &byte) == KBD48_DONE && kbd48_read60(&twin, &same) == KBD48_DONE && byte == same);
-            CHECK(kbd48_write(&copy, 0x60, 0xee) == KBD48_DONE && kbd48_write(&twin, 0x60, 0xee) == KBD48_DONE);
-            CHECK(kbd48_run(&copy, 40000, true, &passed, &spot) == KBD48_ROSE);
-            CHECK(kbd48_run(&twin, 40000, true, &as_many, &spot) == KBD48_ROSE && passed == as_many);
-            CHECK(kbd48_read60(&copy, &byte) == KBD48_DONE && kbd48_read60(&twin, &same) == KBD48_DONE);
-            CHECK(byte == 0xee && same == 0xee);
-            CHECK(kbd48_close(&twin) == KBD48_DONE);
-        }
+        CHECK(kbd48_read60(&copy, &byte) == KBD48_DONE && kbd48_read60(&twin, &same) == KBD48_DONE && byte == same);
+        CHECK(kbd48_write(&copy, 0x60, 0xee) == KBD48_DONE && kbd48_write(&twin, 0x60, 0xee) == KBD48_DONE);
+        CHECK(kbd48_run(&copy, 40000, true, &passed, &spot) == KBD48_ROSE);
+        CHECK(kbd48_run(&twin, 40000, true, &as_many, &spot) == KBD48_ROSE && passed == as_many);
+        CHECK(kbd48_read60(&copy, &byte) == KBD48_DONE && kbd48_read60(&twin, &same) == KBD48_DONE);
+        CHECK(byte == 0xee && same == 0xee);
+        CHECK(kbd48_close(&twin) == KBD48_DONE);
     }
     CHECK(kbd48_close(&copy) == KBD48_DONE);
     return status;
@@ -300,20 +324,15 @@ static int32_t a_load(kbd48 *k) {
     return KBD48_DONE;
 }
 
-/* A keyboard is switched off and on; or there is no memory for it, and it is as it was. */
-static int32_t a_power_on(kbd48 *k) {
+/* A keyboard is switched off and on, for which no memory is needed. */
+static void a_power_on(kbd48 *k) {
     static uint8_t bytes[KBD48_SAVED], again[KBD48_SAVED];
     uint64_t cycle;
     CHECK(kbd48_save(k, bytes, sizeof bytes) == KBD48_DONE);
-    int32_t status = kbd48_power_on(k, 0x55);
+    CHECK(kbd48_power_on(k, 0x55) == KBD48_DONE);
     CHECK(kbd48_save(k, again, sizeof again) == KBD48_DONE);
-    if (status != KBD48_DONE) {
-        CHECK(status == KBD48_NO_MEMORY && !memcmp(bytes, again, sizeof bytes));
-        return status;
-    }
     CHECK(kbd48_cycle(k, &cycle) == KBD48_DONE && cycle > 4096 && cycle < 4100);
     CHECK(!memcmp(bytes + 1029, again + 1029, 2048)); /* the program */
-    return KBD48_DONE;
 }
 
 static int32_t a_session(void) {
@@ -360,11 +379,11 @@ static int32_t a_session(void) {
     CHECK(kbd48_bios(&k, true) == KBD48_DONE);
     CHECK(kbd48_run(&k, 400000, false, &passed, &spot) == KBD48_DONE);
     CHECK(kbd48_take(&k, &word) == KBD48_DONE || kbd48_take(&k, &word) == KBD48_NO_WORD);
-    int32_t powered = a_power_on(&k);
+    a_power_on(&k);
     CHECK(kbd48_close(&k) == KBD48_DONE && !k.at && kbd48_close(&k) == KBD48_NOT_OPEN);
     if (status != KBD48_DONE) return status;
     if (copied != KBD48_DONE) return copied;
-    return loaded == KBD48_DONE ? powered : loaded;
+    return loaded;
 }
 
 static void a_stuck_one(void) {
@@ -389,6 +408,7 @@ int main(void) {
     hex_length = read_file("examples/us84.hex", hex, sizeof hex);
     empty_handle();
     bad_texts();
+    helps();
     CHECK(a_session() == KBD48_DONE);
     a_stuck_one();
     a_ready_one(hex, hex_length);
@@ -431,6 +451,7 @@ int main(void) {
     hex_length = read_file("examples/us84.hex", hex, sizeof hex);
     empty_handle();
     bad_texts();
+    helps();
     calls = 0;
     live = 0;
     CHECK(a_session() == KBD48_DONE && live == 0);

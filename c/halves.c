@@ -1,6 +1,8 @@
 /* Tries the two halves as their callers use them. First each call by itself. Then both, joined by the loop of kbd48_halves.h,
    against the library of kbd48.h in random calls: after each call the answers and all bytes that a save has of keyboard and
-   controller are the same. Every so often both go back to a save, to a copy, or to power-on.
+   controller are the same. A second controller beside gets the same calls, but has other pins, and differs in what C0 puts out
+   alone. Every so often all go back to a save, to a copy, or to power-on. For how long the keyboard rests is compared with plain
+   steps. Then keys go through both queues: that of kbd48.h, and that of kbd48_halves.h.
    halves HEX COUNT SEED */
 #include "kbd48.h"
 #include "kbd48_halves.h"
@@ -16,9 +18,10 @@
         } \
     } while (0)
 
-enum { STAMP_0 = 4096, ITEMS = 64, EDGES = 4 };
+/* OUTPUT is the place of the output buffer's byte in a save, DEBOUNCE that of a layout's debounce in its program. */
+enum { STAMP_0 = 4096, ITEMS = 64, EDGES = 4, TWIN_PINS = 0x4a, OUTPUT = 3, DEBOUNCE = 0x3f2 };
 
-static unsigned long call, seed = 1, loads, steps_made, items_said;
+static unsigned long call, seed = 1, loads, steps_made, items_said, rests_tried, edges_taken, pins_read;
 static uint64_t state;
 
 static uint32_t random_below(uint32_t most) { /* xorshift64*: the high half of the product */
@@ -26,11 +29,11 @@ static uint32_t random_below(uint32_t most) { /* xorshift64*: the high half of t
     return (uint32_t)((state * 2685821657736338717u) >> 32) % most;
 }
 
-/* Both halves, their cycle, the edges of keys that wait for a step, the lights that were seen last, and whether INT 09h is
-   masked: it reads a byte 64 cycles after it was put out. */
+/* Both halves, the controller with other pins, their cycle, the edges of keys that wait for a step, the lights that were seen
+   last, and whether INT 09h is masked: it reads a byte 64 cycles after it was put out. */
 typedef struct {
     kbd48_keyboard keyboard;
-    kbd48_controller controller;
+    kbd48_controller controller, twin;
     uint64_t now;
     struct {
         uint8_t place;
@@ -40,7 +43,7 @@ typedef struct {
     bool masked;
 } board;
 
-static board joined = {.keyboard = KBD48_NO_KEYBOARD, .controller = KBD48_NO_CONTROLLER}, kept;
+static board joined = {.keyboard = KBD48_NO_KEYBOARD, .controller = KBD48_NO_CONTROLLER, .twin = KBD48_NO_CONTROLLER}, kept;
 static kbd48_program program;
 static kbd48_item items[ITEMS];
 static unsigned said;
@@ -60,14 +63,19 @@ static uint8_t acts(board *b, act what, uint8_t given) {
     case NOTHING: case TAKE: break;
     case MASK: b->masked = true; break;
     case UNMASK: b->masked = false; break;
-    case DATA: CHECK(kbd48_controller_write(&b->controller, false, given) == 1); break;
-    case COMMAND: CHECK(kbd48_controller_write(&b->controller, true, given) == 1); break;
-    case READ: given = kbd48_controller_read60(&b->controller), says(b->now, KBD48_ITEM_READ, given); break;
+    case DATA: case COMMAND:
+        CHECK(kbd48_controller_write(&b->controller, what == COMMAND, given) == 1);
+        CHECK(kbd48_controller_write(&b->twin, what == COMMAND, given) == 1);
+        break;
+    case READ:
+        given = kbd48_controller_read60(&b->controller), says(b->now, KBD48_ITEM_READ, given);
+        kbd48_controller_read60(&b->twin);
+        break;
     case STATUS:
         kbd48_controller_registers(&b->controller, &shown);
         given = shown.status, says(b->now, KBD48_ITEM_STATUS, given);
         break;
-    case FLIP: CHECK(kbd48_controller_flip(&b->controller, given) == 1); break;
+    case FLIP: CHECK(kbd48_controller_flip(&b->controller, given) == 1 && kbd48_controller_flip(&b->twin, given) == 1); break;
     }
     return given;
 }
@@ -98,11 +106,14 @@ static uint32_t step(board *b, act what, uint8_t *byte) {
     uint8_t lights = kbd48_keyboard_lights(&b->keyboard);
     if (cycles && lights != b->shown) says(b->now, KBD48_ITEM_LIGHTS, lights), b->shown = lights;
     for (uint32_t i = 0; i < cycles; i++) {
+        kbd48_controller_look(&b->twin, b->now, wires(b));
         kbd48_controller_look(&b->controller, b->now, wires(b));
         if (i == 0) *byte = acts(b, what, *byte);
         bool interrupts = !b->masked && kbd48_controller_interrupt(&b->controller) && b->now >= filled(b) + 64;
-        if (interrupts) kbd48_controller_read60(&b->controller);
-        did(b->now, kbd48_controller_settle(&b->controller, b->now));
+        if (interrupts) kbd48_controller_read60(&b->controller), kbd48_controller_read60(&b->twin);
+        int32_t done = kbd48_controller_settle(&b->controller, b->now);
+        CHECK(kbd48_controller_settle(&b->twin, b->now) == done);
+        did(b->now, done);
         b->now++;
     }
     steps_made++;
@@ -125,10 +136,23 @@ static uint64_t run(board *b, uint64_t cycles, bool watched, bool *rose) {
 static void switch_on(board *b, uint8_t fill) {
     uint8_t byte = 0;
     kbd48_keyboard_open(&b->keyboard, &program, fill);
-    kbd48_controller_reset(&b->controller);
+    kbd48_controller_reset(&b->controller), kbd48_controller_reset(&b->twin);
     b->now = b->waiting = b->shown = 0, said = 0, b->masked = false;
     while (b->now < STAMP_0) CHECK(step(b, NOTHING, &byte));
     CHECK(step(b, MASK, &byte));
+}
+
+/* The controller with other pins differs in what C0 put out, and in nothing else. */
+static void is_twin(kbd48_controller_saved *saved, board *b) {
+    kbd48_controller_saved twin;
+    kbd48_controller_save(&b->twin, &twin);
+    CHECK(saved->pins == 0xb0 && twin.pins == TWIN_PINS);
+    if (twin.buffers[OUTPUT] != saved->buffers[OUTPUT]) {
+        CHECK(twin.buffers[OUTPUT] == TWIN_PINS && saved->buffers[OUTPUT] == 0xb0);
+        pins_read++;
+    }
+    twin.buffers[OUTPUT] = saved->buffers[OUTPUT], twin.pins = saved->pins;
+    CHECK(!memcmp(&twin, saved, sizeof twin));
 }
 
 /* The bytes of a saved keyboard that are those of the two halves. */
@@ -145,6 +169,7 @@ static void is_alike(kbd48 *k, board *b) {
     CHECK(!memcmp(bytes + 59, keyboard.columns, 12) && !memcmp(bytes + 71, controller.buffers, 11));
     CHECK(!memcmp(bytes + 82, controller.end, 12) && !memcmp(bytes + 101, controller.link, 23));
     CHECK(bytes[94] == b->shown && bytes[95] == b->masked && bytes[125] == b->waiting);
+    is_twin(&controller, b);
 }
 
 /* What is seen without a step. */
@@ -244,6 +269,8 @@ static void goes_back(kbd48 *k, kbd48 *other, board *b, uint32_t how, uint8_t fi
         kbd48_keyboard_save(&b->keyboard, &keyboard), kbd48_controller_save(&b->controller, &controller);
         kbd48_keyboard_open(&b->keyboard, &program, fill), memset(&b->controller, 0, sizeof b->controller);
         CHECK(kbd48_keyboard_load(&b->keyboard, &keyboard) == 1 && kbd48_controller_load(&b->controller, &controller) == 1);
+        kbd48_controller_save(&b->twin, &controller), memset(&b->twin, 0, sizeof b->twin);
+        CHECK(kbd48_controller_load(&b->twin, &controller) == 1);
         break;
     default:
         CHECK(kbd48_power_on(k, fill) == KBD48_DONE);
@@ -288,11 +315,11 @@ static void refusals(void) {
     } walled = {.it = KBD48_NO_CONTROLLER};
     static const uint8_t zeros[46];
     kbd48_controller_save(&none, &controller);
-    CHECK(!memcmp(&controller, zeros, sizeof zeros) && sizeof controller == sizeof zeros);
+    CHECK(!memcmp(&controller, zeros, sizeof zeros) && controller.pins == 0xb0 && sizeof controller == sizeof zeros + 1);
     memset(walled.beyond, 0xa5, sizeof walled.beyond);
     for (unsigned i = 0; i < sizeof states / sizeof *states; i++) {
         board b = joined, before;
-        kbd48_controller_reset(&b.controller);
+        kbd48_controller_reset(&b.controller), kbd48_controller_pins(&b.controller, 0x80);
         before = b;
         kbd48_keyboard_save(&b.keyboard, &keyboard), kbd48_controller_save(&b.controller, &controller);
         uint8_t *groups[] = {keyboard.chip.processor, keyboard.columns, controller.buffers, controller.end, controller.link};
@@ -311,6 +338,71 @@ static void refusals(void) {
     for (unsigned i = 0; i < sizeof walled.beyond; i++) CHECK(walled.beyond[i] == 0xa5);
 }
 
+/* Command C0 puts out the pins, B0 unless they were set. A reset leaves them, and a load brings them back. No other byte reads
+   them: not C0 to port 60h, which is for the keyboard, and not D0. */
+static void reads_pins(void) {
+    static const uint8_t others[][3] = {{0, 0xc0, 0x00}, {1, 0xd0, 0xcf}, {1, 0x20, 0x45}, {1, 0xaa, 0x55}, {1, 0xc1, 0x00}};
+    for (unsigned pins = 0; pins < 257; pins++) {
+        kbd48_controller c = KBD48_NO_CONTROLLER, loaded = KBD48_NO_CONTROLLER;
+        kbd48_controller_saved saved;
+        kbd48_controller_shown shown;
+        uint8_t read = pins == 256 ? 0xb0 : (uint8_t)pins;
+        kbd48_controller_reset(&c);
+        if (pins < 256) kbd48_controller_pins(&c, read), kbd48_controller_reset(&c);
+        kbd48_controller_save(&c, &saved);
+        CHECK(saved.pins == read && kbd48_controller_load(&loaded, &saved) == 1);
+        CHECK(kbd48_controller_write(&loaded, true, 0xc0) == 1);
+        kbd48_controller_look(&loaded, 0, KBD48_RELEASED);
+        CHECK(KBD48_DID(kbd48_controller_settle(&loaded, 0)) == KBD48_DID_NOTHING && kbd48_controller_interrupt(&loaded));
+        kbd48_controller_registers(&loaded, &shown);
+        CHECK(shown.status == 0x1d && shown.output == read && kbd48_controller_read60(&loaded) == read);
+        for (unsigned i = 0; i < sizeof others / sizeof *others; i++) {
+            kbd48_controller other = c;
+            CHECK(kbd48_controller_write(&other, others[i][0], others[i][1]) == 1);
+            kbd48_controller_look(&other, 0, KBD48_RELEASED), kbd48_controller_settle(&other, 0);
+            kbd48_controller_registers(&other, &shown);
+            CHECK(shown.output == others[i][2]);
+        }
+    }
+}
+
+/* What kbd48_keyboard_rests is, by plain steps. */
+static uint32_t rests_by_steps(kbd48_keyboard k, uint32_t levels, uint32_t most) {
+    uint32_t drive = kbd48_keyboard_drive(&k), rested = 0;
+    uint8_t lights = kbd48_keyboard_lights(&k);
+    for (;;) {
+        uint32_t cycles = kbd48_keyboard_step(&k, kbd48_keyboard_drive(&k) & levels);
+        if (!cycles || rested + cycles > most || kbd48_keyboard_drive(&k) != drive || kbd48_keyboard_lights(&k) != lights) break;
+        rested += cycles;
+    }
+    return rested;
+}
+
+static void rests(board *b, uint32_t levels, uint32_t most) {
+    static kbd48_keyboard before;
+    before = b->keyboard;
+    CHECK(kbd48_keyboard_rests(&b->keyboard, levels, most) == rests_by_steps(b->keyboard, levels, most));
+    CHECK(!memcmp(&before, &b->keyboard, sizeof before));
+    rests_tried++;
+}
+
+/* So many cycles of a controller in which nobody acts and the keyboard drives the same levels. */
+static void pass_quietly(kbd48_controller *c, uint64_t from, uint32_t cycles, uint32_t levels) {
+    for (uint64_t now = from; now < from + cycles; now++) {
+        kbd48_controller_look(c, now, levels & kbd48_controller_drive(c));
+        CHECK(kbd48_controller_settle(c, now) == KBD48_DID_NOTHING || now == from);
+    }
+}
+
+/* A controller falls silent in 66 such cycles: after them nothing of it changes in further ones. */
+static void falls_silent(const board *b, uint32_t levels) {
+    kbd48_controller c = b->controller;
+    kbd48_controller_saved then, now;
+    pass_quietly(&c, b->now, 66, levels), kbd48_controller_save(&c, &then);
+    pass_quietly(&c, b->now + 66, 200, levels), kbd48_controller_save(&c, &now);
+    CHECK(!memcmp(&then, &now, sizeof now));
+}
+
 /* A program that no processor goes on with: the keyboard is stuck, and nothing changes; a reset begins it anew. */
 static void sticks(void) {
     static kbd48_program own = {{0x23, 0x5a, 0x01}}; /* MOV A,#5A, and no instruction */
@@ -318,7 +410,10 @@ static void sticks(void) {
     kbd48_keyboard_open(&k, &own, 0x33);
     CHECK(k.chip.a == 0x33 && k.columns[0] == 0xff && k.columns[11] == 0xff && kbd48_keyboard_drive(&k) == KBD48_RELEASED);
     CHECK(kbd48_keyboard_key(&k, 17, true) == 1 && k.columns[2] == 0xfd && kbd48_keyboard_key(&k, 96, true) == 0);
+    CHECK(kbd48_keyboard_rests(&k, KBD48_RELEASED, 400000) == 2 && kbd48_keyboard_rests(&k, KBD48_RELEASED, 2) == 2);
+    CHECK(kbd48_keyboard_rests(&k, KBD48_RELEASED, 1) == 0 && kbd48_keyboard_rests(&k, KBD48_RELEASED, 0) == 0);
     CHECK(kbd48_keyboard_step(&k, KBD48_RELEASED) == 2 && k.chip.a == 0x5a && k.chip.pc == 2);
+    CHECK(kbd48_keyboard_rests(&k, KBD48_RELEASED, 400000) == 0);
     before = k;
     CHECK(kbd48_keyboard_step(&k, KBD48_RELEASED) == 0 && !memcmp(&k, &before, sizeof k));
     kbd48_keyboard_reset(&k);
@@ -329,6 +424,7 @@ static uint8_t next_byte(board *b) {
     bool rose;
     run(b, 400000, true, &rose);
     CHECK(rose && kbd48_controller_interrupt(&b->controller));
+    kbd48_controller_read60(&b->twin);
     return kbd48_controller_read60(&b->controller);
 }
 
@@ -338,13 +434,123 @@ static void whole_bytes(void) {
     uint8_t place;
     bool rose;
     switch_on(&b, 0);
-    CHECK(kbd48_controller_write(&b.controller, true, 0x60) == 1 && run(&b, 100, false, &rose) >= 100);
-    CHECK(kbd48_controller_write(&b.controller, false, 0x05) == 1 && run(&b, 100, false, &rose) >= 100);
+    acts(&b, COMMAND, 0x60), run(&b, 100, false, &rose);
+    acts(&b, DATA, 0x05), run(&b, 100, false, &rose);
     CHECK(next_byte(&b) == 0xaa && kbd48_sample_key((const uint8_t *)"a", 1, &place) == KBD48_DONE);
     CHECK(kbd48_keyboard_key(&b.keyboard, place, true) == 1 && next_byte(&b) == 0x1c);
     CHECK(kbd48_keyboard_key(&b.keyboard, place, false) == 1 && next_byte(&b) == 0xf0 && next_byte(&b) == 0x1c);
-    CHECK(kbd48_controller_write(&b.controller, false, 0xee) == 1 && next_byte(&b) == 0xee);
+    acts(&b, DATA, 0xee);
+    CHECK(next_byte(&b) == 0xee);
     said = 0;
+}
+
+/* An edge for both queues, and what they answer. */
+static void push(kbd48_keys *theirs, kbd48_queue *ours, uint64_t now, uint8_t place, bool down) {
+    int32_t status = kbd48_queue_key(theirs, now, place, down);
+    switch (kbd48_queue_push(ours, now, place, down)) {
+    case KBD48_PUSH_NO_PLACE: CHECK(status == KBD48_NO_SUCH_PLACE && place > 95); break;
+    case KBD48_PUSH_WAITS: CHECK(status == KBD48_DONE); break;
+    case KBD48_PUSH_REPEATED: CHECK(status == KBD48_REPEATED); break;
+    case KBD48_PUSH_NO_ROOM: CHECK(status == KBD48_FULL && down); break;
+    default: CHECK(!"an answer");
+    }
+}
+
+/* The same edges wait in both. The stamps of kbd48.h count from cycle 4,096 on. */
+static void waits_alike(const kbd48_keys *theirs, const kbd48_queue *ours) {
+    CHECK(theirs->count == ours->count && !memcmp(theirs->down, ours->down, sizeof ours->down));
+    CHECK(theirs->ready ? theirs->ready + STAMP_0 == ours->ready : !ours->ready);
+    for (unsigned i = 0; i < ours->count; i++) {
+        CHECK(theirs->edges[i].stamp + STAMP_0 == ours->edges[i].stamp && theirs->edges[i].place == ours->edges[i].place);
+        CHECK(theirs->edges[i].down == ours->edges[i].down);
+    }
+}
+
+/* A step of the loop, before which the edge that is due is handed over. */
+static void keyed_step(board *b, kbd48_queue *queue) {
+    kbd48_queue before = *queue;
+    uint8_t byte = 0;
+    bool due = kbd48_queue_wait(queue, b->now, 1000) == 0;
+    uint64_t at = before.count && before.edges[0].stamp > before.ready ? before.edges[0].stamp : before.ready;
+    CHECK(due == (before.count && at <= b->now) && kbd48_queue_wait(queue, b->now, 0) == 0);
+    if (before.count && !due) CHECK(kbd48_queue_wait(queue, b->now, UINT32_MAX) == at - b->now);
+    CHECK(before.count || kbd48_queue_wait(queue, b->now, 77) == 77);
+    CHECK(kbd48_keyboard_take(&b->keyboard, queue, UINT64_MAX) == 0 && kbd48_keyboard_take(&b->keyboard, queue, b->now) == due);
+    CHECK(due || !memcmp(&before, queue, sizeof before));
+    edges_taken += due;
+    CHECK(step(b, NOTHING, &byte));
+}
+
+/* Keys through the queue of kbd48.h and through that of the halves, with INT 09h reading: the library and the halves differ
+   nowhere. */
+static void queues(kbd48 *k, board *b, unsigned long count, bool debounce) {
+    static uint8_t bytes[KBD48_SAVED];
+    kbd48_keys theirs = KBD48_NO_KEYS;
+    kbd48_queue ours = KBD48_NO_QUEUE;
+    uint64_t passed;
+    kbd48_spot spot;
+    CHECK(kbd48_power_on(k, 0) == KBD48_DONE && kbd48_save(k, bytes, sizeof bytes) == KBD48_DONE);
+    bytes[KBD48_SAVED - sizeof program.bytes + DEBOUNCE] = debounce;
+    CHECK(kbd48_load(k, bytes, sizeof bytes) == KBD48_DONE);
+    switch_on(b, 0);
+    b->keyboard.chip.program[DEBOUNCE] = debounce;
+    hosts(k, b, UNMASK, 0);
+    for (call = 0; call < count; call++) {
+        uint32_t what = random_below(64), places = random_below(8) ? 97 : 5;
+        if (what == 0) {
+            CHECK(kbd48_release_all(&theirs, b->now) == KBD48_DONE);
+            kbd48_queue_release_all(&ours, b->now);
+        } else {
+            push(&theirs, &ours, b->now, (uint8_t)random_below(places), what % 2);
+        }
+        uint32_t cycles = random_below(what < 8 ? 20000 : 1000);
+        for (uint64_t left = cycles; left; left -= passed < left ? passed : left) {
+            CHECK(kbd48_run_keys(k, &theirs, left, false, &passed, &spot) <= KBD48_KEY_DUE);
+        }
+        for (uint64_t end = b->now + cycles; b->now < end;) keyed_step(b, &ours);
+        is_alike(k, b), waits_alike(&theirs, &ours);
+        for (kbd48_item item; kbd48_next(k, &item) != KBD48_NOTHING_SAID;) {}
+        said = 0;
+    }
+}
+
+/* Two keyboards with the same edges in their queues. One is stepped all the time. The other is left alone as long as it rests,
+   and makes its steps then, in which nothing of it changes that is seen. Both are the same again and again. */
+static void sleeps(void) {
+    static kbd48_keyboard stepped = KBD48_NO_KEYBOARD, slept = KBD48_NO_KEYBOARD;
+    kbd48_queue queue = KBD48_NO_QUEUE, same = KBD48_NO_QUEUE;
+    uint64_t now = 0, then = 0;
+    unsigned long naps = 0;
+    kbd48_keyboard_open(&stepped, &program, 0), kbd48_keyboard_open(&slept, &program, 0);
+    while (now < 800000) {
+        uint64_t end = then + 1 + random_below(20000);
+        uint32_t others = random_below(4) ? KBD48_RELEASED : random_below(4);
+        uint8_t place = (uint8_t)random_below(96);
+        CHECK(kbd48_queue_push(&queue, now, place, call % 2) == kbd48_queue_push(&same, now, place, call % 2));
+        while (now < end) {
+            kbd48_keyboard_take(&stepped, &queue, now);
+            uint32_t cycles = kbd48_keyboard_step(&stepped, kbd48_keyboard_drive(&stepped) & others);
+            CHECK(cycles > 0);
+            now += cycles;
+        }
+        while (then < end) {
+            kbd48_keyboard_take(&slept, &same, then);
+            uint32_t rest = kbd48_keyboard_rests(&slept, others, kbd48_queue_wait(&same, then, (uint32_t)(end - then)));
+            uint32_t drive = kbd48_keyboard_drive(&slept), lights = kbd48_keyboard_lights(&slept);
+            for (uint64_t wakes = then + rest; then < wakes;) {
+                then += kbd48_keyboard_step(&slept, kbd48_keyboard_drive(&slept) & others);
+                CHECK(kbd48_keyboard_drive(&slept) == drive && kbd48_keyboard_lights(&slept) == lights);
+            }
+            if (then < end && kbd48_queue_wait(&same, then, 1)) {
+                then += kbd48_keyboard_step(&slept, kbd48_keyboard_drive(&slept) & others);
+            }
+            naps += rest > 100;
+        }
+        CHECK(now == then && !memcmp(&stepped, &slept, sizeof slept) && !memcmp(&queue, &same, sizeof same));
+        call++;
+    }
+    CHECK(naps > 0);
+    call = 0;
 }
 
 int main(int argc, char **argv) {
@@ -359,6 +565,9 @@ int main(int argc, char **argv) {
     CHECK(kbd48_open_hex(hex, length, &k, &fault) == KBD48_DONE && kbd48_save(&k, bytes, sizeof bytes) == KBD48_DONE);
     memcpy(program.bytes, bytes + KBD48_SAVED - sizeof program.bytes, sizeof program.bytes);
     sticks();
+    reads_pins();
+    if (argc < 2 || strstr(argv[1], "us84.hex")) sleeps();
+    kbd48_controller_pins(&joined.twin, TWIN_PINS);
     switch_on(&joined, 0);
     is_alike(&k, &joined);
     says_alike(&k);
@@ -368,12 +577,16 @@ int main(int argc, char **argv) {
     kept = joined;
     for (call = 0; call < count; call++) {
         calls(&k, &other, &joined);
+        if (call % 64 == 0) rests(&joined, random_below(4) ? kbd48_controller_drive(&joined.controller) : random_below(4), random_below(20000));
+        if (call % 4 == 0) falls_silent(&joined, random_below(2) ? kbd48_keyboard_drive(&joined.keyboard) : random_below(4));
         is_alike(&k, &joined);
         looks_alike(&k, &joined);
         says_alike(&k);
     }
+    queues(&k, &joined, count / 20, false);
+    queues(&k, &joined, count / 20, true);
     CHECK(kbd48_close(&k) == KBD48_DONE && kbd48_close(&other) == KBD48_DONE);
-    CHECK(count < 1000 || (loads > 0 && items_said > 0));
-    printf("halves: %lu random calls, %lu steps, %lu items, %lu copies, loads and power-ons: halves and library differ nowhere\n",
-           call, steps_made, items_said, loads);
+    CHECK(count < 10000 || (loads > 0 && items_said > 0 && rests_tried > 0 && edges_taken > 0 && pins_read > 0));
+    printf("halves: %lu random calls, %lu steps, %lu items, %lu copies, loads and power-ons, %lu rests, %lu edges by queues: "
+           "halves and library differ nowhere\n", count, steps_made, items_said, loads, rests_tried, edges_taken);
 }

@@ -6,7 +6,7 @@
    processor, and takes one cycle or two. Between two calls the machine is between two steps. If a call makes a step,
    its comment says so.
 
-   Each function but kbd48_text and kbd48_version returns a status. With an empty handle each call that needs a keyboard
+   Each function but kbd48_text, kbd48_version and those of kbd48_help returns a status. With an empty handle each call that needs a keyboard
    returns KBD48_NOT_OPEN and does nothing (a run then says that 0 cycles passed). A call that is refused leaves the
    keyboard as it was: the statuses are KBD48_NO_SUCH_PLACE, KBD48_NO_SUCH_PORT, KBD48_NO_SUCH_BIT, KBD48_FULL,
    KBD48_EARLY, and of a call that makes one step also KBD48_STUCK and KBD48_OVER. A call writes through its pointers if
@@ -78,12 +78,14 @@ enum {
 /* The status in words; there is a text for every number. */
 static inline const char *kbd48_text(int32_t status) {
     static const char *const texts[] = {
-        "done", "the handle is empty", "there is no memory", "the text has a fault", "the text is too long",
-        "no such place", "no such port", "no room", "the processor is stuck", "stuck before stamp 0",
-        "the count of cycles is at its end", "no word", "the interrupt line rose", "no such cell",
-        "nothing was said", "more was said than is kept", "the key is so already", "the next edge is due",
-        "no such key", "no such bit", "not the size of a saved keyboard or queue", "no saved keyboard or queue",
-        "saved in another version", "no keyboard or queue is in such a state",
+        "it was done", "the keyboard is not open", "there is no memory left", "the text has a fault", "the text is too long",
+        "the matrix has the places 0 to 95", "the controller has the ports 60h and 64h", "there is no room",
+        "the processor is at a byte that begins no instruction", "the processor stuck before stamp 0",
+        "the count of cycles is at its end", "there is no word", "the interrupt line rose",
+        "data memory has the cells 0 to 127", "nothing was said", "more was said than is kept", "the key is so already",
+        "the next edge is due", "no key has this name", "noise turns round the bits 1 to 9 of a frame",
+        "that is not the size of a saved keyboard or queue", "these bytes are no saved keyboard or queue",
+        "this was saved in another version", "no keyboard or queue is in such a state",
     };
     return status >= 0 && (size_t)status < sizeof texts / sizeof *texts ? texts[status] : "no such status";
 }
@@ -106,8 +108,9 @@ typedef struct {
 
 /* Opens a keyboard of this layout (TOML, at most 65,536 bytes) at `handle`, and closes the one that was there. Its
    firmware is compiled, the board is powered on, 4,096 cycles pass, which is stamp 0, and INT 09h is masked. Takes all
-   memory that the keyboard takes: only kbd48_copy, kbd48_load, kbd48_power_on and the calls that open take any. On
-   KBD48_BAD_TEXT `fault` is the first fault; with any other status `fault` is as it was. On any failure the handle is as it was. */
+   memory that the keyboard takes: only kbd48_copy, kbd48_load and the calls that open take any. A text that is too long or
+   no UTF-8 is refused before any is taken. On KBD48_BAD_TEXT `fault` is the first fault; with any other status `fault` is
+   as it was. On any failure the handle is as it was. */
 int32_t kbd48_open_layout(const uint8_t *text, size_t length, kbd48 *handle, kbd48_fault *fault);
 
 /* The same with the sample layout, us84: 84 keys, each at the place of its number. No text is read. */
@@ -115,8 +118,8 @@ int32_t kbd48_open_sample(kbd48 *handle);
 
 /* The place, 0 to 95, of the key with this name in a layout's text, or in the sample layout. `examples/us84.toml` has
    the names of the 84 keys; they are compared byte by byte. Returns KBD48_NO_SUCH_KEY if there is no such key, and what
-   kbd48_open_layout returns if the text is no layout. These two calls need no handle. The first takes memory, and gives it
-   back before it returns. */
+   kbd48_open_layout returns if the text is no layout. A text that is too long is refused first, and then a name that no key
+   has. These two calls need no handle. The first then takes memory, and gives it back before it returns. */
 int32_t kbd48_layout_key(const uint8_t *text, size_t length, const uint8_t *name, size_t name_length, uint8_t *place);
 int32_t kbd48_sample_key(const uint8_t *name, size_t length, uint8_t *place);
 
@@ -135,15 +138,15 @@ int32_t kbd48_open_ready_sample(kbd48 *handle);
    keys up and with INT 09h masked. Its count of cycles begins anew, and is 4,098 for a layout. What was said before is
    gone. At power-on each byte of its data memory, its accumulator and its timer hold `fill`. The calls that open have 00
    there; a real part may hold anything. A layout's firmware clears what it uses. A queue of edges (below) begins anew with
-   the keyboard: assign KBD48_NO_KEYS to it. Returns KBD48_NO_MEMORY if there is none; the keyboard is as it was then. */
+   the keyboard: assign KBD48_NO_KEYS to it. Takes no memory. */
 int32_t kbd48_power_on(kbd48 *handle, uint8_t fill);
 
 /* Frees the keyboard, and leaves the handle empty. */
 int32_t kbd48_close(kbd48 *handle);
 
-/* Opens a copy of the keyboard of `from` at `to`, and closes the one that was there. The copy is in the same state and
-   has memory of its own: the same calls return the same. On any failure `to` is as it was. Keep a copy to go back to,
-   or open one board up to its AA and copy it for each machine. */
+/* Opens a copy of the keyboard of `from` at `to`, in place of the one that was there. The copy is in the same state and
+   has memory of its own: the same calls return the same. Memory is taken only if `to` is empty; on KBD48_NO_MEMORY it
+   stays empty. Keep a copy to go back to, or open one board up to its AA and copy it for each machine. */
 int32_t kbd48_copy(kbd48 *from, kbd48 *to);
 
 /* Writes the keyboard's state at the beginning of a buffer of at least KBD48_SAVED bytes; the bytes after these stay as
@@ -247,6 +250,26 @@ int32_t kbd48_read60(kbd48 *handle, uint8_t *byte);
 /* The host reads the status at port 0x64, in one step: 01 output buffer full, 02 input buffer full, 04 system flag, 08
    last write to 0x64, 10 always, 80 parity error. */
 int32_t kbd48_status(kbd48 *handle, uint8_t *byte);
+
+/* Help for two BIOSes, off unless you ask for it (`docs/EMBEDDING.md`). What the guest sees with it isn't the machine's. The
+   struct is yours: it begins as the options that you want, and zeros. It takes no memory and has no pointer. Copy it by
+   assignment; keep one for each keyboard; store it beside a save. */
+typedef struct {
+    bool seabios;   /* the byte after F0 is replaced by EF */
+    bool bochs;     /* the self-test after FF takes the guest no time */
+    bool parameter; /* the controller awaits a parameter at port 0x60, after 60 or D1 at port 0x64 */
+    uint8_t last;   /* the last byte that the keyboard was given, or 00 */
+} kbd48_help;
+
+/* Call it before each kbd48_write for the guest. Returns the byte to write in place of the guest's: with `seabios` EF for
+   the byte that the keyboard is given after F0, and else the same. EF is then what it was given. If kbd48_write returns
+   KBD48_FULL and you drop the byte, assign the struct as it was before. */
+uint8_t kbd48_help_write(kbd48_help *help, uint8_t port, uint8_t byte);
+
+/* Call it after the guest has read this byte from port 0x60. With `bochs` it returns true if the byte is FA and the keyboard
+   was given FF last; this is said once. Then run the keyboard on, `watched`, until the line rises at the end of the
+   self-test. */
+bool kbd48_help_read(kbd48_help *help, uint8_t byte);
 
 /* Switches INT 09h of this project on or off, in one step. While it is on, it reads each byte 64 cycles after it was
    put out. At first it is off, and the host is the caller. */

@@ -134,6 +134,33 @@ pub struct Keys {
 const NO_KEYS: Keys =
     Keys { ready: 0, edges: [Pushed { stamp: 0, place: 0, down: false }; 160], down: [false; 96], count: 0 };
 
+/// Help for two BIOSes. What the guest sees with it isn't the machine's. Copy it beside a save.
+#[repr(C)]
+#[derive(Clone, Copy, Debug, Default, PartialEq, Eq)]
+pub struct Help {
+    seabios: bool,
+    bochs: bool,
+    parameter: bool,
+    last: u8,
+}
+
+impl Help {
+    /// With `seabios` the byte after F0 is replaced by EF; with `bochs` the self-test after FF takes the guest no time.
+    pub fn new(seabios: bool, bochs: bool) -> Help {
+        Help { seabios, bochs, ..Help::default() }
+    }
+
+    /// The byte to write in place of the guest's. Call it before each write for the guest.
+    pub fn write(&mut self, port: u8, byte: u8) -> u8 {
+        unsafe { kbd48_help_write(self, port, byte) }
+    }
+
+    /// Whether to run the keyboard on, watched, until the line rises. Call it after the guest has read this byte from port 60h.
+    pub fn read(&mut self, byte: u8) -> bool {
+        unsafe { kbd48_help_read(self, byte) }
+    }
+}
+
 #[repr(C)]
 struct Handle {
     at: *mut c_void,
@@ -167,6 +194,8 @@ unsafe extern "C" {
     fn kbd48_sample_key(name: *const u8, length: usize, place: *mut u8) -> i32;
     fn kbd48_queue_key(queue: *mut Keys, cycle: u64, place: u8, down: bool) -> i32;
     fn kbd48_release_all(queue: *mut Keys, cycle: u64) -> i32;
+    fn kbd48_help_write(help: *mut Help, port: u8, byte: u8) -> u8;
+    fn kbd48_help_read(help: *mut Help, byte: u8) -> bool;
     fn kbd48_queued(queue: *mut Keys, count: *mut u8) -> i32;
     fn kbd48_save_keys(queue: *mut Keys, buffer: *mut u8, length: usize) -> i32;
     fn kbd48_load_keys(queue: *mut Keys, bytes: *const u8, length: usize) -> i32;
@@ -201,27 +230,56 @@ unsafe extern "C" {
     fn kbd48_cell(handle: *mut Handle, number: u8, byte: *mut u8) -> i32;
 }
 
+/// The statuses of `c/kbd48.h`, by their numbers.
+#[allow(dead_code)]
+mod status {
+    pub const DONE: i32 = 0;
+    pub const NOT_OPEN: i32 = 1;
+    pub const NO_MEMORY: i32 = 2;
+    pub const BAD_TEXT: i32 = 3;
+    pub const TOO_LONG: i32 = 4;
+    pub const NO_SUCH_PLACE: i32 = 5;
+    pub const NO_SUCH_PORT: i32 = 6;
+    pub const FULL: i32 = 7;
+    pub const STUCK: i32 = 8;
+    pub const EARLY: i32 = 9;
+    pub const OVER: i32 = 10;
+    pub const NO_WORD: i32 = 11;
+    pub const ROSE: i32 = 12;
+    pub const NO_SUCH_CELL: i32 = 13;
+    pub const NOTHING_SAID: i32 = 14;
+    pub const LOST: i32 = 15;
+    pub const REPEATED: i32 = 16;
+    pub const KEY_DUE: i32 = 17;
+    pub const NO_SUCH_KEY: i32 = 18;
+    pub const NO_SUCH_BIT: i32 = 19;
+    pub const BAD_SIZE: i32 = 20;
+    pub const NOT_SAVED: i32 = 21;
+    pub const OTHER_VERSION: i32 = 22;
+    pub const BAD_STATE: i32 = 23;
+}
+
 /// An answer by its status. Statuses that a call takes for an answer never come here.
 fn judged(status: i32, fault: Fault) -> Result<(), Error> {
     Err(match status {
-        0 => return Ok(()),
-        2 => Error::NoMemory,
-        3 => Error::BadText { position: fault.position, number: fault.number },
-        4 => Error::TooLong,
-        5 => Error::NoSuchPlace,
-        6 => Error::NoSuchPort,
-        7 => Error::Full,
-        8 => Error::Stuck,
-        9 => Error::Early,
-        10 => Error::Over,
-        13 => Error::NoSuchCell,
-        15 => Error::Lost,
-        18 => Error::NoSuchKey,
-        19 => Error::NoSuchBit,
-        20 => Error::BadSize,
-        21 => Error::NotSaved,
-        22 => Error::OtherVersion,
-        23 => Error::BadState,
+        status::DONE => return Ok(()),
+        status::NO_MEMORY => Error::NoMemory,
+        status::BAD_TEXT => Error::BadText { position: fault.position, number: fault.number },
+        status::TOO_LONG => Error::TooLong,
+        status::NO_SUCH_PLACE => Error::NoSuchPlace,
+        status::NO_SUCH_PORT => Error::NoSuchPort,
+        status::FULL => Error::Full,
+        status::STUCK => Error::Stuck,
+        status::EARLY => Error::Early,
+        status::OVER => Error::Over,
+        status::NO_SUCH_CELL => Error::NoSuchCell,
+        status::LOST => Error::Lost,
+        status::NO_SUCH_KEY => Error::NoSuchKey,
+        status::NO_SUCH_BIT => Error::NoSuchBit,
+        status::BAD_SIZE => Error::BadSize,
+        status::NOT_SAVED => Error::NotSaved,
+        status::OTHER_VERSION => Error::OtherVersion,
+        status::BAD_STATE => Error::BadState,
         other => unreachable!("status {other} of an open keyboard"),
     })
 }
@@ -296,7 +354,7 @@ impl Keyboard {
     /// nothing.
     pub fn queue_key(&mut self, place: u8, down: bool) -> Result<(), Error> {
         match unsafe { kbd48_queue_key(self.keys.get(), self.cycle(), place, down) } {
-            16 => Ok(()),
+            status::REPEATED => Ok(()),
             status => done(status),
         }
     }
@@ -346,8 +404,8 @@ impl Keyboard {
             ran.passed += passed;
             ran.rises += self.rises();
             match status {
-                12 => return Ok(KeysRan { rose: true, ..ran }),
-                17 => {}
+                status::ROSE => return Ok(KeysRan { rose: true, ..ran }),
+                status::KEY_DUE => {}
                 _ => return done(status).map(|()| ran),
             }
         }
@@ -387,7 +445,7 @@ impl Keyboard {
     pub fn run(&mut self, cycles: u64, watched: bool) -> Result<Ran, Error> {
         let (mut passed, mut spot) = (0, Spot::default());
         match unsafe { kbd48_run(self.handle.get(), cycles, watched, &mut passed, &mut spot) } {
-            12 => Ok(Ran { passed, rose: true }),
+            status::ROSE => Ok(Ran { passed, rose: true }),
             status => done(status).map(|()| Ran { passed, rose: false }),
         }
     }
@@ -429,7 +487,7 @@ impl Keyboard {
     pub fn take(&mut self) -> Result<Option<u16>, Error> {
         let mut word = 0;
         match unsafe { kbd48_take(self.handle.get(), &mut word) } {
-            11 => Ok(None),
+            status::NO_WORD => Ok(None),
             status => done(status).map(|()| Some(word)),
         }
     }
@@ -438,7 +496,7 @@ impl Keyboard {
     pub fn next_said(&mut self) -> Result<Option<Item>, Error> {
         let mut item = Item::default();
         match unsafe { kbd48_next(self.handle.get(), &mut item) } {
-            14 => Ok(None),
+            status::NOTHING_SAID => Ok(None),
             status => done(status).map(|()| Some(item)),
         }
     }

@@ -30,7 +30,7 @@ typedef struct {
    that nothing in them needs an end. The text goes to `text`. If it needs more room than `text_length`, the exit is 6, as
    of an output that is full: call again with more. `said` and `text` are written only if the result is 0. The result is
    0 if there is an answer, which may be a refusal with its exit; 2 if there is no memory for words, files and text; 5 if a
-   piece isn't within the bytes, or a word or a name is no UTF-8 text. No file is read and nothing is kept between calls.
+   piece isn't within the bytes, or a word or a name is no UTF-8 text, which is judged before memory is taken. No file is read and nothing is kept between calls.
    The caller ensures that no pointer is null, and that no two of a call overlap. */
 int32_t kbd48_call(const uint8_t *bytes, size_t length, const kbd48_piece *words, size_t words_length,
                    const kbd48_named *files, size_t files_length, uint8_t *text, size_t text_length, kbd48_said *said);

@@ -29,6 +29,19 @@
 #define KBD48_HALVES_H
 #include "kbd48_chip.h"
 
+/* Each struct has the same bytes on every machine. Without this, some begin a number of 64 bits at a multiple of 4. */
+#ifndef KBD48_ALIGNED
+#if defined(__cplusplus) && __cplusplus >= 201103L
+#define KBD48_ALIGNED alignas(8)
+#elif defined(__STDC_VERSION__) && __STDC_VERSION__ >= 201112L
+#define KBD48_ALIGNED _Alignas(8)
+#elif defined(__GNUC__) || defined(__TINYC__)
+#define KBD48_ALIGNED __attribute__((aligned(8)))
+#else
+#define KBD48_ALIGNED
+#endif
+#endif
+
 #ifdef __cplusplus
 extern "C" {
 #endif
@@ -57,10 +70,11 @@ typedef struct {
 #define KBD48_NO_CONTROLLER {{0}}
 
 /* Its state, in one form for all machines: three groups of the bytes that a saved keyboard has ("Saved bytes" of
-   `docs/CALLS.md`). `end` is the cycle in which the output buffer was filled (8 bytes), whether a reply is awaited, the bit
-   that noise turns round in the next frame (2 bytes), and the level of the clock at the last look. */
+   `docs/CALLS.md`), and the pins of its input port. `end` is the cycle in which the output buffer was filled (8 bytes), whether
+   a reply is awaited, the bit that noise turns round in the next frame (2 bytes), and the level of the clock at the last look. */
 typedef struct {
     uint8_t buffers[11], end[12], link[23];
+    uint8_t pins;
 } kbd48_controller_saved;
 
 /* What is seen of it. */
@@ -81,16 +95,51 @@ enum {
     KBD48_DID_PULSE = 3     /* these of its four low lines were pulsed: each 0 bit; bit 0 is reset */
 };
 
-/* The exports. Each takes the place of a pointer to the half, and leaves that pointer as it is. */
+/* An edge of a key, and a queue of edges. The queue hands each edge over as soon as a keyboard can see it and has had the time
+   to send the edge before: 2,240 cycles after a press, 4,480 after a release. If the layout has a debounce, it is 4,480 after
+   each edge. So the keyboard sees the edges in the order in which they were pushed, and a stroke of any length. The queue begins
+   as KBD48_NO_QUEUE, is written only by these calls or by assignment of another one, takes no memory and has no pointer. Keep
+   one for each keyboard. The queue of kbd48.h is like it, but counts from cycle 4,096 on and hands over to the whole keyboard
+   alone. */
+typedef struct {
+    KBD48_ALIGNED uint64_t stamp; /* the cycle in which it happened */
+    uint8_t place;
+    bool down;
+} kbd48_edge;
+
+typedef struct {
+    KBD48_ALIGNED uint64_t ready; /* the cycle from which on the next edge may be handed over */
+    kbd48_edge edges[160];        /* those that wait, in the order in which they were pushed */
+    bool down[96];                /* whether the key at each place is down after all of them */
+    uint8_t count;                /* how many wait */
+} kbd48_queue;
+#ifdef __cplusplus
+#define KBD48_NO_QUEUE {}
+#else
+#define KBD48_NO_QUEUE {0}
+#endif
+
+/* What a push returns. The queue is as it was, unless the edge waits. */
+enum {
+    KBD48_PUSH_NO_PLACE = 0, /* the place is above 95 */
+    KBD48_PUSH_WAITS = 1,
+    KBD48_PUSH_REPEATED = 2, /* the key is so already: those are the repeats of a window system, to be left out */
+    KBD48_PUSH_NO_ROOM = 3   /* it is a press, and 64 edges wait; a release always finds room */
+};
+
+/* The exports. Those with `_at` take the place of a pointer to the half, and leave that pointer as it is. */
 void kbd48_keyboard_open_at(kbd48_keyboard **keyboard, const kbd48_program *program, uint8_t fill);
 void kbd48_keyboard_reset_at(kbd48_keyboard **keyboard);
 int32_t kbd48_keyboard_key_at(kbd48_keyboard **keyboard, uint8_t place, bool down);
 int32_t kbd48_keyboard_step_at(kbd48_keyboard **keyboard, uint32_t levels);
 int32_t kbd48_keyboard_drive_at(kbd48_keyboard **keyboard);
 int32_t kbd48_keyboard_lights_at(kbd48_keyboard **keyboard);
+uint32_t kbd48_keyboard_rests_at(kbd48_keyboard **keyboard, uint32_t levels, uint32_t most);
+int32_t kbd48_keyboard_take_at(kbd48_keyboard **keyboard, kbd48_queue *queue, uint64_t now);
 void kbd48_keyboard_save_at(kbd48_keyboard **keyboard, kbd48_keyboard_saved *saved);
 int32_t kbd48_keyboard_load_at(kbd48_keyboard **keyboard, const kbd48_keyboard_saved *saved);
 void kbd48_controller_reset_at(kbd48_controller **controller);
+void kbd48_controller_pins_at(kbd48_controller **controller, uint8_t pins);
 void kbd48_controller_look_at(kbd48_controller **controller, uint64_t now, uint32_t levels);
 int32_t kbd48_controller_write_at(kbd48_controller **controller, bool command, uint8_t byte);
 int32_t kbd48_controller_read60_at(kbd48_controller **controller);
@@ -137,6 +186,35 @@ static inline uint8_t kbd48_keyboard_lights(kbd48_keyboard *keyboard) {
     return (uint8_t)kbd48_keyboard_lights_at(&keyboard);
 }
 
+/* For how many cycles, at most `most`, the keyboard goes on with the drive and the lights of now, if no key moves and the other
+   side drives these levels all the while: KBD48_RELEASED if it pulls no wire. They are those of whole steps. The next step
+   changes the drive or the lights, would end after more than `most` cycles, or can't be made: then kbd48_keyboard_step returns
+   0. So it may be one less than `most`. The keyboard stays as it is; it is 0 if the very next step changes something.
+
+   So you may let that much time pass without a call. Then make the steps, with the levels of the wires as ever, until as many
+   cycles have passed. If you move a key, or the other side changes what it drives, make the steps up to that cycle first. The
+   call makes the steps on a copy, so it takes as long as they do. */
+static inline uint32_t kbd48_keyboard_rests(kbd48_keyboard *keyboard, uint32_t levels, uint32_t most) {
+    return kbd48_keyboard_rests_at(&keyboard, levels, most);
+}
+
+/* The key at a place, 0 to 95, goes down or up in this cycle, after all edges that wait in the queue. Returns one of
+   KBD48_PUSH_... */
+int32_t kbd48_queue_push(kbd48_queue *queue, uint64_t now, uint8_t place, bool down);
+
+/* Each key that is down goes up in this cycle, after all edges that wait. Call it when your window loses the focus. */
+void kbd48_queue_release_all(kbd48_queue *queue, uint64_t now);
+
+/* In how many cycles from this one on the next edge is due: 0 if one is due now, and `most` if none is due before. */
+uint32_t kbd48_queue_wait(kbd48_queue *queue, uint64_t now, uint32_t most);
+
+/* Hands over the edge of the queue that is due in this cycle: its key goes down or up. Call it before each step, or when
+   kbd48_queue_wait returned 0. Returns 1, or 0 if none is due, and from cycle 2^63 on; then nothing has changed. Whether the
+   layout has a debounce is read from the keyboard's program. */
+static inline int32_t kbd48_keyboard_take(kbd48_keyboard *keyboard, kbd48_queue *queue, uint64_t now) {
+    return kbd48_keyboard_take_at(&keyboard, queue, now);
+}
+
 /* Writes the keyboard's state but for the program. */
 static inline void kbd48_keyboard_save(kbd48_keyboard *keyboard, kbd48_keyboard_saved *saved) {
     kbd48_keyboard_save_at(&keyboard, saved);
@@ -149,9 +227,18 @@ static inline int32_t kbd48_keyboard_load(kbd48_keyboard *keyboard, const kbd48_
     return kbd48_keyboard_load_at(&keyboard, saved);
 }
 
-/* Resets the controller alone: it is as at power-on, with both buffers empty and the command byte 45. Call it first. */
+/* Resets the controller alone: it is as at power-on, with both buffers empty and the command byte 45. Call it first. The pins of
+   its input port stay as they are. */
 static inline void kbd48_controller_reset(kbd48_controller *controller) {
     kbd48_controller_reset_at(&controller);
+}
+
+/* The pins of the input port have these levels from now on, B0 if you never set them: bit 7 is the keylock (1 open), bit 6 the
+   display's switch (0 colour, 1 monochrome), bit 5 the manufacturing jumper (1 not installed), bit 4 the memory's jumper (0 for
+   512 KB on the board, 1 for 256 KB). The other bits mean nothing. Command C0 puts out all eight, and nothing else reads them:
+   a closed lock holds no key back, and bit 4 of the status is always 1. */
+static inline void kbd48_controller_pins(kbd48_controller *controller, uint8_t pins) {
+    kbd48_controller_pins_at(&controller, pins);
 }
 
 /* The controller's look at the wires in cycle `now`, one more than that of the last look. The clock falls if it was high at the
@@ -193,7 +280,7 @@ static inline bool kbd48_controller_interrupt(kbd48_controller *controller) {
 }
 
 /* What is seen of the controller. The status is what port 64h reads: 01 output buffer full, 02 input buffer full, 04 system flag,
-   08 last write to 64h, 10 always, 80 parity error. The input port is B0 for command C0: no jumper and no keylock can be set. */
+   08 last write to 64h, 10 always, 80 parity error. */
 static inline void kbd48_controller_registers(kbd48_controller *controller, kbd48_controller_shown *registers) {
     kbd48_controller_registers_at(&controller, registers);
 }

@@ -55,6 +55,10 @@ fn main() -> Result<(), Box<dyn std::error::Error>> {
         assert_eq!(sample.read60()?, byte);
     }
     assert_eq!((sample.queued(), sample.run_keys(4000, false)?.rises), (0, 0));
+    let mut help = kbd48::Help::new(true, true);
+    assert_eq!([help.write(0x60, 0xf0), help.write(0x60, 0x02), help.write(0x60, 0xff)], [0xf0, 0xef, 0xff]);
+    assert!(help.read(0xfa) && !help.read(0xfa));
+
     let mut ready = Keyboard::ready_of_layout(&std::fs::read("examples/us84.toml")?)?;
     assert!(ready.interrupt() && ready.lost() == 0);
     assert_eq!((ready.flip(10), ready.flip(9), ready.pulls().1), (Err(Error::NoSuchBit), Ok(()), 1));

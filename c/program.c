@@ -1,7 +1,7 @@
 /* The program kbd48 by the one call of kbd48_call.h, with files, standard input and standard output.
 
-   A file is read when the program asks for it: a call without it has the exit 5, and the next word is its name. So files are
-   read in the order of the words, each once, and only if those before it are right. The call sees a file under a name
+   A file is read when the program asks for it: a call without it has the exit 5, and the next word that isn't an option is its
+   name. So files are read in the order of the words, each once, and only if those before it are right. The call sees a file under a name
    that is longer than any word, so a file that is named twice is read twice. /dev/stdin is the standard input on every
    system. The text is printed when the call has ended. With BOTH the program also opens a keyboard of the other library. */
 #include "kbd48_call.h"
@@ -143,6 +143,7 @@ int main(int argc, char **argv) {
             continue;
         }
         if (status != CALL_DONE) return EXIT_MEMORY;
+        while (next < it.word_count && argv[next + 1][0] == '-') next++;
         if (said.exit != EXIT_READ || next >= it.word_count || !has_added(&it, next, argv[next + 1])) break;
     }
     if (fwrite(text, 1, said.length, stdout) != said.length || fflush(stdout)) return EXIT_WRITE;

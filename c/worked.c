@@ -334,6 +334,7 @@ static void a_key_has_its_place_by_its_name(void) {
     CHECK(kbd48_sample_key(&h, 1, &place) == KBD48_DONE && place == 34);
     CHECK(kbd48_sample_key(&capital_h, 1, &place) == KBD48_NO_SUCH_KEY && place == 34);
     CHECK(kbd48_layout_key(no_layout, sizeof no_layout - 1, &h, 1, &place) == KBD48_BAD_TEXT && place == 34);
+    CHECK(kbd48_layout_key(no_layout, sizeof no_layout - 1, &capital_h, 1, &place) == KBD48_NO_SUCH_KEY && place == 34);
     CHECK(kbd48_layout_key(text, sizeof text - 1, &h, 1, &place) == KBD48_DONE && place == 10);
     CHECK(kbd48_layout_key(text, sizeof text - 1, &g, 1, &place) == KBD48_NO_SUCH_KEY && place == 10);
 }

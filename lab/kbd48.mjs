@@ -19,12 +19,15 @@ export const Item = Object.freeze({
   PAUSE: 12, RESUME: 13, PRINT: 14, BOOT: 15, SYS_MAKE: 16, SYS_BREAK: 17, SENT: 18, GIVEN: 19,
 });
 
-const STATUS_TEXTS = ['done', 'the handle is empty', 'there is no memory left', 'the text has a fault', 'the text is too long',
-  'there is no such place', 'there is no such port', 'there is no room', 'the processor is stuck',
-  'the processor stuck before stamp 0', 'the count of cycles is at its end', 'there is no word', 'the interrupt line rose', 'there is no such cell', 'nothing was said',
-  'more was said than is kept', 'the key is so already', 'the next edge is due', 'there is no such key',
-  'there is no such bit', 'that is not the size of a saved keyboard or queue',
-  'these bytes are no saved keyboard or queue', 'this was saved in another version', 'no keyboard or queue is in such a state'];
+const STATUS_TEXTS = [
+  'it was done', 'the keyboard is not open', 'there is no memory left', 'the text has a fault', 'the text is too long',
+  'the matrix has the places 0 to 95', 'the controller has the ports 60h and 64h', 'there is no room',
+  'the processor is at a byte that begins no instruction', 'the processor stuck before stamp 0',
+  'the count of cycles is at its end', 'there is no word', 'the interrupt line rose', 'data memory has the cells 0 to 127',
+  'nothing was said', 'more was said than is kept', 'the key is so already', 'the next edge is due', 'no key has this name',
+  'noise turns round the bits 1 to 9 of a frame', 'that is not the size of a saved keyboard or queue',
+  'these bytes are no saved keyboard or queue', 'this was saved in another version', 'no keyboard or queue is in such a state',
+];
 
 /** A call that was refused. `position` and `number` say which rule a text breaks, and at which entry or line. */
 export class Kbd48Error extends Error {

@@ -83,6 +83,29 @@ int32_t kbd48_release_all(kbd48_keys *queue, uint64_t cycle) {
     return (int32_t)status;
 }
 
+/* What a help has is four bytes, each by itself. */
+HOLDS(helps_are_alike_everywhere, sizeof(kbd48_help) == 4 && offsetof(kbd48_help, last) == 3);
+HOLDS(helps_need_no_stack, !NEED_kbd48_help_write && !NEED_kbd48_help_read);
+HOLDS(helps_need_no_data, !DATA_kbd48_help_write && !DATA_kbd48_help_read);
+
+uint8_t kbd48_help_write(kbd48_help *help, uint8_t port, uint8_t byte) {
+    small_machine it;
+    machine *m = small(&it);
+    put(m, ONE, help, sizeof *help);
+    u32 instead = wasm_kbd48_help_write(m, ONE, port, byte);
+    get(m, ONE, help, sizeof *help);
+    return (uint8_t)instead;
+}
+
+bool kbd48_help_read(kbd48_help *help, uint8_t byte) {
+    small_machine it;
+    machine *m = small(&it);
+    put(m, ONE, help, sizeof *help);
+    u32 begins = wasm_kbd48_help_read(m, ONE, byte);
+    get(m, ONE, help, sizeof *help);
+    return begins & 1;
+}
+
 int32_t kbd48_queued(kbd48_keys *queue, uint8_t *count) {
     small_machine it;
     machine *m = small(&it);
@@ -250,10 +273,17 @@ int32_t kbd48_layout_key(const uint8_t *text, size_t length, const uint8_t *name
     return status;
 }
 
-/* A copy is the machine with all its memory, but for the stack, on which nothing is between two calls. */
+/* A copy is the machine with all its memory, but for the stack, on which nothing is between two calls. A machine with as much
+   memory becomes the copy, and none is taken. */
 int32_t kbd48_copy(kbd48 *from, kbd48 *to) {
     const machine *m = from->at;
     if (!m) return KBD48_NOT_OPEN;
+    machine *there = to->at;
+    if (there == m) return KBD48_DONE;
+    if (there && there->end == m->end) {
+        memcpy(AT(there, HANDLE), AT(m, HANDLE), (size_t)(m->end - HANDLE));
+        return KBD48_DONE;
+    }
     machine *copy = malloc(sizeof *copy);
     u8 *memory = copy ? malloc((size_t)(m->end - LOWEST)) : NULL;
     if (!memory) {

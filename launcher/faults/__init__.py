@@ -30,6 +30,7 @@ FILES = {
     "cert": ["hex", "cert"],
     "type": ["layout", "text"],
     "capture": ["vcd"],
+    "capture --keys": ["layout", "vcd"],
 }
 TABLE = Path(__file__).resolve().parent.parent.parent / "docs/faults.tsv"
 SAID = re.compile(
@@ -64,6 +65,14 @@ class Fault:
         return self.lines[self.at - 1] if 0 < self.at <= len(self.lines) else ""
 
 
+def named(words):
+    """The files that the words of a call name, by their kinds, in their order. An option may be the command's second word."""
+    for command in (" ".join(words[:2]), words[0]):
+        if command in FILES:
+            return dict(zip(FILES[command], words[len(command.split()) :]))
+    return {}
+
+
 def table():
     """What `docs/faults.tsv` says of each kind and number: the rule, and the sentence in words."""
     rows = (line.split("\t") for line in TABLE.read_text(encoding="utf-8").splitlines()[1:])
@@ -79,23 +88,23 @@ def shown(text):
 def explained(said, words):
     """The lines that explain what the program said of a call with these words; none if it said something else."""
     found = SAID.fullmatch(said.strip())
-    if not found or words[0] not in FILES:
+    if not found:
         return []
-    named = dict(zip(FILES[words[0]], words[1:]))
+    names = named(words)
     kind = found["kind"] or found["long"] or "keys"
     kind = "layout" if said.startswith("input: layout") else kind
-    if kind not in named:
+    if kind not in names:
         return []
     if found["long"]:
-        return [f"{named[kind]} has more than {LIMITS[kind]:,} bytes, the most that such a file may have"]
-    files = {it: Path(name).read_bytes() for it, name in named.items() if Path(name).is_file()}
+        return [f"{names[kind]} has more than {LIMITS[kind]:,} bytes, the most that such a file may have"]
+    files = {it: Path(name).read_bytes() for it, name in names.items() if Path(name).is_file()}
     if kind not in files:
         return []
     stamps = (int(found["first"] or 0), int(found["second"] or 0))
     fault = Fault(kind, int(found["number"] or found["late"]), int(found["at"] or found["line"]), stamps, files)
     place, text = KINDS[kind].place(fault) if hasattr(KINDS[kind], "place") else (f"line {fault.at}", fault.text)
-    head = f"{named[kind]}, {place}: {shown(text)}" if text else f"{named[kind]}, {place}"
-    return [head, table()[kind, fault.number][1], *(mark(fault) or of_another_kind(fault, named, words) or guessed(fault))]
+    head = f"{names[kind]}, {place}: {shown(text)}" if text else f"{names[kind]}, {place}"
+    return [head, table()[kind, fault.number][1], *(mark(fault) or of_another_kind(fault, names, words) or guessed(fault))]
 
 
 def guessed(fault):
@@ -110,16 +119,16 @@ def guessed(fault):
 STRANGE = {"hex": {1}, "asm": {1, 2, 3}, "layout": {1, 2, 3}, "keys": {1, 2}, "script": {1}, "cert": {1}, "text": {1}, "vcd": {1, 10}}
 
 
-def of_another_kind(fault, named, words):
+def of_another_kind(fault, names, words):
     """What a file is that isn't of the kind that comes in its place, and what takes it; nothing if it is of that kind. Two files
     that are exchanged are said to be."""
     found = kinds.of_bytes(fault.data) if fault.number in STRANGE[fault.kind] else None
     if not found or found["kind"] == fault.kind or (found["kind"] == "asm" and fault.kind == "text"):
         return []
-    lines = [kinds.said(found, named[fault.kind])]
-    other = named.get(found["kind"])
+    lines = [kinds.said(found, names[fault.kind])]
+    other = names.get(found["kind"])
     if other and (kinds.of_file(other) or {}).get("kind") == fault.kind:
-        exchanged = {named[fault.kind]: other, other: named[fault.kind]}
+        exchanged = {names[fault.kind]: other, other: names[fault.kind]}
         lines.append(f"the two files are exchanged: kbd48 {' '.join(exchanged.get(it, it) for it in words)}")
     return lines
 

@@ -43,7 +43,7 @@ SAMPLES = {
 @dataclass(frozen=True)
 class Form:
     """A command's form: its line, its operands, the names of signals that may follow them, both or none, and its options; each
-    option with whether a BYTE follows it."""
+    option with whether a BYTE follows it. An option before the operands is the first of them."""
 
     line: str
     command: str
@@ -63,15 +63,25 @@ class Wrong:
 
 
 def forms():
-    """The form of each command."""
+    """The form of each command; another one that begins with an option is found by both words."""
     printed = subprocess.run([FORMS], stdout=subprocess.PIPE, check=True, text=True).stdout
     found = {}
     for line in map(str.strip, printed.splitlines()):
         words = re.sub(r"\[[^]]*\]", "", line).split()[1:]
-        options = {it: value for it, value in ((it[0], bool(it[1])) for it in re.findall(r"(--\w+)( BYTE)?", line))}
+        options = {it: bool(value) for it, value in re.findall(r"(--\w+)( BYTE)?", line) if it not in words}
         signals = " ".join(re.findall(r"\[([A-Z ]+)\]", line)).split()
-        found[words[0]] = Form(line, words[0], [it for it in words[1:] if it != "..."], signals, options)
+        found[" ".join(words[: 2 if words[1].startswith("-") else 1])] = Form(line, words[0], [it for it in words[1:] if it != "..."], signals, options)
     return found
+
+
+def form_of(words, every):
+    """The form that the words are to have, or None if their first is no command."""
+    return every.get(" ".join(words[:2])) or every.get(words[0])
+
+
+def leading(form, every):
+    """The options that come right after a command, before its operands."""
+    return [it.operands[0] for it in every.values() if it.command == form.command and it.operands[0].startswith("-")]
 
 
 def shown(words):
@@ -88,25 +98,26 @@ def explained(words):
         return ["no command is given; the forms are", *(f"  {it.line}" for it in every.values())]
     if words[0] not in every:
         return [*of_no_command(words, every), "the forms are", *(f"  {it.line}" for it in every.values())]
-    form = every[words[0]]
+    form = form_of(words, every)
     wrong = first_wrong(form, words, every)
     if not wrong:
         return [f"the form is {form.line}"]
     given, before = shown(["kbd48", *words]), shown(["kbd48", *words[: wrong.at]])
     width = len(shown(words[wrong.at : wrong.at + 1])) or 1
     lines = [given, " " * (len(before) + 1) + "^" * width, wrong.why]
-    right = corrected(form, wrong.right, every)
+    right = corrected(wrong.right, every)
     if right is not None:
         lines.append(f"did you mean {shown(['kbd48', *right])}")
+        form = form_of(right, every)
     return [*lines, f"the form is {form.line}; kbd48 {form.command} --help says more"]
 
 
-def corrected(form, right, every):
+def corrected(right, every):
     """A line of words in which nothing is wrong, or None if there is none to suggest."""
     for _ in range(MOST_CORRECTIONS):
-        wrong = right and first_wrong(form, right, every)
+        wrong = right and first_wrong(form_of(right, every), right, every)
         if not wrong:
-            return right and with_signals(form, right)
+            return right and with_signals(form_of(right, every), right)
         right = wrong.right
     return None
 
@@ -132,7 +143,8 @@ def of_no_command(words, every):
         return [f"kbd48 {words[1]} --help says more of it"]
     if plain in ("prove", "test", "help", "version", "completion"):
         return [f"{word}: did you mean kbd48 --{plain}? It is given alone"]
-    meant = plain if plain in every else OTHERS.get(plain) or nearest(plain, [*every, *OTHERS])
+    commands = [it.command for it in every.values()]
+    meant = plain if plain in commands else OTHERS.get(plain) or nearest(plain, [*commands, *OTHERS])
     meant = OTHERS.get(meant, meant)
     return [f"there is no command {shown([word])}" + (f"; did you mean {shown(['kbd48', meant, *words[1:]])}" if meant else "")]
 
@@ -141,6 +153,9 @@ def first_wrong(form, words, every):
     """The first word that is wrong, or None."""
     if form.command == "words":
         return wrong_byte(words)
+    for at, word in enumerate(words[2:], 2):
+        if word in leading(form, every):
+            return late(words, at)
     names = words[1 : 1 + len(form.operands)]
     for at, operand in enumerate(form.operands, 1):
         wrong = wrong_operand(form, words, at, operand, every)
@@ -150,8 +165,20 @@ def first_wrong(form, words, every):
     return wrong_signals(form, words, at, every) or wrong_rest(form, words, at + len(words[at : at + len(form.signals)]), every)
 
 
+def late(words, at):
+    """An option that isn't right after the command. The layout comes before the dump."""
+    names = words[1:at] + words[at + 1 :]
+    if words[at] in names:
+        return Wrong(at, f"{words[at]} is there twice", [words[0], *names])
+    if [(kinds.of_file(it) or {}).get("kind") for it in names[:2] if os.path.isfile(it)] == [FILES["DUMP"], FILES["LAYOUT"]]:
+        names[:2] = reversed(names[:2])
+    return Wrong(at, f"{words[at]} comes right after {words[0]}", [words[0], words[at], *names])
+
+
 def wrong_operand(form, words, at, operand, every):
     """What is wrong with the word in an operand's place."""
+    if operand.startswith("-"):
+        return None
     if at >= len(words):
         return missing(form, words, at, operand)
     word = words[at]
@@ -184,7 +211,9 @@ def missing(form, words, at, operand):
 
 
 def sample_beside(operand, given):
-    """A file for an operand: of an image the one beside a file that is given, or else the sample."""
+    """A file for an operand: of an image the one beside a file that is given, or else the sample. An option is itself."""
+    if operand.startswith("-"):
+        return operand
     images = (os.path.splitext(name)[0] + ".hex" for name in given) if operand == "IMAGE" else ()
     return next((it for it in images if os.path.isfile(it)), SAMPLES[operand])
 
@@ -278,8 +307,9 @@ def wrong_rest(form, words, at, every):
             return wrong_option(form, words, at, every) or extra(form, words, at)
         if word in seen:
             return Wrong(at, f"{word} is there twice", words[:at] + words[at + 1 + form.options[word] :])
-        if {word, *seen} >= {"--steps", "--trace"}:
-            return Wrong(at, "--steps and --trace exclude each other", words[:at] + words[at + 1 :])
+        others = [it for it in ("--steps", "--trace", "--seen") if it in (word, *seen)]
+        if form.command == "board" and len(others) == 2:
+            return Wrong(at, f"{others[0]} and {others[1]} exclude each other", words[:at] + words[at + 1 :])
         seen.append(word)
         if form.options[word]:
             at += 1
@@ -304,15 +334,18 @@ def wrong_option(form, words, at, every):
     if equals and name in form.options:
         given = [name, *([value] if form.options[name] else [])]
         return Wrong(at, "a blank is between an option and its value" if form.options[name] else f"{name} has no value", [*words[:at], *given, *words[at + 1 :]])
+    if equals and name in leading(form, every):
+        return Wrong(at, f"a blank is between {name} and the layout", [*words[:at], name, value, *words[at + 1 :]])
     without = words[:at] + words[at + 1 + has_value(form, words, at) :]
-    others = [it.command for it in every.values() if name in it.options]
+    options = [*form.options, *(it for it in leading(form, every) if it not in words)]
+    others = [it.command for it in every.values() if name in it.options or (name in it.operands and it.command != form.command)]
     if others:
-        mine = f"; the options of {form.command} are {' '.join(form.options)}" if form.options else f"; {form.command} has no options"
+        mine = f"; the options of {form.command} are {' '.join(options)}" if options else f"; {form.command} has no options"
         return Wrong(at, f"{name} is an option of {' and '.join(others)}{mine}", without)
-    meant = nearest(name.lstrip("-"), [it.lstrip("-") for it in form.options])
+    meant = nearest(name.lstrip("-"), [it.lstrip("-") for it in options])
     if meant:
         return Wrong(at, f"there is no option {name}", [*words[:at], f"--{meant}", *words[at + 1 :]])
-    what = f"its options are {' '.join(form.options)}" if form.options else f"{form.command} has no options"
+    what = f"its options are {' '.join(options)}" if options else f"{form.command} has no options"
     return Wrong(at, f"there is no option {shown([name])}: {what}", without)
 
 
@@ -327,7 +360,7 @@ def output_named(form, words, at, value, every):
     """An option that would name the file for the text."""
     named = value or (words[at + 1] if at + 1 < len(words) else "FILE")
     left = words[:at] + words[at + (1 if value else 2) :]
-    right = shown(["kbd48", *(corrected(form, left, every) or left)])
+    right = shown(["kbd48", *(corrected(left, every) or left)])
     return Wrong(at, f"{form.command} names no file for its text, which goes to the standard output: {right} > {shlex.quote(named)}")
 
 

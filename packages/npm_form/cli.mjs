@@ -11,7 +11,7 @@ const WRITE = 6;
 const filesOf = JSON.parse(readFileSync(new URL('files.json', import.meta.url), 'utf8'));
 
 async function answered(words) {
-  const count = filesOf[words[0]] ?? 0;
+  const count = filesOf[words.slice(0, 2).join(' ')] ?? filesOf[words[0]] ?? 0;
   const named = words.map((word, at) => word === '-' && at >= 1 && at <= count ? '/dev/stdin' : word);
   const { exit, bytes } = answerOver(await loadProgram(), named, count, true);
   if (exit === WRITE) throw new Error('the text is longer than the module has room for');

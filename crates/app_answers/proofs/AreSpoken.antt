@@ -3,7 +3,7 @@ use Rattle.std.proofs.Common.{◌≡◌, ℕ, List, [], Global, Ok, Err, inr, ap
 use Rattle.std.specs.Result.{IsErrAnd}
 use Rattle.std.specs.declared.result.Result.{Result}
 use Rattle.std.specs.declared.vec.Vec.{Vec}
-use Rattle.board_probes.specs.Probes.{Watch}
+use Rattle.run_probes.specs.Probes.{Watch}
 use Rattle.io_edge.specs.Said.{Shown}
 use Rattle.key_file.specs.Histories.{KeyHistory}
 use Rattle.key_file.specs.declared.fault.KeyFault.{KeyFault}

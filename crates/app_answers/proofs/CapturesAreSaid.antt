@@ -6,8 +6,8 @@ use Rattle.capture_lines.specs.Captures.{capture_text}
 use Rattle.io_edge.proofs.Pieces.{broken_before}
 use Rattle.io_edge.specs.Said.{IsBrokenOff, IsSaid, Shown}
 use Rattle.io_edge.specs.declared.sink.SinkFault.{SinkFault}
-use Rattle.vcd_reader.specs.Reads.{reads_of}
-use Rattle.vcd_reader.specs.declared.fault.VcdFault.{VcdFault}
+use Rattle.capture_vcd.specs.Reads.{reads_of}
+use Rattle.capture_vcd.specs.declared.fault.VcdFault.{VcdFault}
 use Rattle.app_words.specs.declared.refusal.Refusal.TheVariants.{Vcd}
 use Rattle.app_answers.specs.declared.spoken.Spoken.TheVariants.{Said}
 use Rattle.app_answers.specs.Captures.{IsCaptured, MayAnswerCapture}

@@ -4,7 +4,7 @@ use Rattle.std.specs.declared.alloc.Global.{Global}
 use Rattle.std.specs.declared.result.Result.{Result}
 use Rattle.std.specs.declared.vec.Vec.{Vec}
 use Rattle.layout_reader.specs.Layouts.{KeyLayout}
-use Rattle.typed_log.specs.Typing.{first_without}
+use Rattle.law_typed_log.specs.Typing.{first_without}
 use Rattle.app_words.specs.declared.refusal.Refusal.{Refusal}
 use Rattle.app_words.specs.declared.refusal.Refusal.TheVariants.{Text, Memory}
 use Rattle.app_answers.specs.CertTexts.{cert_said, IsCertText}

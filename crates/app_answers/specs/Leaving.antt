@@ -1,8 +1,8 @@
 -- What a call leaves, and how a run leaves the probes that look at it.
 use Rattle.std.specs.Prelude.{◌≡◌, ℕ, List, [], Ok, Err}
 use Rattle.std.specs.declared.result.Result.{Result}
-use Rattle.board_probes.specs.Looks.{looks}
-use Rattle.board_probes.specs.Probes.{Watch}
+use Rattle.run_probes.specs.Looks.{looks}
+use Rattle.run_probes.specs.Probes.{Watch}
 use Rattle.joint_feed.specs.Stories.{Story}
 use Rattle.key_file.specs.Histories.{KeyHistory}
 use Rattle.key_file.specs.declared.fault.KeyFault.{KeyFault}

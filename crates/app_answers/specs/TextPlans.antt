@@ -3,7 +3,7 @@ use Rattle.std.specs.Prelude.{◌≡◌, ℕ, List, None, Some}
 use Rattle.key_planner.specs.Plan.{text_plan}
 use Rattle.key_planner.specs.Types.{Types}
 use Rattle.layout_reader.specs.Layouts.{KeyLayout}
-use Rattle.typed_log.specs.Typing.{first_without}
+use Rattle.law_typed_log.specs.Typing.{first_without}
 
 -- what is said is the plan of a text of which each byte has a key; and it types the text: read again it is a history
 -- that is accepted for the layout, nothing is lost in it, and the host takes just the text's characters

@@ -1,15 +1,18 @@
-//! `capture`: what is found on the two wires of a keyboard, and what is wrong with it.
+//! `capture`: what is found on the two wires of a keyboard, and what is wrong with it; `capture --keys`: what was typed.
 
 ghost use Rattle.std.specs.Prelude.{◌≡◌, ◌≤◌, length, Err};
 ghost use Rattle.app_words.specs.declared.kind.Kind.{Kind};
 ghost use Rattle.app_words.specs.Kinds.{limit_of};
-ghost use Rattle.app_answers.specs.Captures.{MayAnswerCapture};
+ghost use Rattle.app_answers.specs.Answers.{answer_of};
+ghost use Rattle.app_answers.specs.Captures.{MayAnswerCapture, MayAnswerTyped};
 ghost use Rattle.app_answers.specs.Spoken.{IsSpoken};
 
 use crate::spoken::Spoken;
 use app_words::Refusal;
+use capture_keys::{CaptureFault, typed_keys};
 use capture_lines::capture;
 use io_edge::{Sink, say};
+use layout_reader::Layout;
 use std::alloc::Global;
 
 /// Says what is found in a dump with these names of the clock and of the data wire, up to its first fault, which is still
@@ -35,5 +38,28 @@ pub fn say_capture<K: Sink>(
             Some(fault) => Ok(Spoken::Captured(fault)),
             None => Ok(Spoken::Said(Ok(()))),
         },
+    }
+}
+
+/// The key file of what was typed on a layout, in a dump with these names of the clock and of the data wire; or the dump's
+/// first fault.
+pub fn type_capture(
+    alloc: Global,
+    layout: &Layout,
+    dump: &[u8],
+    clk: &str,
+    dat: &str,
+) -> Result<Vec<u8>, Refusal>
+    requires within { length dump.now ≤ limit_of Kind.Vcd }
+    ensures says { MayAnswerTyped layout.now clk.now dat.now dump.now (answer_of result) }
+    ensures unread { result ≡ Err Refusal.Read → ⊥ }
+{
+    match typed_keys(alloc, layout, dump, clk.as_bytes(), dat.as_bytes()) {
+        Ok(keys) => Ok(keys),
+        Err(CaptureFault::Dump(fault)) => Err(Refusal::Vcd {
+            line: fault.line,
+            number: fault.number,
+        }),
+        Err(CaptureFault::Memory) => Err(Refusal::Memory),
     }
 }

@@ -17,7 +17,7 @@ mod spelling;
 mod spoken;
 mod stepping;
 
-pub use capturing::say_capture;
+pub use capturing::{say_capture, type_capture};
 pub use carrying::carry_out;
 pub use certifying::certify;
 pub use end_state::put_end;

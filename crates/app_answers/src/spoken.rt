@@ -4,9 +4,9 @@ ghost use Rattle.std.specs.Prelude.{◌≡◌};
 ghost use Rattle.app_answers.specs.Spoken.{still_to_say};
 
 use app_words::Refusal;
+use capture_vcd::VcdFault;
 use io_edge::SinkFault;
 use mcs48_core::Stuck;
-use vcd_reader::VcdFault;
 
 /// What a command answers that isn't refused.
 #[derive(Debug, Drop)]

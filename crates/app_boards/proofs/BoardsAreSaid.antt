@@ -3,10 +3,10 @@ use Rattle.std.proofs.Common.{◌≡◌, ℕ, List}
 use Rattle.std.proofs.Common.{Ok, Err, inl, inr, refl, ap, sym, subst}
 use Rattle.std.specs.Prelude.{OnErr, OnOk}
 use Rattle.std.specs.declared.result.Result.{Result}
-use Rattle.board_run.proofs.Lines.{are_lines}
-use Rattle.board_run.specs.BoardOutcomes.{IsOutcome, Outcome}
-use Rattle.story_run.specs.declared.ending.End.TheVariants.{Over, Stuck as BoardStuck}
-use Rattle.board_probes.specs.Probes.{Watch}
+use Rattle.run_program.proofs.Lines.{are_lines}
+use Rattle.run_program.specs.BoardOutcomes.{IsOutcome, Outcome}
+use Rattle.run_loop.specs.declared.ending.End.TheVariants.{Over, Stuck as BoardStuck}
+use Rattle.run_probes.specs.Probes.{Watch}
 use Rattle.io_edge.proofs.Pieces.{AreLines, broken_before, lines_after, said_then_broken, said_then_said}
 use Rattle.io_edge.specs.Said.{IsBrokenOff, IsSaid, Shown}
 use Rattle.io_edge.specs.declared.sink.SinkFault.{SinkFault}
@@ -18,9 +18,9 @@ use Rattle.mcs48_core.specs.declared.stepping.Stuck.{Stuck as Place}
 use Rattle.app_words.specs.declared.refusal.Refusal.{Refusal}
 use Rattle.app_answers.specs.declared.spoken.Spoken.{Spoken}
 use Rattle.app_answers.specs.declared.spoken.Spoken.TheVariants.{Said, Stuck}
-use Rattle.wire_trace.proofs.OfLines.{changes_are_lines, header_is_lines}
-use Rattle.wire_trace.specs.Text.{header}
-use Rattle.wire_trace.specs.Trace.{changes_to}
+use Rattle.run_wires.proofs.OfLines.{changes_are_lines, header_is_lines}
+use Rattle.run_wires.specs.Text.{header}
+use Rattle.run_wires.specs.Trace.{changes_to}
 use Rattle.app_words.specs.declared.words.BoardCommand.{BoardCommand}
 use Rattle.app_words.specs.declared.words.BoardRun.{BoardRun}
 use Rattle.app_words.specs.declared.words.BoardCommand.TheVariants.{Log, Trace}
@@ -37,7 +37,8 @@ use Rattle.app_answers.proofs.AreSpoken.{spoken_on, with_history, left_after}
 -- what is said of a run as it is made is of whole lines
 pub log_is_lines : (wanted : BoardCommand) (s : Story) (run : Outcome) → AreLines (board_log wanted s run)
 log_is_lines (Log steps) s run = are_lines run.log
-log_is_lines Trace s run = lines_after header (changes_to s run.steps) header_is_lines (changes_are_lines s run.steps)
+log_is_lines (Trace seen) s run =
+    lines_after (header seen) (changes_to seen s run.steps) (header_is_lines seen) (changes_are_lines seen s run.steps)
 
 -- what a run that was made says
 module _ (wanted : BoardCommand) (s : Story) (probes left : List Watch) where

@@ -7,7 +7,7 @@ use Rattle.std.specs.declared.vec.Vec.{Vec}
 use Rattle.debugger.specs.declared.rule.SessionFault.{SessionFault}
 use Rattle.debugger.specs.Faults.{IsRight, IsVerdict}
 use Rattle.debugger.specs.Obeyed.{IsObeyed, IsObeyedInPart}
-use Rattle.board_probes.specs.Probes.{Watch}
+use Rattle.run_probes.specs.Probes.{Watch}
 use Rattle.debugger.specs.Scripts.{number_of, script_of}
 use Rattle.debugger.specs.Sessions.{Debuggee}
 use Rattle.app_words.specs.declared.refusal.Refusal.{Refusal}

@@ -1,7 +1,7 @@
 -- What may be answered of the run of a program on the board.
 use Rattle.std.specs.Prelude.{◌≡◌, ◌⊎◌, ℕ, List, [], Err}
-use Rattle.board_probes.specs.Probes.{Watch}
-use Rattle.board_run.specs.BoardOutcomes as board
+use Rattle.run_probes.specs.Probes.{Watch}
+use Rattle.run_program.specs.BoardOutcomes as board
 use Rattle.joint_feed.specs.Stories.{Story}
 use Rattle.key_file.specs.Histories.{KeyHistory}
 use Rattle.app_words.specs.declared.refusal.Refusal.TheVariants.{Memory}

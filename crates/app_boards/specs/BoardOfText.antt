@@ -1,6 +1,6 @@
 -- `board`, of an image and the text of a key file.
 use Rattle.std.specs.Prelude.{ℕ, List}
-use Rattle.board_probes.specs.Probes.{Watch}
+use Rattle.run_probes.specs.Probes.{Watch}
 use Rattle.key_file.specs.KeyFile.{history_of}
 use Rattle.layout_reader.specs.Layouts.{KeyLayout}
 use Rattle.app_words.specs.declared.words.BoardRun.{BoardRun}

@@ -1,7 +1,7 @@
 -- What may be answered of a script over the run of what is debugged.
 use Rattle.std.specs.Prelude.{◌≡◌, ◌⊎◌, ℕ, List, length, None, Some, Ok, Err}
 use Rattle.std.specs.declared.option.Option.{Option}
-use Rattle.board_probes.specs.Probes.{Watch}
+use Rattle.run_probes.specs.Probes.{Watch}
 use Rattle.debugger.specs.Obeyed.{IsObeyed, IsObeyedInPart}
 use Rattle.debugger.specs.Sessions.{Debuggee}
 use Rattle.app_words.specs.declared.refusal.Refusal.TheVariants.{Script, Memory}

@@ -1,9 +1,9 @@
-//! `board`: the log of the run of any program on the board under a key file, or its two wires, said line by line as it
-//! arises.
+//! `board`: the log of the run of any program on the board under a key file, or its two wires and with `--seen` data as the
+//! controller sees it, said line by line as it arises.
 
 ghost use Rattle.std.specs.Prelude.{◌≡◌, ◌≤◌, Err, length, map, Ok};
 ghost use Rattle.key_file.specs.Accepted.{IsAccepted};
-ghost use Rattle.story_run.specs.Gliding.{history_of};
+ghost use Rattle.run_loop.specs.Gliding.{history_of};
 ghost use Rattle.app_answers.specs.Spoken.{IsSpoken};
 ghost use Rattle.app_boards.specs.BoardAnswers.{IsBoardSaid};
 ghost use Rattle.app_boards.specs.BoardOfText.{MaySayOfBoard};
@@ -12,12 +12,12 @@ ghost use Rattle.app_words.specs.Kinds.{limit_of};
 
 use app_answers::{Spoken, events_in, put_end};
 use app_words::{BoardCommand, BoardRun, Refusal};
-use board_probes::Probe;
-use board_run::{End, ProgramRun};
 use io_edge::Sink;
 use key_file::Feed;
 use layout_reader::Layout;
 use mcs48_isa::Image;
+use run_probes::Probe;
+use run_program::{End, ProgramRun};
 use std::alloc::Global;
 
 /// Makes a run on the board and puts its log as it arises, and then, if the run is over, the state at its end if
@@ -50,20 +50,22 @@ fn put_log<F: Feed, K: Sink>(
     }
 }
 
-/// Makes a run on the board and puts its two wires as they change. It takes no memory.
+/// Makes a run on the board and puts its two wires as they change, and if `seen`, data as the controller sees it. It takes
+/// no memory.
 fn put_trace<F: Feed, K: Sink>(
     board: ProgramRun<F>,
+    seen: bool,
     out: &mut K,
     probes: &mut Vec<Box<dyn Probe>>,
 ) -> Spoken
     requires accepted { IsAccepted (history_of board) }
     ensures says { let before = map (λ b. watch b) probes.old.items in
         let after = map (λ b. watch b) probes.new.items in
-        IsSpoken (λ answer taking log. IsBoardSaid BoardCommand.Trace board answer before
+        IsSpoken (λ answer taking log. IsBoardSaid (BoardCommand.Trace seen) board answer before
         (record { probes = after; taking = taking; log = log }))
         (Ok result) (K.shown out.old) (K.shown out.new) }
 {
-    match board.trace_to(out, probes) {
+    match board.trace_to(seen, out, probes) {
         Err(fault) => Spoken::Said(Err(fault)),
         Ok(ended) => match ended.end() {
             End::Over => Spoken::Said(Ok(())),
@@ -88,7 +90,7 @@ fn put_board<F: Feed, K: Sink>(
 {
     match wanted {
         BoardCommand::Log { steps } => put_log(board, steps, out, probes),
-        BoardCommand::Trace => put_trace(board, out, probes),
+        BoardCommand::Trace { seen } => put_trace(board, seen, out, probes),
     }
 }
 

@@ -11,8 +11,8 @@ ghost use Rattle.app_boards.specs.Debugging.{script_refusal};
 ghost use Rattle.app_boards.specs.SessionAnswers.{MayAnswerDebug};
 
 use app_words::Refusal;
-use board_probes::Probe;
 use debugger::{Debuggee, SessionFault, obey_script};
+use run_probes::Probe;
 use std::alloc::Global;
 
 /// What the lines of a script that is right for these probes print in a session over the run of what is debugged.

@@ -6,13 +6,13 @@ use Rattle.std.specs.Fmt.{decimal}
 use Rattle.pc_tables.specs.Items.{text_of}
 use Rattle.board_terms.specs.Cadence.{listed}
 use Rattle.board_terms.specs.declared.event.Edge.{Edge}
-use Rattle.board_probes.specs.Probes.{Watch}
+use Rattle.run_probes.specs.Probes.{Watch}
 use Rattle.key_file.specs.Histories.{KeyHistory}
 use Rattle.layout_reader.specs.Layouts.{KeyLayout}
-use Rattle.link_model.specs.Expected.{expected_log}
-use Rattle.link_model.specs.declared.line.LogLine.{LogLine}
-use Rattle.link_times.specs.Flowing.{IsHostQuiet, IsQuietFrom}
-use Rattle.link_times.specs.Latency.{ComesInTime, KeysComeInTime, KeysComeInTimeFrom, Strikes}
+use Rattle.model_link.specs.Expected.{expected_log}
+use Rattle.model_link.specs.declared.line.LogLine.{LogLine}
+use Rattle.law_link_times.specs.Flowing.{IsHostQuiet, IsQuietFrom}
+use Rattle.law_link_times.specs.Latency.{ComesInTime, KeysComeInTime, KeysComeInTimeFrom, Strikes}
 use Rattle.mcs48_core.specs.StateText.{state_text_of}
 use Rattle.pc_tables.specs.declared.item.Item.TheVariants.{Port}
 use Rattle.subsystem.specs.Agreement.{IsAsExpected}
@@ -77,7 +77,7 @@ line_of_run (Log ticks steps) layout history run line p e c =
     (line_more (log_text run.log) starts line (line_in run.log line d.0 d.1 d.2))
 line_of_run Expect layout history run line p e c =
     line_in (expected_log layout history run.starts) line c.0 c.1 c.2
-line_of_run Trace layout history run line p e c = absurd p
+line_of_run (Trace seen) layout history run line p e c = absurd p
 
 module _ (layout : KeyLayout) (history : KeyHistory) (command : RunCommand) (prints : PrintsLog command) where
   -- an edge of a run

@@ -8,7 +8,7 @@ use Rattle.key_file.specs.Histories.{KeyHistory}
 use Rattle.layout_reader.specs.Layouts.{KeyLayout}
 use Rattle.subsystem.specs.Agreement.{IsAsExpected}
 use Rattle.subsystem.specs.Starts.{AreStartsOf}
-use Rattle.board_probes.specs.Probes.{Watch}
+use Rattle.run_probes.specs.Probes.{Watch}
 use Rattle.joint_feed.specs.Stories.{story}
 use Rattle.subsystem.specs.LayoutOutcomes.{Outcome}
 use Rattle.app_words.specs.declared.words.RunCommand.TheVariants.{Expect}

@@ -4,7 +4,7 @@ use Rattle.std.specs.Prelude.{OnErr, OnOk}
 use Rattle.std.specs.declared.result.Result.{Result}
 use Rattle.std.specs.declared.vec.Vec.{Vec}
 use Rattle.fw_compile.specs.Image.{image_of}
-use Rattle.board_probes.specs.Probes.{Watch}
+use Rattle.run_probes.specs.Probes.{Watch}
 use Rattle.io_edge.specs.Said.{IsBrokenOff, IsSaid, Shown}
 use Rattle.io_edge.specs.declared.sink.SinkFault.{SinkFault}
 use Rattle.joint_feed.specs.Stories.{Story, story}
@@ -12,10 +12,10 @@ use Rattle.key_file.specs.Accepted.{IsAcceptedFor}
 use Rattle.key_file.specs.Histories.{KeyHistory}
 use Rattle.key_file.specs.KeyFile.{history_of}
 use Rattle.layout_reader.specs.Layouts.{IsKeyLayout, KeyLayout, us84}
-use Rattle.story_run.specs.declared.ending.Ending.TheVariants.{TickStart}
-use Rattle.story_run.specs.Running.{IsOverAfter}
+use Rattle.run_loop.specs.declared.ending.Ending.TheVariants.{TickStart}
+use Rattle.run_loop.specs.Running.{IsOverAfter}
 use Rattle.subsystem.specs.Agreement.{RunsAsExpected}
-use Rattle.runs_agree.specs.Outcomes.{RunsComeToOutcomes}
+use Rattle.law_runs_agree.specs.Outcomes.{RunsComeToOutcomes}
 use Rattle.subsystem.specs.LayoutOutcomes.{IsOutcome, Outcome}
 use Rattle.app_words.specs.declared.refusal.Refusal.{Refusal}
 use Rattle.app_answers.specs.declared.spoken.Spoken.{Spoken}
@@ -32,9 +32,9 @@ use Rattle.app_answers.specs.Spoken.{IsSpoken, May, still_to_say}
 use Rattle.app_answers.specs.Taking.{Taking, Whole, CutOff}
 use Rattle.app_runs.specs.RunOfText.{MaySayOfText, MaySayOfRun}
 use Rattle.app_answers.proofs.AreSpoken.{left_after, left_so, unsaid_so, with_history}
-use Rattle.wire_trace.specs.Ending.{IsTraceBrokenOff, IsTraceSaid}
-use Rattle.wire_trace.specs.Trace.{trace_to}
-use Rattle.wires_heard.specs.Hearing.{HearsAll}
+use Rattle.run_wires.specs.Ending.{IsTraceBrokenOff, IsTraceSaid}
+use Rattle.run_wires.specs.Trace.{trace_to}
+use Rattle.law_wires_heard.specs.Hearing.{HearsAll}
 use Rattle.key_file.proofs.Lawful.{lawful_for}
 use Rattle.app_runs.proofs.StrokesAreAccepted.{sample_accepted}
 
@@ -128,7 +128,7 @@ sampled count few law sound s this text probes left h =
     )
 
 -- what `trace` says, which leaves the probes alone
-module _ (layout : KeyLayout) (text : List ℕ) (history : KeyHistory) (is : history_of layout text ≡ Ok history) (probes : List Watch) where
+module _ (seen : Bool) (layout : KeyLayout) (text : List ℕ) (history : KeyHistory) (is : history_of layout text ≡ Ok history) (probes : List Watch) where
   module _ (law : RunsAsExpected) (outcomes : RunsComeToOutcomes)
       (heard : HearsAll (story (image_of layout) history)) (sound : IsKeyLayout layout) (accepted : IsAcceptedFor layout history)
       (x y : Shown) where
@@ -136,23 +136,23 @@ module _ (layout : KeyLayout) (text : List ℕ) (history : KeyHistory) (is : his
     s = story (image_of layout) history
 
     trace_reported : (k : ℕ) → IsOverAfter TickStart s k → (taking : Taking)
-        → MaySayOfText Trace layout text (Ok (trace_to s k)) probes (left_so probes taking)
+        → MaySayOfText (Trace seen) layout text (Ok (trace_to seen s k)) probes (left_so probes taking)
     trace_reported k over taking =
         let made = outcomes layout history k sound (lawful_for accepted) over in
         let run = made.0 in
-        ran Trace layout text history (Ok (trace_to s k)) probes (left_so probes taking) is refl
-        (inr (trace_to s k, run, (made.1, law layout history run sound (lawful_for accepted) made.1, ap (trace_to s) (sym made.2), heard), refl, refl))
+        ran (Trace seen) layout text history (Ok (trace_to seen s k)) probes (left_so probes taking) is refl
+        (inr (trace_to seen s k, run, (made.1, law layout history run sound (lawful_for accepted) made.1, ap (trace_to seen s) (sym made.2), heard), refl, refl))
 
     -- it is said whole
-    pub traced : (done : Unit {0}) → IsTraceSaid s x y
-        → IsSpoken (λ answer taking log. MaySayOfText Trace layout text answer probes (left_after probes taking log)) (Ok (Said (Ok done))) x y
-    traced done h = (trace_to s h.steps, [], trace_reported h.steps h.is_over Whole, h.said)
+    pub traced : (done : Unit {0}) → IsTraceSaid seen s x y
+        → IsSpoken (λ answer taking log. MaySayOfText (Trace seen) layout text answer probes (left_after probes taking log)) (Ok (Said (Ok done))) x y
+    traced done h = (trace_to seen s h.steps, [], trace_reported h.steps h.is_over Whole, h.said)
 
     -- it is broken off
-    pub trace_stopped : (fault : SinkFault) → IsTraceBrokenOff s x y
-        → IsSpoken (λ answer taking log. MaySayOfText Trace layout text answer probes (left_after probes taking log))
+    pub trace_stopped : (fault : SinkFault) → IsTraceBrokenOff seen s x y
+        → IsSpoken (λ answer taking log. MaySayOfText (Trace seen) layout text answer probes (left_after probes taking log))
         (Ok (Said (Err fault))) x y
-    trace_stopped fault h = (Ok (trace_to s h.steps), [], trace_reported h.steps h.is_over (CutOff x y), h.broken)
+    trace_stopped fault h = (Ok (trace_to seen s h.steps), [], trace_reported h.steps h.is_over (CutOff x y), h.broken)
 
 -- `run` and `expect`, of a layout and a key file's text
 pub said_by_run : (c d : RunCommand) (layout : KeyLayout) (text : List ℕ) (probes left : List Watch)

@@ -6,7 +6,7 @@ use Rattle.std.proofs.lemmas.List.{drop_more}
 use Rattle.io_edge.specs.Said.{IsBrokenOff, IsSaid, Shown}
 use Rattle.io_edge.proofs.Pieces.{AreLines, EndsLine, broken_before, ends_afterwards, lines_after, said_then_broken, said_then_said}
 use Rattle.mcs48_core.specs.StateText.{state_text_of}
-use Rattle.story_run.specs.Reports.{IsBrokenAfter}
+use Rattle.run_loop.specs.Reports.{IsBrokenAfter}
 use Rattle.subsystem.specs.LayoutOutcomes.{Outcome}
 use Rattle.subsystem.specs.Texts.{log_text}
 use Rattle.subsystem.proofs.Lines.{are_lines}

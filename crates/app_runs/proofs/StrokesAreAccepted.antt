@@ -11,11 +11,11 @@ use Rattle.board_terms.specs.declared.event.HostAct.TheVariants.{Take}
 use Rattle.key_file.specs.Accepted.{IsAcceptedFor}
 use Rattle.key_file.specs.Histories.{KeyHistory}
 use Rattle.layout_reader.specs.Layouts.{entry_at, sample_entry, us84}
-use Rattle.typed_log.specs.Typing.{Stroke, Plain, edges_from, planned, stroke_start, takes_from}
-use Rattle.typed_log.proofs.Played.{playable}
-use Rattle.typed_log.proofs.Struck.{AllFit}
+use Rattle.law_typed_log.specs.Typing.{Stroke, Plain, edges_from, planned, stroke_start, takes_from}
+use Rattle.law_typed_log.proofs.Played.{playable}
+use Rattle.law_typed_log.proofs.Struck.{AllFit}
 use Rattle.app_runs.specs.Sampling.{sample_history, stroke_edges, stroke_key, stroke_take}
-use Rattle.typed_log.specs.Typing.{stroke_start}
+use Rattle.law_typed_log.specs.Typing.{stroke_start}
 
 -- so many strokes, the first of which has this number
 abbrev strokes_from : ℕ → ℕ → List Stroke

@@ -2,16 +2,16 @@
 use Rattle.std.specs.Prelude.{◌≡◌, ◌≤◌, ◌<◌, ℕ, suc, ◌+◌, ◌-◌, ◌*◌, ◌/◌, List, [], ◌∷◌, ◌++◌, length, Ok, Some, slice_get, Contains}
 use Rattle.board_terms.specs.Cadence.{listed}
 use Rattle.board_terms.specs.declared.event.Edge.{Edge}
-use Rattle.board_probes.specs.Probes.{Watch}
-use Rattle.kbd_model.specs.Once.{waiting}
+use Rattle.run_probes.specs.Probes.{Watch}
+use Rattle.model_keyboard.specs.Once.{waiting}
 use Rattle.key_file.specs.Histories.{KeyHistory}
 use Rattle.layout_reader.specs.Layouts.{KeyLayout}
-use Rattle.link_model.specs.declared.line.LogLine.{LogLine}
-use Rattle.link_times.specs.Coming.{keyboard_at}
-use Rattle.link_times.specs.Flowing.{IsHostQuiet, IsQuietFrom}
-use Rattle.link_times.specs.Latency.{IsListedAt, Strikes, put_out_in, read_stamp, settling}
+use Rattle.model_link.specs.declared.line.LogLine.{LogLine}
+use Rattle.law_link_times.specs.Coming.{keyboard_at}
+use Rattle.law_link_times.specs.Flowing.{IsHostQuiet, IsQuietFrom}
+use Rattle.law_link_times.specs.Latency.{IsListedAt, Strikes, put_out_in, read_stamp, settling}
 use Rattle.pc_tables.specs.declared.item.Item.TheVariants.{Port}
-use Rattle.quiet_log.specs.Once.{at_tick}
+use Rattle.law_quiet_log.specs.Once.{at_tick}
 use Rattle.subsystem.specs.LayoutOutcomes.{Outcome}
 use Rattle.subsystem.specs.Texts.{line_text}
 use Rattle.app_answers.specs.Leaving.{Left}
@@ -56,7 +56,7 @@ pub record IsPrintedInTime (layout : KeyLayout) (history : KeyHistory) (run : Ou
 abbrev pub PrintsLog : RunCommand → Type 0
 PrintsLog (Log ticks steps) = Unit {0}
 PrintsLog Expect = Unit {0}
-PrintsLog Trace = ⊥
+PrintsLog (Trace seen) = ⊥
 
 -- so it is of each text that one of them may print of a history whose host is quiet, with the run that it is of
 abbrev pub KeysArePrintedInTime : Type 0

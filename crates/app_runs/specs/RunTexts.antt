@@ -2,21 +2,21 @@
 -- leaves the probes that ride on it.
 use Rattle.std.specs.Prelude.{◌≡◌, ◌⊎◌, ℕ, suc, Bool, List, [], ◌∷◌, ◌++◌, codes, decimal, if◌then◌else◌}
 use Rattle.fw_compile.specs.Image.{image_of}
-use Rattle.board_probes.specs.Probes.{Watch}
+use Rattle.run_probes.specs.Probes.{Watch}
 use Rattle.io_edge.specs.Said.{Shown}
 use Rattle.joint_feed.specs.Stories.{Story, story}
 use Rattle.key_file.specs.Histories.{KeyHistory}
 use Rattle.layout_reader.specs.Layouts.{KeyLayout}
-use Rattle.link_model.specs.Expected.{expected_log}
+use Rattle.model_link.specs.Expected.{expected_log}
 use Rattle.mcs48_core.specs.StateText.{state_text_of}
-use Rattle.story_run.specs.Reports.{IsBrokenAfter}
+use Rattle.run_loop.specs.Reports.{IsBrokenAfter}
 use Rattle.subsystem.specs.Agreement.{IsAsExpected}
 use Rattle.subsystem.specs.Looking.{HaveLookedAtSome}
 use Rattle.subsystem.specs.Putting.{HaveLookedToBreak}
 use Rattle.subsystem.specs.LayoutOutcomes.{IsOutcome, Outcome}
 use Rattle.subsystem.specs.Texts.{log_text}
-use Rattle.wire_trace.specs.Trace.{trace_to}
-use Rattle.wires_heard.specs.Hearing.{HearsAll}
+use Rattle.run_wires.specs.Trace.{trace_to}
+use Rattle.law_wires_heard.specs.Hearing.{HearsAll}
 use Rattle.app_words.specs.declared.words.RunCommand.{RunCommand}
 use Rattle.app_words.specs.declared.words.RunCommand.TheVariants.{Log, Expect, Trace}
 use Rattle.app_answers.specs.Leaving.{HaveLookedAtAll}
@@ -41,20 +41,21 @@ run_text ticks steps run =
 abbrev pub expected_text : KeyLayout → KeyHistory → Outcome → List ℕ
 expected_text layout history run = log_text (expected_log layout history run.starts)
 
--- the two wires in the run, as they change, with the bytes that pass over them
-abbrev pub trace_text : KeyLayout → KeyHistory → Outcome → List ℕ
-trace_text layout history run = trace_to (story (image_of layout) history) run.steps
+-- the two wires in the run, as they change, with the bytes that pass over them; and with `--seen` data as the controller
+-- sees it
+abbrev pub trace_text : Bool → KeyLayout → KeyHistory → Outcome → List ℕ
+trace_text seen layout history run = trace_to seen (story (image_of layout) history) run.steps
 
 abbrev pub text_of_run : RunCommand → KeyLayout → KeyHistory → Outcome → List ℕ
 text_of_run (Log ticks steps) layout history run = run_text ticks steps run
 text_of_run Expect layout history run = expected_text layout history run
-text_of_run Trace layout history run = trace_text layout history run
+text_of_run (Trace seen) layout history run = trace_text seen layout history run
 
 -- the bytes in a trace's comments are those that the controller takes and sends, in order
 abbrev pub IsHeard : RunCommand → KeyLayout → KeyHistory → Type 0
 IsHeard (Log ticks steps) layout history = Unit {0}
 IsHeard Expect layout history = Unit {0}
-IsHeard Trace layout history = HearsAll (story (image_of layout) history)
+IsHeard (Trace seen) layout history = HearsAll (story (image_of layout) history)
 
 -- the text is the one of the run of the layout's compiled image under this history, whose log is the one that the model
 -- expects at the run's own tick starts
@@ -90,10 +91,10 @@ AreLeft (Log ticks steps) layout history run (CutOff before after) probes left =
     HaveLookedToCut ticks steps (story (image_of layout) history) run before after probes left
 AreLeft Expect layout history run taking probes left =
     HaveLookedAtAll (story (image_of layout) history) run.steps probes left
-AreLeft Trace layout history run taking probes left = left ≡ probes
+AreLeft (Trace seen) layout history run taking probes left = left ≡ probes
 
 -- how they are left if memory runs out: in `run` and `trace` it does only before one of them has looked
 abbrev pub AreLeftWithoutMemory : RunCommand → KeyLayout → KeyHistory → List Watch → List Watch → Type 0
 AreLeftWithoutMemory (Log ticks steps) layout history probes left = left ≡ probes
 AreLeftWithoutMemory Expect layout history probes left = HaveLooked layout history probes left
-AreLeftWithoutMemory Trace layout history probes left = left ≡ probes
+AreLeftWithoutMemory (Trace seen) layout history probes left = left ≡ probes

@@ -11,7 +11,7 @@ use Rattle.subsystem.specs.Agreement.{IsAsExpected}
 use Rattle.subsystem.specs.Counts.{none_counted, with_lines}
 use Rattle.subsystem.specs.LayoutOutcomes.{IsOutcome, Outcome}
 use Rattle.subsystem.specs.declared.counts.Counts.{Counts}
-use Rattle.typed_log.specs.Typing.{first_up, stroke_start, take_of}
+use Rattle.law_typed_log.specs.Typing.{first_up, stroke_start, take_of}
 
 -- the number of a stroke's key, which is also the key's place on the sample layout; strokes are counted from 0, and begin
 -- when those of a text that is typed do

@@ -2,7 +2,7 @@
 
 ghost use Rattle.app_runs.specs.InTime.{KeysArePrintedInTime, KeysArePrintedInTimeFrom};
 
-use link_times::keys_come_in_time;
+use law_link_times::keys_come_in_time;
 
 /// Each text that `run`, with its options or without, or `expect` may print of a layout and a history in which the host only
 /// takes words and reads the status: what the controller puts out for each byte of the code of a key's edge has its line,

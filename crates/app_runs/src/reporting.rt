@@ -17,10 +17,10 @@ ghost use Rattle.app_words.specs.Kinds.{limit_of};
 
 use app_answers::history_in;
 use app_words::Refusal;
-use board_probes::Probe;
 use key_file::History;
 use layout_reader::Layout;
-use link_model::expect;
+use model_link::expect;
+use run_probes::Probe;
 use std::alloc::{AllocError, Global};
 use subsystem::{print_log, runs_are_expected, tick_starts};
 

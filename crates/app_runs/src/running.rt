@@ -14,9 +14,9 @@ use crate::streaming::stream;
 use crate::tracing::trace_wires;
 use app_answers::{Spoken, to_say};
 use app_words::{Refusal, RunCommand};
-use board_probes::Probe;
 use io_edge::Sink;
 use layout_reader::Layout;
+use run_probes::Probe;
 use std::alloc::Global;
 
 /// What a command says of a layout and the text of a key file.
@@ -41,6 +41,6 @@ pub fn say_run<K: Sink>(
     match command {
         RunCommand::Log { ticks, steps } => stream(alloc, layout, text, ticks, steps, out, probes),
         RunCommand::Expect => to_say(expected(alloc, layout, text, probes)),
-        RunCommand::Trace => trace_wires(alloc, layout, text, out),
+        RunCommand::Trace { seen } => trace_wires(alloc, layout, text, seen, out),
     }
 }

@@ -3,7 +3,7 @@
 
 ghost use Rattle.std.specs.Prelude.{◌≡◌, ◌≤◌, [], if◌then◌else◌, Err, length, map, OnErr, OnOk};
 ghost use Rattle.io_edge.specs.Said.{IsBrokenOff, IsSaid};
-ghost use Rattle.story_run.specs.Gliding.{history_of};
+ghost use Rattle.run_loop.specs.Gliding.{history_of};
 ghost use Rattle.subsystem.specs.LayoutOutcomes.{IsOutcome, Outcome};
 ghost use Rattle.key_file.specs.Accepted.{IsAccepted};
 ghost use Rattle.app_words.specs.declared.kind.Kind.{Kind};
@@ -17,11 +17,11 @@ ghost use Rattle.app_runs.specs.RunOfText.{MaySayOfText};
 use app_answers::{Spoken, events_in, put_end};
 use app_words::Refusal;
 use arrayvec::ArrayVec;
-use board_probes::Probe;
 use hex_text::{append, begun};
 use io_edge::{Sink, SinkFault, say};
 use key_file::Feed;
 use layout_reader::Layout;
+use run_probes::Probe;
 use std::alloc::Global;
 use subsystem::{Engine, runs_are_expected};
 

@@ -12,7 +12,7 @@ use Rattle.app_words.specs.declared.words.BoardCommand.{BoardCommand}
 use Rattle.app_words.specs.declared.words.BoardCommand.TheVariants as board
 use Rattle.app_words.specs.declared.words.BoardRun.{BoardRun}
 use Rattle.app_words.specs.declared.words.Command.{Command}
-use Rattle.app_words.specs.declared.words.Command.TheVariants.{OverFile, OverPair, Debug, Probe, Board, Feed, Sample, Capture}
+use Rattle.app_words.specs.declared.words.Command.TheVariants.{OverFile, OverPair, Debug, Probe, Board, Feed, Sample, Capture, Typed}
 use Rattle.app_words.specs.declared.words.FileCommand.{FileCommand}
 use Rattle.app_words.specs.declared.words.FileCommand.TheVariants.{Step, Listing, Assemble, Compile}
 use Rattle.app_words.specs.declared.words.PairCommand.{PairCommand}
@@ -52,7 +52,7 @@ abbrev pub named_of : FileCommand → List (List ℕ) → Option Command
 named_of command (name ∷ []) = if is_name name then Some (OverFile command) else None
 named_of command words = None
 
--- a command with two NAMEs alone: `cert` NAME NAME, `type` NAME NAME, `expect` NAME NAME, `trace` NAME NAME
+-- a command with two NAMEs alone: `cert` NAME NAME, `type` NAME NAME, `expect` NAME NAME
 abbrev pub pair_of : PairCommand → List (List ℕ) → Option Command
 pair_of command (first ∷ second ∷ []) = if is_name first && is_name second then Some (OverPair command) else None
 pair_of command words = None
@@ -102,21 +102,35 @@ run_of (first ∷ second ∷ options) =
     then option_map (λ command. OverPair (OverRun command)) (log_of options) else None
 run_of words = None
 
+-- the option of `trace`: `--seen`, if it is there
+abbrev pub trace_option_of : List (List ℕ) → Option RunCommand
+trace_option_of [] = Some (Trace false)
+trace_option_of (option ∷ []) = if bytes_eq option (codes "--seen") then Some (Trace true) else None
+trace_option_of words = None
+
+-- `trace` NAME NAME, and its option
+abbrev pub trace_of : List (List ℕ) → Option Command
+trace_of (first ∷ second ∷ options) =
+    if is_name first && is_name second
+    then option_map (λ command. OverPair (OverRun command)) (trace_option_of options) else None
+trace_of words = None
+
 -- a run on the board, by what is reported of it and by what a part holds at power-on
 abbrev pub on_board : BoardCommand → ℕ → BoardRun
 on_board prints_what fill = record { prints_what = prints_what; fill = fill }
 
--- what is reported of a run on the board, by `--steps` or `--trace`
+-- what is reported of a run on the board, by `--steps`, `--trace` or `--seen`
 abbrev pub board_option : List ℕ → Option BoardCommand
 board_option option =
     if bytes_eq option (codes "--steps") then Some (board.Log true)
-    else (if bytes_eq option (codes "--trace") then Some board.Trace else None)
+    else (if bytes_eq option (codes "--trace") then Some (board.Trace false)
+    else (if bytes_eq option (codes "--seen") then Some (board.Trace true) else None))
 
 -- by one of them and `--fill` BYTE
 abbrev pub both_by : Option BoardCommand → Option ℕ → Option BoardRun
 both_by prints_what fill = option_and_then (λ command. option_map (on_board command) fill) prints_what
 
--- the options of `board`: `--steps` or `--trace`, one of them at most, and `--fill` BYTE, in either order
+-- the options of `board`: `--steps`, `--trace` or `--seen`, one of them at most, and `--fill` BYTE, in either order
 unfoldable pub board_options_of : List (List ℕ) → Option BoardRun
 board_options_of [] = both_by (Some (board.Log false)) (Some 0)
 board_options_of (option ∷ []) = both_by (board_option option) (Some 0)
@@ -150,10 +164,22 @@ sample_of (count ∷ []) =
 sample_of words = None
 
 -- `capture` NAME, or `capture` NAME CLOCK DATA
+abbrev pub signals_of : List (List ℕ) → Option Command
+signals_of (name ∷ []) = if is_name name then Some Capture else None
+signals_of (name ∷ clk ∷ dat ∷ []) = if is_name name && is_name clk && is_name dat then Some Capture else None
+signals_of words = None
+
+-- `capture` `--keys` NAME NAME, or `capture` `--keys` NAME NAME CLOCK DATA
+abbrev pub typed_of : List (List ℕ) → Option Command
+typed_of (layout ∷ name ∷ []) = if is_name layout && is_name name then Some Typed else None
+typed_of (layout ∷ name ∷ clk ∷ dat ∷ []) =
+    if is_name layout && is_name name && is_name clk && is_name dat then Some Typed else None
+typed_of words = None
+
 abbrev pub capture_of : List (List ℕ) → Option Command
-capture_of (name ∷ []) = if is_name name then Some Capture else None
-capture_of (name ∷ clk ∷ dat ∷ []) = if is_name name && is_name clk && is_name dat then Some Capture else None
-capture_of words = None
+capture_of [] = None
+capture_of (first ∷ words) =
+    if bytes_eq first (codes "--keys") then typed_of words else signals_of (first ∷ words)
 
 -- the command of the words, or none
 abbrev pub command_of : List (List ℕ) → Option Command
@@ -167,7 +193,7 @@ command_of (command ∷ words) =
     else (if bytes_eq command (codes "type") then pair_of Spell words
     else (if bytes_eq command (codes "run") then run_of words
     else (if bytes_eq command (codes "expect") then pair_of (OverRun Expect) words
-    else (if bytes_eq command (codes "trace") then pair_of (OverRun Trace) words
+    else (if bytes_eq command (codes "trace") then trace_of words
     else (if bytes_eq command (codes "debug") then debug_of words
     else (if bytes_eq command (codes "board") then board_of words
     else (if bytes_eq command (codes "probe") then probe_of words
@@ -183,7 +209,7 @@ is_form words = is_some (command_of words)
 abbrev pub is_trace : RunCommand → Bool
 is_trace (Log ticks steps) = false
 is_trace Expect = false
-is_trace Trace = true
+is_trace (Trace seen) = true
 
 -- words that leave the probes as they are: those without a form, and the commands but `run`, `expect`, `sample`,
 -- `board`, `debug` and `probe`
@@ -198,10 +224,11 @@ leaves_probes command = true
 -- commands that lack memory only before anything is put and before a probe has looked
 abbrev pub takes_memory_first : Option Command → Bool
 takes_memory_first (Some (OverPair (OverRun (Log ticks steps)))) = true
-takes_memory_first (Some (OverPair (OverRun Trace))) = true
+takes_memory_first (Some (OverPair (OverRun (Trace seen)))) = true
 takes_memory_first (Some (Board wanted)) = true
 takes_memory_first (Some (Sample count)) = true
 takes_memory_first (Some Capture) = true
+takes_memory_first (Some Typed) = true
 takes_memory_first command = false
 
 -- the first file that a command names
@@ -233,7 +260,16 @@ abbrev pub data_in : List (List ℕ) → List ℕ
 data_in (command ∷ name ∷ clk ∷ dat ∷ []) = dat
 data_in words = codes "data"
 
--- how many files a command names; they are the words after its own
+-- and those that `capture --keys` reads
+abbrev pub typed_clock_in : List (List ℕ) → List ℕ
+typed_clock_in (command ∷ option ∷ layout ∷ name ∷ clk ∷ dat ∷ []) = clk
+typed_clock_in words = codes "clock"
+
+abbrev pub typed_data_in : List (List ℕ) → List ℕ
+typed_data_in (command ∷ option ∷ layout ∷ name ∷ clk ∷ dat ∷ []) = dat
+typed_data_in words = codes "data"
+
+-- how many words after its own a command takes to name its files; `--keys` is one of them
 abbrev pub files_in : Command → ℕ
 files_in (OverFile command) = 1
 files_in (OverPair command) = 2
@@ -243,3 +279,4 @@ files_in (Board wanted) = 3
 files_in (Feed bytes) = 0
 files_in (Sample count) = 0
 files_in Capture = 1
+files_in Typed = 3

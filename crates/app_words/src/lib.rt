@@ -22,5 +22,5 @@ pub use refusal::{Line, Refusal};
 pub use strokes::Strokes;
 pub use words::{
     BoardCommand, BoardRun, Command, FileCommand, PairCommand, RunCommand, clock_in, data_in, form,
-    read_command,
+    read_command, typed_clock_in, typed_data_in,
 };

@@ -2,7 +2,7 @@
 
 ghost use Rattle.std.specs.Prelude.{◌≡◌, codes, map, string_bytes};
 ghost use Rattle.std.specs.Str.{bytes_eq};
-ghost use Rattle.app_words.specs.Words.{are_both, board_options_of, both_by, fill_by, fill_of, log_of, board_option};
+ghost use Rattle.app_words.specs.Words.{are_both, board_options_of, both_by, fill_by, fill_of, log_of, board_option, trace_option_of};
 
 use crate::bytes::read_byte;
 use crate::words::{BoardCommand, BoardRun, RunCommand};
@@ -26,6 +26,13 @@ fn is_trace(word: &str) -> bool
     ensures { result ≡ bytes_eq word.now (codes "--trace") }
 {
     word == "--trace"
+}
+
+/// Whether the word is the option for the two wires with data as the controller sees it.
+fn is_seen(word: &str) -> bool
+    ensures { result ≡ bytes_eq word.now (codes "--seen") }
+{
+    word == "--seen"
 }
 
 /// Whether the word is the option for what a part holds at power-on.
@@ -67,6 +74,17 @@ pub(crate) fn read_run_options(words: &[String]) -> Option<RunCommand>
     }
 }
 
+/// The option of `trace`.
+pub(crate) fn read_trace_option(words: &[String]) -> Option<RunCommand>
+    ensures { result ≡ trace_option_of (map string_bytes words.now) }
+{
+    match words {
+        [] => Some(RunCommand::Trace { seen: false }),
+        [option] if is_seen(option) => Some(RunCommand::Trace { seen: true }),
+        _ => None,
+    }
+}
+
 /// The BYTE of `--fill`.
 fn read_fill(option: &str, byte: &str) -> Option<u8>
     ensures { result ≡ fill_by option.now byte.now }
@@ -98,7 +116,10 @@ fn read_reported(option: &str) -> Option<BoardCommand>
         return Some(BoardCommand::Log { steps: true });
     }
     if is_trace(option) {
-        return Some(BoardCommand::Trace);
+        return Some(BoardCommand::Trace { seen: false });
+    }
+    if is_seen(option) {
+        return Some(BoardCommand::Trace { seen: true });
     }
     None
 }

@@ -1,14 +1,15 @@
 //! The words that follow the program's name, read by their places.
 
-ghost use Rattle.std.specs.Prelude.{◌≡◌, ◌<◌, ◌≤◌, length, map, string_bytes, IfSome};
+ghost use Rattle.std.specs.Prelude.{◌≡◌, ◌+◌, ◌<◌, ◌≤◌, length, map, string_bytes, IfSome};
 ghost use Rattle.std.specs.Char.{is_ascii_digit};
 ghost use Rattle.std.specs.List.{list_all};
 ghost use Rattle.app_words.specs.Words.{is_name, is_short_number, count_of, step_of, named_of, pair_of, debug_of, probe_of};
-ghost use Rattle.app_words.specs.Words.{run_of, board_of, feed_of, sample_of, capture_of, clock_in, command_of, data_in, files_in, is_form};
+ghost use Rattle.app_words.specs.Words.{run_of, trace_of, board_of, feed_of, sample_of, capture_of, signals_of, typed_of, clock_in, command_of, data_in};
+ghost use Rattle.app_words.specs.Words.{files_in, is_form, typed_clock_in, typed_data_in};
 
 use crate::bytes::KeyboardBytes;
 use crate::kind::Kind;
-use crate::options::{read_board_options, read_probe_option, read_run_options};
+use crate::options::{read_board_options, read_probe_option, read_run_options, read_trace_option};
 use crate::strokes::Strokes;
 
 /// The greatest COUNT of steps.
@@ -34,8 +35,8 @@ pub enum RunCommand {
     Log { ticks: bool, steps: bool },
     /// `expect`: the model's log at its tick starts.
     Expect,
-    /// `trace`: the two wires, as they change.
-    Trace,
+    /// `trace`: the two wires, as they change, and with `--seen` data as the controller sees it.
+    Trace { seen: bool },
 }
 
 /// A command over two files. Their names are the two words after the command.
@@ -45,7 +46,8 @@ pub enum PairCommand {
     Certify,
     /// `type` NAME NAME: a layout, and a text to be typed on it.
     Spell,
-    /// `run` NAME NAME and its options, `expect` NAME NAME, `trace` NAME NAME: a layout, and a key file for it.
+    /// `run` NAME NAME and its options, `expect` NAME NAME, `trace` NAME NAME and its option: a layout, and a key file for
+    /// it.
     OverRun(RunCommand),
 }
 
@@ -54,8 +56,8 @@ pub enum PairCommand {
 pub enum BoardCommand {
     /// Its log, and then with `--steps` the state at its end.
     Log { steps: bool },
-    /// With `--trace`: the two wires, as they change.
-    Trace,
+    /// With `--trace` or `--seen`: the two wires, as they change, and with `--seen` data as the controller sees it.
+    Trace { seen: bool },
 }
 
 /// A run on the board: what is reported of it, and the byte that data memory, A and T hold at power-on.
@@ -87,6 +89,9 @@ pub enum Command {
     /// `capture` NAME, or `capture` NAME CLOCK DATA: a value change dump, and the names of its two signals, which `clock_in`
     /// and `data_in` read. The file's name is the word after the command.
     Capture,
+    /// `capture` `--keys` NAME NAME, or `capture` `--keys` NAME NAME CLOCK DATA: a layout, a value change dump, and the names of
+    /// its two signals, which `typed_clock_in` and `typed_data_in` read. The files' names are the two words after `--keys`.
+    Typed,
 }
 
 impl FileCommand {
@@ -220,6 +225,20 @@ fn read_run(words: &[String]) -> Option<Command>
     }
 }
 
+/// `trace` NAME NAME, and its option.
+fn read_trace(words: &[String]) -> Option<Command>
+    ensures command { result ≡ trace_of (map string_bytes words.now) }
+    ensures named { IfSome result (λ command. files_in command ≤ length words.now) }
+{
+    match words {
+        [first, second, options @ ..] if is_name(first) && is_name(second) => {
+            let command = read_trace_option(options)?;
+            Some(Command::OverPair(PairCommand::OverRun(command)))
+        }
+        _ => None,
+    }
+}
+
 /// `board` NAME NAME NAME, and its options.
 fn read_board(words: &[String]) -> Option<Command>
     ensures command { result ≡ board_of (map string_bytes words.now) }
@@ -255,14 +274,40 @@ fn read_sample(words: &[String]) -> Option<Command>
 }
 
 /// `capture` NAME, or `capture` NAME CLOCK DATA
-fn read_capture(words: &[String]) -> Option<Command>
-    ensures command { result ≡ capture_of (map string_bytes words.now) }
+fn read_signals(words: &[String]) -> Option<Command>
+    ensures command { result ≡ signals_of (map string_bytes words.now) }
     ensures named { IfSome result (λ command. files_in command ≤ length words.now) }
 {
     match words {
         [name] if is_name(name) => Some(Command::Capture),
         [name, clk, dat] if is_name(name) && is_name(clk) && is_name(dat) => Some(Command::Capture),
         _ => None,
+    }
+}
+
+/// The words after `capture --keys`: NAME NAME, or NAME NAME CLOCK DATA
+fn read_typed(words: &[String]) -> Option<Command>
+    ensures command { result ≡ typed_of (map string_bytes words.now) }
+    ensures named { IfSome result (λ command. files_in command ≤ length words.now + 1) }
+{
+    match words {
+        [layout, name] if is_name(layout) && is_name(name) => Some(Command::Typed),
+        [layout, name, clk, dat]
+            if is_name(layout) && is_name(name) && is_name(clk) && is_name(dat) => {
+            Some(Command::Typed)
+        }
+        _ => None,
+    }
+}
+
+/// `capture` and its words.
+fn read_capture(words: &[String]) -> Option<Command>
+    ensures command { result ≡ capture_of (map string_bytes words.now) }
+    ensures named { IfSome result (λ command. files_in command ≤ length words.now) }
+{
+    match words {
+        [option, typed @ ..] if option.as_str() == "--keys" => read_typed(typed),
+        _ => read_signals(words),
     }
 }
 
@@ -286,6 +331,26 @@ pub fn data_in(words: &[String]) -> &str
     }
 }
 
+/// The name of the clock's signal, of the words of `capture --keys`: CLOCK, or `clock` if they don't say it.
+pub fn typed_clock_in(words: &[String]) -> &str
+    ensures name { result.now ≡ typed_clock_in (map string_bytes words.now) }
+{
+    match words {
+        [_, _, _, _, clk, _] => clk.as_str(),
+        _ => "clock",
+    }
+}
+
+/// The name of the data wire's signal, of the words of `capture --keys`: DATA, or `data` if they don't say it.
+pub fn typed_data_in(words: &[String]) -> &str
+    ensures name { result.now ≡ typed_data_in (map string_bytes words.now) }
+{
+    match words {
+        [_, _, _, _, _, dat] => dat.as_str(),
+        _ => "data",
+    }
+}
+
 /// The command of the words, or none if the words are outside the accepted forms.
 pub fn read_command(words: &[String]) -> Option<Command>
     ensures command { result ≡ command_of (map string_bytes words.now) }
@@ -301,7 +366,7 @@ pub fn read_command(words: &[String]) -> Option<Command>
         "type" => read_pair(PairCommand::Spell, words),
         "run" => read_run(words),
         "expect" => read_pair(PairCommand::OverRun(RunCommand::Expect), words),
-        "trace" => read_pair(PairCommand::OverRun(RunCommand::Trace), words),
+        "trace" => read_trace(words),
         "debug" => read_debug(words),
         "board" => read_board(words),
         "probe" => read_probe(words),

@@ -3,8 +3,8 @@ use Rattle.std.proofs.Common.{◌≡◌, ℕ, List, [], ◌∷◌, ◌++◌, Som
 use Rattle.std.specs.Fmt.{decimal}
 use Rattle.std.specs.Prelude.{codes}
 use Rattle.std.specs.declared.option.Option.{Option}
-use Rattle.vcd_reader.specs.declared.fault.VcdFault.{VcdFault}
-use Rattle.vcd_reader.specs.Reads.{reads_of}
+use Rattle.capture_vcd.specs.declared.fault.VcdFault.{VcdFault}
+use Rattle.capture_vcd.specs.Reads.{reads_of}
 use Rattle.capture_lines.specs.declared.counts.Counts.{Counts}
 use Rattle.capture_lines.specs.declared.speech.Speech.{Speech}
 use Rattle.capture_lines.specs.Captures.{capture_text, report_of, summed_up, timing_of}

@@ -1,10 +1,10 @@
 -- A report is made, and a text appended, in parts.
 use Rattle.std.proofs.Common.{◌≡◌, ℕ, true, List, [], ◌∷◌, ◌++◌, Some, None, refl, ◌∙◌, append_assoc}
 use Rattle.std.specs.declared.option.Option.{Option}
-use Rattle.vcd_reader.specs.declared.fault.VcdFault.{VcdFault}
-use Rattle.vcd_reader.specs.declared.state.Sample.{Sample}
-use Rattle.wire_frames.specs.declared.finding.Timed.{Timed}
-use Rattle.wire_frames.specs.Listening.{Hearing, heard_at, hearing_after}
+use Rattle.capture_vcd.specs.declared.fault.VcdFault.{VcdFault}
+use Rattle.capture_vcd.specs.declared.state.Sample.{Sample}
+use Rattle.capture_frames.specs.declared.finding.Timed.{Timed}
+use Rattle.capture_frames.specs.Listening.{Hearing, heard_at, hearing_after}
 use Rattle.capture_lines.specs.Captures.{Report, both, found_by, is_fault_alone, reported, reported_all}
 
 -- findings, and then others

@@ -1,10 +1,10 @@
 -- What is said of a capture.
 use Rattle.std.specs.Prelude.{ℕ, Bool, true, false, List, [], ◌∷◌, ◌++◌, Option, Some, None, if◌then◌else◌}
-use Rattle.vcd_reader.specs.declared.fault.VcdFault.{VcdFault}
-use Rattle.vcd_reader.specs.declared.state.Sample.{Sample}
-use Rattle.vcd_reader.specs.Reads.{reads_of}
-use Rattle.wire_frames.specs.declared.finding.Timed.{Timed}
-use Rattle.wire_frames.specs.Listening.{Hearing, at_first, frame_at_end, heard_at, hearing_after, pulse_at_end}
+use Rattle.capture_vcd.specs.declared.fault.VcdFault.{VcdFault}
+use Rattle.capture_vcd.specs.declared.state.Sample.{Sample}
+use Rattle.capture_vcd.specs.Reads.{reads_of}
+use Rattle.capture_frames.specs.declared.finding.Timed.{Timed}
+use Rattle.capture_frames.specs.Listening.{Hearing, at_first, frame_at_end, heard_at, hearing_after, pulse_at_end}
 use Rattle.capture_lines.specs.declared.counts.Counts.{Counts}
 use Rattle.capture_lines.specs.declared.speech.Speech.{Speech}
 use Rattle.capture_lines.specs.Counting.{counted, none_yet}

@@ -1,8 +1,8 @@
 -- How often each kind of finding comes, and the lines that say so.
 use Rattle.std.specs.Prelude.{ℕ, ◌+◌, ◌-◌, ◌^◌, min, List, [], ◌∷◌, ◌++◌, codes, if◌then◌else◌}
 use Rattle.std.specs.Fmt.{decimal}
-use Rattle.wire_frames.specs.declared.finding.Finding.{Finding}
-use Rattle.wire_frames.specs.declared.finding.Finding.TheVariants.{Byte, Few, Cut, Unfinished, Stray, Glitch, Hold, StaysLow}
+use Rattle.capture_frames.specs.declared.finding.Finding.{Finding}
+use Rattle.capture_frames.specs.declared.finding.Finding.TheVariants.{Byte, Few, Cut, Unfinished, Stray, Glitch, Hold, StaysLow}
 use Rattle.capture_lines.specs.declared.counts.Counts.{Counts}
 use Rattle.capture_lines.specs.Receiving.{is_right}
 

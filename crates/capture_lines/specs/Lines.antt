@@ -2,10 +2,10 @@
 use Rattle.std.specs.Prelude.{ℕ, ◌+◌, ◌/◌, ◌%◌, Bool, List, [], ◌∷◌, ◌++◌, codes, if◌then◌else◌}
 use Rattle.std.specs.Fmt.{decimal}
 use Rattle.hex_text.specs.Digits.{hex_byte}
-use Rattle.wire_frames.specs.declared.finding.Finding.{Finding}
-use Rattle.wire_frames.specs.declared.finding.Finding.TheVariants.{Byte, Few, Cut, Unfinished, Stray, Glitch, Hold, StaysLow}
-use Rattle.wire_frames.specs.declared.finding.Timed.{Timed}
-use Rattle.wire_frames.specs.declared.finding.Whole.{Whole}
+use Rattle.capture_frames.specs.declared.finding.Finding.{Finding}
+use Rattle.capture_frames.specs.declared.finding.Finding.TheVariants.{Byte, Few, Cut, Unfinished, Stray, Glitch, Hold, StaysLow}
+use Rattle.capture_frames.specs.declared.finding.Timed.{Timed}
+use Rattle.capture_frames.specs.declared.finding.Whole.{Whole}
 
 -- the last decimal digit of a number
 abbrev pub digit : ℕ → ℕ

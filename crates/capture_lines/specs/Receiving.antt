@@ -8,9 +8,9 @@ use Rattle.int09.specs.Rules.{fed}
 use Rattle.pc_tables.specs.Items.{text_of}
 use Rattle.pc_tables.specs.declared.item.Item.{Item}
 use Rattle.pc_tables.specs.declared.item.Item.TheVariants.{Port}
-use Rattle.wire_frames.specs.declared.finding.Finding.{Finding}
-use Rattle.wire_frames.specs.declared.finding.Finding.TheVariants.{Byte, Few, Cut, Unfinished, Stray, Glitch, Hold, StaysLow}
-use Rattle.wire_frames.specs.declared.finding.Whole.{Whole}
+use Rattle.capture_frames.specs.declared.finding.Finding.{Finding}
+use Rattle.capture_frames.specs.declared.finding.Finding.TheVariants.{Byte, Few, Cut, Unfinished, Stray, Glitch, Hold, StaysLow}
+use Rattle.capture_frames.specs.declared.finding.Whole.{Whole}
 use Rattle.capture_lines.specs.Lines.{time_text}
 
 -- the controller, and what INT 09h keeps

@@ -1,8 +1,8 @@
 -- What the bytes of both sides say of the keyboard, of its codes and of what is asked for again.
 use Rattle.std.specs.Prelude.{ℕ, ◌+◌, Bool, true, false, not, ◌&&◌, ◌||◌, ◌==◌, nat_le, nat_lt, Option, Some, None, if◌then◌else◌}
-use Rattle.wire_frames.specs.declared.finding.Finding.{Finding}
-use Rattle.wire_frames.specs.declared.finding.Finding.TheVariants.{Byte, Few, Cut, Unfinished, Stray, Glitch, Hold, StaysLow}
-use Rattle.wire_frames.specs.declared.finding.Whole.{Whole}
+use Rattle.capture_frames.specs.declared.finding.Finding.{Finding}
+use Rattle.capture_frames.specs.declared.finding.Finding.TheVariants.{Byte, Few, Cut, Unfinished, Stray, Glitch, Hold, StaysLow}
+use Rattle.capture_frames.specs.declared.finding.Whole.{Whole}
 use Rattle.capture_lines.specs.declared.speech.Speech.{Speech}
 use Rattle.capture_lines.specs.Counting.{one_more}
 use Rattle.capture_lines.specs.Receiving.{is_right}

@@ -1,7 +1,7 @@
 -- The summary after all lines.
 use Rattle.std.specs.Prelude.{ℕ, Bool, List, [], ◌∷◌, ◌++◌, codes, if◌then◌else◌}
-use Rattle.wire_times.specs.declared.periods.Periods.{Periods}
-use Rattle.wire_times.specs.Periods.{mean}
+use Rattle.capture_times.specs.declared.periods.Periods.{Periods}
+use Rattle.capture_times.specs.Periods.{mean}
 use Rattle.capture_lines.specs.declared.counts.Counts.{Counts}
 use Rattle.capture_lines.specs.declared.speech.Speech.{Speech}
 use Rattle.capture_lines.specs.Counting.{count_line, frames_summary, pulses_summary}

@@ -1,12 +1,12 @@
 -- What is said of the times on the wires.
 use Rattle.std.specs.Prelude.{ℕ, ◌/◌, List, [], ◌∷◌, ◌++◌, codes, Option, Some, None}
 use Rattle.std.specs.Fmt.{decimal}
-use Rattle.vcd_reader.specs.declared.state.Sample.{Sample}
-use Rattle.wire_times.specs.declared.slip.Slip.{Slip}
-use Rattle.wire_times.specs.declared.slip.Slip.TheVariants.{Low, High, Settled, Held}
-use Rattle.wire_times.specs.declared.slip.Slips.{Slips}
-use Rattle.wire_times.specs.declared.watch.Watch.{Watch}
-use Rattle.wire_times.specs.Watching.{at_first, slips_at, watched}
+use Rattle.capture_vcd.specs.declared.state.Sample.{Sample}
+use Rattle.capture_times.specs.declared.slip.Slip.{Slip}
+use Rattle.capture_times.specs.declared.slip.Slip.TheVariants.{Low, High, Settled, Held}
+use Rattle.capture_times.specs.declared.slip.Slips.{Slips}
+use Rattle.capture_times.specs.declared.watch.Watch.{Watch}
+use Rattle.capture_times.specs.Watching.{at_first, slips_at, watched}
 use Rattle.capture_lines.specs.Counting.{one_more}
 use Rattle.capture_lines.specs.Lines.{digit, time_text}
 

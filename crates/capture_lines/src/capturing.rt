@@ -3,14 +3,14 @@
 ghost use Rattle.std.specs.Prelude.{◌≡◌, ◌<◌, length, IfOk, OnOk};
 ghost use Rattle.capture_lines.specs.Captures.{capture_text, found_by, reported_all};
 ghost use Rattle.capture_lines.specs.Timing.{timed_all};
-ghost use Rattle.vcd_reader.specs.Reads.{reads_of};
-ghost use Rattle.wire_frames.specs.Listening.{at_first};
+ghost use Rattle.capture_vcd.specs.Reads.{reads_of};
+ghost use Rattle.capture_frames.specs.Listening.{at_first};
 
 use crate::report::Report;
 use crate::timing::Timing;
+use capture_frames::Listener;
+use capture_vcd::{Reader, VcdFault};
 use std::alloc::{AllocError, Global};
-use vcd_reader::{Reader, VcdFault};
-use wire_frames::Listener;
 
 /// What is said of a capture, and the fault of its dump, if there is one.
 #[derive(Drop)]

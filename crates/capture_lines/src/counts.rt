@@ -4,8 +4,8 @@ ghost use Rattle.std.specs.Prelude.{◌≡◌, ◌++◌, OnOk};
 ghost use Rattle.capture_lines.specs.Counting.{count_line, counted, frames_summary, none_yet, one_more, pulses_summary};
 ghost use Rattle.capture_lines.specs.Receiving.{is_right};
 
+use capture_frames::{Finding, Whole};
 use std::alloc::AllocError;
-use wire_frames::{Finding, Whole};
 
 /// How often each kind of finding came: frames of eleven edges, right and wrong; frames that the host broke off, and
 /// those of which no other edge came; edges without a start bit; pulses that are too short; holds, without a request and

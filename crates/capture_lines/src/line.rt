@@ -5,8 +5,8 @@ ghost use Rattle.arrayvec.specs.ArrayVec.{array_vec_len};
 ghost use Rattle.capture_lines.specs.Lines.{byte_text, digit, again_line, finding_line, finding_text, part_text, sender, time_text, wrong};
 
 use arrayvec::ArrayVec;
+use capture_frames::{Finding, Timed, Whole};
 use hex_text::{append, begun};
-use wire_frames::{Finding, Timed, Whole};
 
 /// The line of a finding. None is longer.
 pub(crate) type LineText = ArrayVec<u8, 128>;

@@ -8,12 +8,12 @@ ghost use Rattle.pc_tables.specs.declared.item.Item.TheVariants.{Port};
 
 use crate::counts::is_right;
 use arrayvec::ArrayVec;
+use capture_frames::Finding;
 use ctl_core::Controller;
 use int09::Bios;
 use pc_tables::Item;
 use std::alloc::{AllocError, Global};
 use std::marker::Model;
-use wire_frames::Finding;
 
 /// The PC's side: its controller as at power-on, whose output is read at once, and INT 09h, of which a program takes each
 /// word at once.

@@ -11,11 +11,11 @@ use crate::receiver::Receiver;
 use crate::speech::Speech;
 use crate::summary::push_summary;
 use crate::timing::Timing;
+use capture_frames::{Said, Timed};
+use capture_vcd::VcdFault;
 use pc_tables::{Item, push_item};
 use std::alloc::{AllocError, Global};
 use std::marker::Model;
-use vcd_reader::VcdFault;
-use wire_frames::{Said, Timed};
 
 /// What was said so far: the lines, with what the PC keeps, the counts, and what the bytes say.
 #[derive(Drop)]

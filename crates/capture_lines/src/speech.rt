@@ -5,7 +5,7 @@ ghost use Rattle.capture_lines.specs.Speech.{after_byte, after_frame, after_host
 ghost use Rattle.capture_lines.specs.Counting.{one_more};
 
 use crate::counts::is_right;
-use wire_frames::{Finding, Whole};
+use capture_frames::{Finding, Whole};
 
 /// The host's byte that asks for the last byte again.
 const AGAIN: u8 = 0xfe;

@@ -7,8 +7,8 @@ use crate::counts::{Counts, push_count};
 use crate::line::LineText;
 use crate::speech::Speech;
 use crate::timing::{Timing, push_span};
+use capture_times::Periods;
 use std::alloc::AllocError;
-use wire_times::Periods;
 
 /// Appends a line with a time.
 #[tactic(auto, unfolding(crate::specs::Summary::span_line))]

@@ -6,11 +6,11 @@ ghost use Rattle.capture_lines.specs.Timing.{slip_line, slip_text, slipped, slip
 
 use crate::counts::add_one;
 use crate::line::{LineText, digit, time_text};
+use capture_times::{Periods, Slip, Slips, Watch};
+use capture_vcd::Sample;
 use hex_text::append;
 use std::alloc::{AllocError, Global};
 use std::marker::Model;
-use vcd_reader::Sample;
-use wire_times::{Periods, Slip, Slips, Watch};
 
 /// What was said of the times so far: what was seen of the wires, how many times were outside their limits, and the lines
 /// that say so.

@@ -22,7 +22,8 @@ read_with c near empty =
     let awaits = truth_read c.port.awaits in
     let flip = maybe_read c.port.flip in
     let clock = truth_read c.clock in
-    let found : CtlState = record { port = port_in (saved_of c) c.port.link; clock = truth_at 11 (saved_of c).end } in
+    let found : CtlState =
+    record { port = port_in (saved_of c) c.port.link; clock = truth_at 11 (saved_of c).end; pins = c.pins } in
     ap (λ t. if t then Some found else None) (ap (λ b. fits b c.port.link) full ∙ empty)
     ∙ (λ i. Some (record {
       port = record {
@@ -33,14 +34,16 @@ read_with c near empty =
         flip = flip i;
       };
       clock = clock i;
+      pins = c.pins;
     }))
 
--- what these three groups of bytes mean is the controller that they were written of
-pub read_back : (b e l : List ℕ) (c : CtlState) → b ≡ controller_bytes c.port.core → e ≡ end_bytes c
-    → link_in l ≡ Some c.port.link → c.port.filled < 2 ^ 64 → IsEmptyUnlessHeld c.port
-    → loaded (record { buffers = b; end = e; link = l }) ≡ Some c
-read_back b e l c buffers end link near empty =
-    ap (λ x. loaded (record { buffers = x; end = e; link = l })) buffers
-    ∙ ap (λ x. loaded (record { buffers = controller_bytes c.port.core; end = x; link = l })) end
+-- what these groups of bytes mean, with the pins, is the controller that they were written of
+pub read_back : (b e l : List ℕ) (pins : ℕ) (c : CtlState) → b ≡ controller_bytes c.port.core → e ≡ end_bytes c
+    → link_in l ≡ Some c.port.link → pins ≡ c.pins → c.port.filled < 2 ^ 64 → IsEmptyUnlessHeld c.port
+    → loaded (record { buffers = b; end = e; link = l; pins = pins }) ≡ Some c
+read_back b e l pins c buffers end link set near empty =
+    ap (λ x. loaded (record { buffers = x; end = e; link = l; pins = pins })) buffers
+    ∙ ap (λ x. loaded (record { buffers = controller_bytes c.port.core; end = x; link = l; pins = pins })) end
+    ∙ ap (λ x. loaded (record { buffers = controller_bytes c.port.core; end = end_bytes c; link = l; pins = x })) set
     ∙ ap (λ x. loaded_with (saved_of c) x) link
     ∙ read_with c near empty

@@ -19,7 +19,12 @@ end_bytes c =
     ++ from_bool c.port.awaits ∷ from_bool (is_some c.port.flip) ∷ byte_or_0 c.port.flip ∷ from_bool c.clock ∷ []
 
 abbrev pub saved_of : CtlState → SavedController
-saved_of c = record { buffers = controller_bytes c.port.core; end = end_bytes c; link = link_bytes c.port.link }
+saved_of c = record {
+  buffers = controller_bytes c.port.core;
+  end = end_bytes c;
+  link = link_bytes c.port.link;
+  pins = c.pins;
+}
 
 -- the end of the link that these bytes mean, with this link
 abbrev pub port_in : SavedController → Link Wire → LinkEnd Wire
@@ -36,7 +41,7 @@ abbrev pub loaded_with : SavedController → Option (Link Wire) → Option CtlSt
 loaded_with s None = None
 loaded_with s (Some link) =
     if fits (truth_at 2 s.buffers) link
-    then Some (record { port = port_in s link; clock = truth_at 11 s.end })
+    then Some (record { port = port_in s link; clock = truth_at 11 s.end; pins = s.pins })
     else None
 
 abbrev pub loaded : SavedController → Option CtlState

@@ -3,49 +3,63 @@
 ghost use Rattle.std.specs.Prelude.{◌≡◌, ◌↔◌, IsErr, IsSome, IfErr, OnErr, OnOk};
 ghost use Rattle.ctl_core.specs.Controller.{emptied, status_of, written};
 ghost use Rattle.ctl_wire.specs.Wire.{drive};
-ghost use Rattle.ctl_half.specs.Controllers.{at_start, interrupts, is_turnable, looked, settles, settling, with_core, with_flip};
+ghost use Rattle.ctl_half.specs.Controllers.{at_start, interrupts, is_turnable, looked, reset_of, settles, settling};
+ghost use Rattle.ctl_half.specs.Controllers.{with_core, with_flip, with_pins};
 
+use crate::pins::{is_pins_command, put_pins};
 use board_terms::Lines;
 use ctl_core::{Controller, Did, InputFull, Port};
 use ctl_link::LinkEnd;
 use ctl_wire::{Wire, drive_of, fall};
 use std::marker::Model;
 
-/// The controller at its two wires. A clause sees it as its end of the link, and the level of the clock at its last look.
+/// The controller at its two wires. A clause sees it as its end of the link, the level of the clock at its last look, and the
+/// pins of its input port.
 #[derive(Drop)]
 pub struct CtlHalf {
     pub(crate) port: LinkEnd<Wire>,
     pub(crate) clock: bool,
+    /// The pins, if somebody has set them.
+    pub(crate) pins: Option<u8>,
 }
 
 impl Model for CtlHalf {
     ghost use Rattle.ctl_link.specs.Empty.{IsEmptyUnlessHeld};
-    ghost use Rattle.ctl_half.specs.Controllers.{CtlState};
+    ghost use Rattle.ctl_half.specs.Controllers.{CtlState, pins_in};
 
     ghost Value = { CtlState };
 
-    ghost view = { λ h. record { port = h.port; clock = h.clock } };
+    ghost view = { λ h. record { port = h.port; clock = h.clock; pins = pins_in h.pins } };
 
     ghost invariant = { λ h. IsEmptyUnlessHeld h.port };
 }
 
 impl CtlHalf {
-    /// The controller at power-on: both buffers are empty, the command byte is 45, the link is free, and the clock was high.
+    /// The controller at power-on: both buffers are empty, the command byte is 45, the link is free, the clock was high, and
+    /// the pins are B0.
     pub fn new() -> CtlHalf
         ensures start { result ≡ at_start }
     {
         CtlHalf {
             port: LinkEnd::new(),
             clock: true,
+            pins: None,
         }
     }
 
-    /// Resets the controller: it is as at power-on.
+    /// Resets the controller: it is as at power-on, but the pins stay as they are.
     pub fn reset(&mut self)
-        ensures start { self.new ≡ at_start }
+        ensures start { self.new ≡ reset_of self.old }
     {
         self.port = LinkEnd::new();
         self.clock = true;
+    }
+
+    /// The pins of the input port have these levels from now on. Command C0 puts them out.
+    pub fn set_pins(&mut self, pins: u8)
+        ensures pins { self.new ≡ with_pins pins self.old }
+    {
+        self.pins = Some(pins);
     }
 
     /// The look of cycle `now` at the wires. The clock falls if it was high at the last look and is low at this one.
@@ -91,14 +105,18 @@ impl CtlHalf {
     }
 
     /// The controller settles at the end of cycle `now`: a waiting input breaks off the keyboard's byte, if fewer than ten
-    /// of its falling edges have been and no reply is awaited, and is taken if it may be. Answers what the input taken did.
+    /// of its falling edges have been and no reply is awaited, and is taken if it may be. What command C0 puts out is the
+    /// pins. Answers what the input taken did.
     #[inline(always)]
     pub fn settle(&mut self, now: u64) -> Did
         ensures after { self.new ≡ settles now self.old }
         ensures did { result ≡ (settling now self.old).did }
     {
+        let asked = is_pins_command(&self.port.core);
         self.port.break_off(now);
-        self.port.settle(now)
+        let did = self.port.settle(now);
+        put_pins(&mut self.port.core, asked, self.pins);
+        did
     }
 
     /// What the controller drives on the two wires since its last cycle; both are high before the first.

@@ -7,12 +7,13 @@ ghost use Rattle.mcs48_bytes.specs.Numbers.{byte_or_0, truth_at};
 ghost use Rattle.ctl_half.specs.Saves.{end_bytes, gone_back, loaded, port_in, saved_of};
 
 use crate::controller::CtlHalf;
+use crate::pins::pins_in;
 use ctl_link::{Link, LinkEnd};
 use ctl_wire::Wire;
 use joint_bytes::{controller_bytes, controller_in, link_bytes, link_in};
 use mcs48_bytes::{maybe_at, number_at, truth_at};
 
-/// The state of a controller, in one form for all machines: three groups of the bytes that a saved keyboard has.
+/// The state of a controller, in one form for all machines: three groups of the bytes that a saved keyboard has, and the pins.
 #[repr(C)]
 #[derive(Drop)]
 pub struct SavedController {
@@ -23,6 +24,8 @@ pub struct SavedController {
     pub end: [u8; 12],
     /// Its link.
     pub link: [u8; 23],
+    /// The levels at the pins of its input port.
+    pub pins: u8,
 }
 
 /// A byte, or 0.
@@ -94,6 +97,7 @@ impl CtlHalf {
         saved.buffers = controller_bytes(&self.port.core);
         saved.end = end_bytes(self);
         saved.link = link_bytes(&self.port.link);
+        saved.pins = pins_in(self.pins);
     }
 
     /// Goes to this state. Answers whether it is one. More than ten bits or edges of a frame are refused, and a full output
@@ -111,6 +115,7 @@ impl CtlHalf {
         }
         self.port = port_in(saved, link);
         self.clock = truth_at(&saved.end, 11);
+        self.pins = Some(saved.pins);
         true
     }
 }

@@ -3,7 +3,7 @@ use Rattle.std.proofs.Common.{◌≡◌, ℕ, zero, suc, ◌<◌, length, map, L
 use Rattle.std.specs.Prelude.{slice_get}
 use Rattle.std.specs.List.{remove}
 use Rattle.std.proofs.lemmas.List.{map-set}
-use Rattle.board_probes.specs.Probes.{Watch, armed}
+use Rattle.run_probes.specs.Probes.{Watch, armed}
 use Rattle.debugger.specs.Effects.{arm_at, tally_shown, tally_text}
 
 arm_set : (a b : ℕ) (ws : List Watch) (i : ℕ) (d : Watch) → i < length ws → set ws i (armed a b (get_or ws i d)) ≡ arm_at i a b ws

@@ -5,11 +5,11 @@ use Rattle.std.proofs.lemmas.Simd.{map-map}
 use Rattle.joint_run.specs.Joint.{Beside}
 use Rattle.joint_run.specs.Run.{World}
 use Rattle.joint_feed.specs.Stories.{Story, state_at}
-use Rattle.board_probes.specs.Counts.{counted_between}
+use Rattle.run_probes.specs.Counts.{counted_between}
 use Rattle.debugger.specs.CountLaw.{IsCounted, WalkCounts, HuntCounts}
-use Rattle.board_probes.specs.Probes.{first_met, sight_in}
+use Rattle.run_probes.specs.Probes.{first_met, sight_in}
 use Rattle.debugger.specs.Sessions.{Debug, Debuggee, Hunted, session_is_over, next_from, next_state, stepped_to, walk, hunt}
-use Rattle.board_probes.proofs.Counting.{counted_both, counted_nowhere, counted_once, looked_if, map_as, map_same}
+use Rattle.run_probes.proofs.Counting.{counted_both, counted_nowhere, counted_once, looked_if, map_as, map_same}
 
 -- nothing is done
 pub counted_still : (s : Story) (d : Debug) → IsCounted s d d

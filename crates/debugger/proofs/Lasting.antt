@@ -9,12 +9,12 @@ use Rattle.std.specs.declared.option.Option.{Option}
 use Rattle.std.proofs.lemmas.Option.{slice_get-map}
 use Rattle.debugger.specs.declared.command.Command.{Command}
 use Rattle.debugger.specs.declared.command.Command.TheVariants.{Step, Go, Show, Ram, Arm, Tell, Drop}
-use Rattle.board_probes.specs.Counts.{counted_between}
+use Rattle.run_probes.specs.Counts.{counted_between}
 use Rattle.debugger.specs.CountLaw.{IsCounted, number_then, number_after, obeyed_all, LinesCount, CountsSinceArmed}
-use Rattle.board_probes.specs.Probes.{Watch, armed}
+use Rattle.run_probes.specs.Probes.{Watch, armed}
 use Rattle.debugger.specs.Sessions.{Debug, Debuggee, walk, hunt}
 use Rattle.debugger.specs.Effects.{arm_at, obeyed}
-use Rattle.board_probes.proofs.Counting.{counted_both, counted_nowhere, counts_from_none}
+use Rattle.run_probes.proofs.Counting.{counted_both, counted_nowhere, counts_from_none}
 use Rattle.debugger.proofs.Counted.{walk_counts, hunt_counts}
 
 -- the others stay when one is armed

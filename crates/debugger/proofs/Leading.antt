@@ -3,7 +3,7 @@ use Rattle.std.proofs.Common.{◌≡◌, ◌≤◌, ℕ, zero, suc, ◌+◌, ◌
 use Rattle.std.specs.declared.option.Option.{Option}
 use Rattle.joint_run.specs.Joint.{Beside}
 use Rattle.joint_run.specs.Run.{World}
-use Rattle.board_probes.specs.Probes.{first_met, sight_in}
+use Rattle.run_probes.specs.Probes.{first_met, sight_in}
 use Rattle.debugger.specs.Sessions.{Debug, Debuggee, Hunted, next_state, stepped_to, walk, hunt}
 use Rattle.debugger.specs.Making.{LeadsTo, hunt_after}
 

@@ -6,9 +6,9 @@ use Rattle.std.specs.declared.option.Option.{Option}
 use Rattle.std.specs.declared.result.Result.{Result}
 use Rattle.board_terms.specs.Edges.{AreInOrder}
 use Rattle.board_terms.specs.declared.lines.Lines.{Lines}
-use Rattle.board_probes.proofs.Sights.{same_sight}
-use Rattle.board_probes.specs.Probes.{Sight, Watch, first_met, looked, sight_in, sight_of}
-use Rattle.board_probes.specs.Resting.{all_rest}
+use Rattle.run_probes.proofs.Sights.{same_sight}
+use Rattle.run_probes.specs.Probes.{Sight, Watch, first_met, looked, sight_in, sight_of}
+use Rattle.run_probes.specs.Resting.{all_rest}
 use Rattle.fw_kernel.specs.declared.labels.TheConstants.{TICK}
 use Rattle.joint_feed.specs.Course.{IsOnCourse}
 use Rattle.joint_feed.specs.Stories.{Story, state_at}

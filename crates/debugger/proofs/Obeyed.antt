@@ -12,7 +12,7 @@ use Rattle.debugger.specs.declared.rule.LineFault.TheVariants.{Memory}
 use Rattle.debugger.specs.declared.rule.Rule.{Rule}
 use Rattle.debugger.specs.Lines.{IsLine}
 use Rattle.debugger.specs.Obeyed.{IsObeyed, IsObeyedInPart, afterwards, begun, lines_effect}
-use Rattle.board_probes.specs.Probes.{Watch}
+use Rattle.run_probes.specs.Probes.{Watch}
 use Rattle.debugger.specs.Sessions.{Debug, Debuggee, Sitting}
 use Rattle.debugger.specs.Effects.{LineEffect, line_effect, effect_of}
 

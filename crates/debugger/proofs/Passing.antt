@@ -7,10 +7,10 @@ use Rattle.std.proofs.lemmas.Bool.{and_parts}
 use Rattle.std.proofs.lemmas.Bool.Decides.{nat_tests}
 use Rattle.board_terms.specs.Edges.{AreInOrder}
 use Rattle.board_terms.specs.declared.lines.Lines.{Lines}
-use Rattle.board_probes.proofs.AtRest.{all_rested, unmet}
-use Rattle.board_probes.proofs.Sights.{same_sight}
-use Rattle.board_probes.specs.Probes.{Sight, Watch, first_met, looked, sight_in, sight_of}
-use Rattle.board_probes.specs.Resting.{all_rest, rests}
+use Rattle.run_probes.proofs.AtRest.{all_rested, unmet}
+use Rattle.run_probes.proofs.Sights.{same_sight}
+use Rattle.run_probes.specs.Probes.{Sight, Watch, first_met, looked, sight_in, sight_of}
+use Rattle.run_probes.specs.Resting.{all_rest, rests}
 use Rattle.fw_kernel.specs.declared.labels.TheConstants.{TICK}
 use Rattle.joint_feed.specs.Course.{IsOnCourse}
 use Rattle.joint_feed.specs.Stories.{state_at, starts_tick}

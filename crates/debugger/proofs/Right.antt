@@ -16,10 +16,10 @@ use Rattle.debugger.specs.declared.command.Command.TheVariants.{Step, Go, Show, 
 use Rattle.debugger.specs.declared.rule.Rule.{Rule}
 use Rattle.debugger.specs.declared.rule.Rule.TheVariants.{Form, Probe}
 use Rattle.debugger.specs.Commands.{command_in}
-use Rattle.board_probes.specs.Counts.{counted_between}
+use Rattle.run_probes.specs.Counts.{counted_between}
 use Rattle.debugger.specs.Faults.{IsRight, IsVerdict}
 use Rattle.debugger.specs.Obeyed.{afterwards, lines_effect}
-use Rattle.board_probes.specs.Probes.{Watch}
+use Rattle.run_probes.specs.Probes.{Watch}
 use Rattle.debugger.specs.Scripts.{judged, left, missing, script_of, take_line}
 use Rattle.debugger.specs.Sessions.{Debug, Debuggee, walk, hunt}
 use Rattle.debugger.specs.Effects.{LineEffect, arm_at, obeyed, effect_of}

@@ -6,16 +6,16 @@ use Rattle.std.proofs.lemmas.Bool.Decides.{nat_tests}
 use Rattle.std.specs.declared.option.Option.{Option}
 use Rattle.joint_run.specs.Joint.{Beside, joint_board, joint_start_of}
 use Rattle.joint_run.specs.Run.{World, joint_step, run_at, step_on}
-use Rattle.fw_logic.specs.JointRun.{DecidesTick}
+use Rattle.fw_ticks.specs.JointRun.{DecidesTick}
 use Rattle.joint_feed.specs.declared.course.Course.{Course}
 use Rattle.joint_feed.specs.Course.{IsOnCourse}
 use Rattle.joint_feed.specs.Filled.{filled_story}
 use Rattle.joint_feed.specs.Stories.{state_at, starts_tick}
 use Rattle.key_file.specs.Histories.{KeyHistory}
 use Rattle.debugger.specs.Sessions.{Debuggee, Sitting, sitting, session_is_over, next_from, next_state, has_ended}
-use Rattle.board_probes.specs.Stuck.{sticks}
+use Rattle.run_probes.specs.Stuck.{sticks}
 use Rattle.debugger.specs.Advance.{IsStateAt, DecidesSessionOver}
-use Rattle.board_probes.proofs.Sights.{same_sight}
+use Rattle.run_probes.proofs.Sights.{same_sight}
 use Rattle.joint_glide.proofs.NoStep.{none_step}
 
 -- what a session over this program is about

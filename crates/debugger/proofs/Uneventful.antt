@@ -1,9 +1,9 @@
 -- Quiet steps of a run's machine.
 use Rattle.std.proofs.Common.{◌≡◌, ◌≤◌, ◌%◌, ◌&&◌, ◌==◌, ℕ, zero, suc, ◌+◌, false, not, refl, ap, sym, subst, ◌∙◌, arith}
 use Rattle.board_terms.specs.Edges.{AreInOrder}
-use Rattle.board_probes.specs.Probes.{sight_of}
+use Rattle.run_probes.specs.Probes.{sight_of}
 use Rattle.fw_kernel.specs.declared.labels.TheConstants.{TICK}
-use Rattle.fw_logic.specs.JointRun.{DecidesTick}
+use Rattle.fw_ticks.specs.JointRun.{DecidesTick}
 use Rattle.joint_feed.proofs.Going.{on_again, on_moved}
 use Rattle.joint_feed.specs.Course.{IsOnCourse}
 use Rattle.joint_feed.specs.Stories.{Story}

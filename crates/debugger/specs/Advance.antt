@@ -4,7 +4,7 @@ use Rattle.joint_run.specs.Joint.{Beside}
 use Rattle.joint_run.specs.Run.{World}
 use Rattle.joint_run.specs.declared.machine.Machine.{Machine}
 use Rattle.joint_feed.specs.Stories.{state_at}
-use Rattle.board_probes.specs.Probes.{sight_in, sight_of}
+use Rattle.run_probes.specs.Probes.{sight_in, sight_of}
 use Rattle.debugger.specs.Sessions.{Sitting, session_is_over}
 
 -- the machine has the processor, the counts and the wires of the run's state after so many steps

@@ -9,9 +9,9 @@ use Rattle.debugger.specs.declared.command.Command.{Command}
 use Rattle.debugger.specs.declared.command.Command.TheVariants.{Arm, Drop}
 use Rattle.debugger.specs.Commands.{command_in}
 use Rattle.debugger.specs.Obeyed.{lines_effect}
-use Rattle.board_probes.specs.Probes.{Watch, armed}
-use Rattle.board_probes.specs.Counts.{counted_between}
-use Rattle.board_probes.specs.LooksLaw.{IsTally}
+use Rattle.run_probes.specs.Probes.{Watch, armed}
+use Rattle.run_probes.specs.Counts.{counted_between}
+use Rattle.run_probes.specs.LooksLaw.{IsTally}
 use Rattle.debugger.specs.Sessions.{Debug, Debuggee, walk, hunt}
 use Rattle.debugger.specs.Effects.{LineEffect, obeyed}
 

@@ -15,7 +15,7 @@ use Rattle.text_lines.specs.Fields.{is_blank_line}
 use Rattle.debugger.specs.declared.command.Command.{Command}
 use Rattle.debugger.specs.declared.command.Command.TheVariants.{Step, Go, Show, Ram, Arm, Tell, Drop}
 use Rattle.debugger.specs.declared.rule.Rule.{Rule}
-use Rattle.board_probes.specs.Probes.{Watch, armed}
+use Rattle.run_probes.specs.Probes.{Watch, armed}
 use Rattle.debugger.specs.Scripts.{judged}
 use Rattle.debugger.specs.Sessions.{Debug, Debuggee, has_ended, walk, hunt}
 

@@ -4,8 +4,8 @@ use Rattle.std.specs.declared.option.Option.{Option}
 use Rattle.joint_run.specs.Joint.{Beside}
 use Rattle.joint_run.specs.Run.{World}
 use Rattle.joint_feed.specs.Stories.{state_at}
-use Rattle.board_probes.specs.Probes.{Watch, first_met, looked, sight_in}
-use Rattle.board_probes.specs.Resting.{all_rest}
+use Rattle.run_probes.specs.Probes.{Watch, first_met, looked, sight_in}
+use Rattle.run_probes.specs.Resting.{all_rest}
 use Rattle.debugger.specs.declared.stepping.Made.{Made}
 use Rattle.debugger.specs.Sessions.{Debug, Debuggee, Hunted, hunt, next_state, walk}
 

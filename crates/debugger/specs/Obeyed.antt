@@ -4,7 +4,7 @@ use Rattle.std.specs.Str.Lines.{lines}
 use Rattle.std.specs.declared.result.Result.{Result}
 use Rattle.first_fault.specs.FirstFault.{and_then}
 use Rattle.debugger.specs.declared.rule.Rule.{Rule}
-use Rattle.board_probes.specs.Probes.{Watch}
+use Rattle.run_probes.specs.Probes.{Watch}
 use Rattle.debugger.specs.Sessions.{Debug, Debuggee}
 use Rattle.debugger.specs.Effects.{LineEffect, line_effect, effect_of}
 

@@ -6,7 +6,7 @@ use Rattle.joint_run.specs.Filled.{filled}
 use Rattle.joint_run.specs.Joint.{Beside}
 use Rattle.joint_run.specs.Run.{World}
 use Rattle.joint_feed.specs.Stories.{Story, state_at, starts_tick}
-use Rattle.board_probes.specs.Probes.{Watch, looked, first_met, sight_in}
+use Rattle.run_probes.specs.Probes.{Watch, looked, first_met, sight_in}
 
 -- what is debugged: a program with its history, and by how much the cycle in which its run ends at the latest is
 -- greater than the end stamp

@@ -18,12 +18,12 @@ mod stepping;
 mod striding;
 mod texts;
 
-pub use board_probes::{
-    AddressProbe, CellProbe, LineDecoder, LineProbe, Probe, RegisterProbe, Tally, Transfer,
-};
 pub use debuggee::Debuggee;
 pub use law::probes_count;
 pub use rule::{LineFault, SessionFault};
+pub use run_probes::{
+    AddressProbe, CellProbe, LineDecoder, LineProbe, Probe, RegisterProbe, Tally, Transfer,
+};
 pub use script::check_script;
 pub use scripted::obey_script;
 pub use session::Session;

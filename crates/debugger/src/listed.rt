@@ -2,10 +2,10 @@
 
 ghost use Rattle.std.specs.Prelude.{◌≡◌, ℕ, ◌<◌, length, map, slice_get};
 ghost use Rattle.std.specs.List.{remove};
-ghost use Rattle.board_probes.specs.Probes.{armed};
+ghost use Rattle.run_probes.specs.Probes.{armed};
 ghost use Rattle.debugger.specs.Effects.{arm_at, tally_shown, tally_text};
 
-use board_probes::{Probe, Tally};
+use run_probes::{Probe, Tally};
 
 /// It is armed.
 fn arm_one(probe: &mut Box<dyn Probe>, a: u16, b: u8)

@@ -14,8 +14,8 @@ use crate::listed::{arm_at, drop_at, tally_at};
 use crate::rule::{LineFault, judged};
 use crate::session::Session;
 use crate::texts::{at_text, hit_text, number_text, ram_text, tally_text};
-use board_probes::Probe;
 use mcs48_core::state_text;
+use run_probes::Probe;
 use std::alloc::{AllocError, Global};
 use text_lines::is_blank_line;
 

@@ -8,7 +8,7 @@ ghost use Rattle.debugger.specs.Obeyed.{IsObeyed, IsObeyedInPart};
 use crate::debuggee::Debuggee;
 use crate::rule::LineFault;
 use crate::session::Session;
-use board_probes::Probe;
+use run_probes::Probe;
 use std::alloc::Global;
 use text_lines::next_line;
 

@@ -3,15 +3,15 @@
 ghost use Rattle.std.specs.Prelude.{◌≡◌, ◌≤◌, ◌<◌, ◌+◌, ◌-◌, ◌&&◌, ◌||◌, List, min, nat_le, false, true, if◌then◌else◌, IfOk};
 ghost use Rattle.joint_feed.specs.Course.{IsOnCourse};
 ghost use Rattle.debugger.specs.Sessions.{has_ended, latest_start, sitting};
-ghost use Rattle.board_probes.specs.Stuck.{sticks};
-ghost use Rattle.board_probes.specs.Probes.{Watch};
+ghost use Rattle.run_probes.specs.Stuck.{sticks};
+ghost use Rattle.run_probes.specs.Probes.{Watch};
 ghost use Rattle.debugger.specs.Advance.{IsStateAt, DecidesSessionOver};
 ghost use Rattle.debugger.specs.Making.{IsAdvanced, RestAt};
 
 use crate::debuggee::Debuggee;
 use crate::striding::stride;
 use board_terms::STAMP_0;
-use fw_logic::at_tick;
+use fw_ticks::at_tick;
 use int09::Bios;
 use joint_feed::Course;
 use joint_run::Joint;

@@ -5,7 +5,7 @@ ghost use Rattle.debugger.specs.Sessions.{debug, walk, hunt};
 ghost use Rattle.debugger.specs.Making.{IsMade};
 
 use crate::session::Session;
-use board_probes::{Probe, all_rest, look_all};
+use run_probes::{Probe, all_rest, look_all};
 
 /// What came of some steps more: how many were made, none if the run has ended; and of the probes that the last of them
 /// hit the first, counted from 0.

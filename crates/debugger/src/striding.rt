@@ -1,8 +1,11 @@
 //! Steps of a run at once: quiet ones, and then one of any kind.
 
-ghost use Rattle.std.specs.Prelude.{◌≡◌, ◌+◌, ◌<◌, ◌^◌};
+ghost use Rattle.std.specs.Prelude.{◌≡◌, ◌+◌, ◌<◌, ◌^◌, OnOk};
+ghost use Rattle.fw_kernel.specs.declared.labels.TheConstants.{TICK};
 ghost use Rattle.joint_feed.specs.Course.{IsOnCourse};
 ghost use Rattle.joint_feed.specs.Filled.{run_of};
+ghost use Rattle.joint_glide.specs.Still.{IsNoted, first_stir};
+ghost use Rattle.joint_glide.specs.Uneventful.{HasGoneFar};
 ghost use Rattle.key_file.specs.Accepted.{IsAccepted};
 ghost use Rattle.debugger.specs.Striding.{HasStrode};
 
@@ -19,6 +22,8 @@ pub(crate) fn stride(course: &mut Course, history: &History, most: u64) -> Resul
     requires near { course.old.joint.cycle + most < 2 ^ 62 }
     ensures accepted { IsAccepted history.now }
     ensures fill { course.new.fill ≡ course.old.fill }
+    ensures far { IsNoted course.old.joint → OnOk result (HasGoneFar TICK
+        (first_stir course.old.ahead.due course.old.joint most) course.old.joint course.new.joint) }
     ensures strode { HasStrode (run_of course.old history.now) most course.old result course.new }
 {
     let _ = history.end();

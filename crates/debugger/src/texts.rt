@@ -4,7 +4,7 @@ ghost use Rattle.std.specs.Prelude.{◌≡◌, ◌++◌, IfOk, OnOk};
 ghost use Rattle.std.specs.Fmt.{decimal};
 ghost use Rattle.debugger.specs.Effects.{at_text, hit_text, ram_text, number_text, tally_text, first_text};
 
-use board_probes::Tally;
+use run_probes::Tally;
 use std::alloc::{AllocError, Global};
 
 /// Appends a name and a number in decimal.

@@ -9,9 +9,9 @@
 //! interrupt's service and ends with RETR. Its first instructions write the timer anew while the prescaler goes on,
 //! so that the overflows are exactly 2,048 cycles apart however long the work takes; the loop at `WAIT` takes two
 //! cycles, so a tick starts in the cycle of its multiple of 2,048 or in the next. No block of the tick makes a call
-//! or returns. Places 300 to 3CD (hexadecimal) hold no code: they are the layout's tables, its codes at 300 and
-//! its rate at 360, and from 361 on those of the second layer. From 3CE on are the delays and periods that MOVP3
-//! reads, and at 3F2 is whether the layout's keys are debounced.
+//! or returns. Places 300 to 3CD and 3F2 (hexadecimal) are the layout's and hold no code: its codes are at 300, its
+//! rate is at 360, the codes of the second layer follow from 361 on, and 3F2 says whether its keys are debounced. At
+//! 3CE to 3F1 are the delays and periods that MOVP3 reads.
 //!
 //! **A tick** reads the twelve columns, finds what is to be sent, puts the lights, and looks at both wires. If the
 //! power-on test runs it counts one of the test's ticks. Otherwise it sends a byte, receives one, or does neither. Then
@@ -19,8 +19,8 @@
 //! if the layout says so, enter the queue in the order of their places.
 //!
 //! **What is proved of it** is above. Here are bytes, labels and a text, and no function, so this crate's own check
-//! refuses none of them. `fw_logic` proves what is at `TICK` and what the blocks do, `fw_keys`, `fw_link` and
-//! `agreement` what whole ticks do, by these very bytes; a test of `rows_parts` assembles the text to them.
+//! refuses none of them. `law_fw_logic` proves what is at `TICK` and what the blocks do, `law_fw_keys`, `law_fw_link` and
+//! `law_agreement` what whole ticks do, by these very bytes; a test of `rows_parts` assembles the text to them.
 #![tactic(auto)]
 
 mod bytes;

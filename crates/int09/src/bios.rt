@@ -56,7 +56,7 @@ impl Bios {
     ghost use Rattle.int09.specs.Flags.{flags_of, state_of};
     ghost use Rattle.int09.specs.Rules.{fed};
 
-    /// The state at the start, all clear, with the memory for 15 words. No other call takes memory.
+    /// The state at the start, all clear, with the memory for 15 words.
     pub fn new(alloc: Global) -> Result<Bios, AllocError>
         ensures start { IfOk result (λ bios. bios ≡ start) }
     {
@@ -69,6 +69,34 @@ impl Bios {
             resend: false,
             words,
         })
+    }
+
+    /// The state at the start again, all clear, with the memory that it has.
+    pub fn clear(&mut self)
+        ensures start { self.new ≡ start }
+    {
+        self.shifts = Shifts(0);
+        self.downs = Downs(0);
+        self.number = 0;
+        self.ack = false;
+        self.resend = false;
+        self.words.clear();
+    }
+
+    /// The state of another, with the memory that it has.
+    pub fn assign(&mut self, other: &Bios)
+        ensures same { self.new ≡ other.now }
+    {
+        prove!(other.words.len() <= 15);
+        let (front, back) = other.words.as_slices();
+        self.clear();
+        self.shifts = Shifts(other.shifts.0);
+        self.downs = Downs(other.downs.0);
+        self.number = other.number;
+        self.ack = other.ack;
+        self.resend = other.resend;
+        let _ = self.words.fill_from_slice(front);
+        let _ = self.words.fill_from_slice(back);
     }
 
     /// The state of these parts and these words, at most 15, the one to be taken next first.

@@ -1,5 +1,5 @@
 -- Joint steps after which nothing has to be counted or reported.
-use Rattle.std.specs.Prelude.{◌≡◌, ◌≤◌, ◌<◌, ℕ, zero, suc, ◌+◌, ◌%◌, ◌==◌, Bool, true, false, [], ◌∷◌, Ok, Err}
+use Rattle.std.specs.Prelude.{◌≡◌, ◌≢◌, ◌⊎◌, ◌≤◌, ◌<◌, ℕ, zero, suc, ◌+◌, ◌%◌, ◌==◌, Bool, true, false, [], ◌∷◌, Ok, Err}
 use Rattle.std.specs.declared.result.Result.{Result}
 use Rattle.board_terms.specs.declared.lines.Lines.{Lines}
 use Rattle.mcs48_core.specs.declared.stepping.Stuck.{Stuck}
@@ -61,3 +61,13 @@ HasStretched due tick_pc most old (Ok true) seen new =
 HasStretched due tick_pc most old (Ok false) seen new =
     (count : ℕ) × AreUneventful due tick_pc count old new × (new.cycle ≤ old.cycle + most)
 HasStretched due tick_pc most old (Err stuck) seen new = HasGone due tick_pc most old (Err stuck) new
+
+-- quiet steps end only where there is no room for one more up to this cycle, or after one that wrote port 2 or led to the
+-- tick's place
+abbrev pub IsStretchedFar : ℕ → ℕ → Machine → Bool → Machine → Type 0
+IsStretchedFar tick_pc to old true new = (new.mcu.p2 ≢ old.mcu.p2) ⊎ (is_at tick_pc new ≡ true)
+IsStretchedFar tick_pc to old false new = to ≤ new.cycle + 1
+
+-- the last step reached this cycle, wrote port 2 or led to the tick's place
+abbrev pub HasGoneFar : ℕ → ℕ → Machine → Machine → Type 0
+HasGoneFar tick_pc to old new = (to ≤ new.cycle) ⊎ ((new.mcu.p2 ≢ old.mcu.p2) ⊎ (is_at tick_pc new ≡ true))

@@ -1,7 +1,8 @@
 //! Joint steps, as many at once as there are before something may happen.
 
 ghost use Rattle.std.specs.Prelude.{◌+◌, ◌<◌, ◌^◌, OnOk};
-ghost use Rattle.joint_glide.specs.Uneventful.{HasGone};
+ghost use Rattle.joint_glide.specs.Uneventful.{HasGone, HasGoneFar};
+ghost use Rattle.joint_glide.specs.Still.{IsNoted, first_stir};
 ghost use Rattle.joint_run.specs.Due.{with_seen};
 
 use crate::still::still_to;
@@ -25,6 +26,7 @@ pub fn go_on(
 ) -> Result<(), Stuck>
     requires near { joint.old.cycle + most < 2 ^ 62 }
     ensures gone { HasGone due.now tick_pc most joint.old (with_seen result seen.new) joint.new }
+    ensures far { IsNoted joint.old → OnOk result (HasGoneFar tick_pc (first_stir due.now joint.old most) joint.old joint.new) }
     ensures some { OnOk result (0 < seen.new.cycles) }
     ensures few { OnOk result (seen.new.cycles < 3) }
 {

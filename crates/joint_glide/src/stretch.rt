@@ -2,7 +2,7 @@
 
 ghost use Rattle.std.specs.Prelude.{◌≡◌, ◌+◌, ◌*◌, ◌<◌, ◌≤◌, ◌^◌, ℕ, IfOk, Some};
 ghost use Rattle.joint_glide.specs.Calls.{pins_now};
-ghost use Rattle.joint_glide.specs.Uneventful.{is_at, seen_uneventfully, HasStretched};
+ghost use Rattle.joint_glide.specs.Uneventful.{is_at, seen_uneventfully, HasStretched, IsStretchedFar};
 ghost use Rattle.joint_glide.specs.Still.{IsStillTo};
 ghost use Rattle.joint_run.specs.Cycle.{outside_wires};
 ghost use Rattle.mcs48_core.specs.Leap.{spun};
@@ -105,6 +105,7 @@ pub(crate) fn stretch(
     requires near { joint.old.cycle + room < 2 ^ 62 }
     requires still { IsStillTo due.now joint.old (joint.old.cycle + room) }
     ensures stretched { HasStretched due.now tick_pc room joint.old result seen.new joint.new }
+    ensures far { IfOk result (λ ended. IsStretchedFar tick_pc (joint.old.cycle + room) joint.old ended joint.new) }
 {
     let line = joint.lines();
     let latch = port_2(joint);

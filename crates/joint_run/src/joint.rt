@@ -79,6 +79,31 @@ impl Joint {
         }
     }
 
+    /// The machine is switched off and on again: it is at power-on, with its own program and the memory that INT 09h has, if
+    /// data memory, A and T hold this byte.
+    pub fn switch_on(&mut self, fill: u8)
+        ensures parts { self.new ≡ powered_on_from (filled fill) self.old.image.bytes }
+        ensures run { IsFirstOfRunFrom (filled fill) self.new }
+    {
+        self.machine.matrix = Matrix::new();
+        self.machine.mcu = reset_filled(fill);
+        self.machine.outside.switch_on();
+        self.machine.cycle = 0;
+        self.machine.steps = 0;
+    }
+
+    /// The machine is in the state of another from now on, with the memory that INT 09h has.
+    pub fn assign(&mut self, other: &Joint)
+        ensures same { self.new ≡ other.now }
+    {
+        self.machine.image.bytes = other.machine.image.bytes;
+        self.machine.matrix = other.machine.matrix.copied();
+        self.machine.mcu = other.machine.mcu.copied();
+        self.machine.outside.assign(&other.machine.outside);
+        self.machine.cycle = other.machine.cycle;
+        self.machine.steps = other.machine.steps;
+    }
+
     /// The machine of these parts, if they fit together.
     pub fn of_parts(machine: Machine) -> Joint
         requires sound { IsSound machine }

@@ -110,6 +110,29 @@ impl Outside {
         }
     }
 
+    /// It is as at power-on again, with the memory that INT 09h has.
+    pub(crate) fn switch_on(&mut self)
+        ensures start { self.new ≡ outside_at_start }
+        ensures empty { IsEmptyUnlessHeld self.new.desk.port }
+    {
+        self.desk.port = LinkEnd::new();
+        self.desk.masked = false;
+        self.desk.bios.clear();
+        self.clock = true;
+        self.shown = 0;
+    }
+
+    /// It is as another is, with the memory that INT 09h has.
+    pub(crate) fn assign(&mut self, other: &Outside)
+        ensures same { self.new ≡ other.now }
+    {
+        self.desk.port = copied_port(&other.desk.port);
+        self.desk.masked = other.desk.masked;
+        self.desk.bios.assign(&other.desk.bios);
+        self.clock = other.clock;
+        self.shown = other.shown;
+    }
+
     /// What is outside the processor at power-on, with INT 09h at its start.
     pub(crate) fn new(bios: Bios) -> Outside
         requires { bios ≡ start }

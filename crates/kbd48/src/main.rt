@@ -3,9 +3,9 @@
 #![tactic(auto)]
 
 use app_words::Exit;
-use board_probes::{AddressProbe, CellProbe, LineProbe, Probe, RegisterProbe};
 use io_edge::{FileShelf, StreamSink};
 use kbd48_app::kbd48;
+use run_probes::{AddressProbe, CellProbe, LineProbe, Probe, RegisterProbe};
 use std::process::ExitCode;
 use std::{env, io};
 

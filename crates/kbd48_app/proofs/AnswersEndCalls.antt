@@ -2,7 +2,7 @@
 use Rattle.std.proofs.Common.{◌≡◌, ◌<◌, ℕ, List, [], ◌++◌, Ok, Err, inl, inr, refl, ap, sym, subst, ◌∙◌, ◌⊎◌, arith}
 use Rattle.std.specs.declared.option.Option.{Option}
 use Rattle.std.specs.declared.result.Result.{Result}
-use Rattle.board_probes.specs.Probes.{Watch}
+use Rattle.run_probes.specs.Probes.{Watch}
 use Rattle.io_edge.proofs.Pieces.{AreLines, said_then_broken, said_then_said}
 use Rattle.io_edge.specs.Faults.{Rose}
 use Rattle.io_edge.specs.Said.{IsBrokenOff, IsSaid, Shown}

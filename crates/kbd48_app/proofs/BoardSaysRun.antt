@@ -1,7 +1,7 @@
 -- What `board` says of a layout's image beside what `run` and `trace` say.
 use Rattle.std.proofs.Common.{◌≡◌, false, [], ◌++◌, inl, inr, ap, sym, ◌∙◌}
 use Rattle.std.proofs.lemmas.List.{append-nil}
-use Rattle.runs_agree.specs.Boards.{BoardsSayRuns}
+use Rattle.law_runs_agree.specs.Boards.{BoardsSayRuns}
 use Rattle.subsystem.specs.LayoutOutcomes.{Outcome}
 use Rattle.subsystem.specs.Texts.{log_text}
 use Rattle.app_words.specs.declared.refusal.Refusal.TheVariants.{Memory}
@@ -29,13 +29,13 @@ board_says_run law of history text answer probes others left kept sound accepted
 
 -- the text of `trace` begins with that of `board --trace` of the layout's image, unless memory runs out
 pub board_traces_run : BoardsSayRuns → BoardTracesRun
-board_traces_run law of history text answer probes others left kept sound accepted (inl none) k = absurd (no_refusal text Memory none.0)
-board_traces_run law of history text answer probes others left kept sound accepted (inr h) (inl none) = inl none.0
-board_traces_run law of history text answer probes others left kept sound accepted (inr h) (inr reported) =
+board_traces_run law seen of history text answer probes others left kept sound accepted (inl none) k = absurd (no_refusal text Memory none.0)
+board_traces_run law seen of history text answer probes others left kept sound accepted (inr h) (inl none) = inl none.0
+board_traces_run law seen of history text answer probes others left kept sound accepted (inr h) (inr reported) =
     let says_so = law of history reported.0 h.1 sound (lawful_for accepted) reported.1 h.2.0 in
     let same : text ≡ h.0 = cc h.3 in
     inr (
-      reported.3 ∙ ap (board_said Trace reported.0) says_so.over,
-      says_so.changes,
-      same ∙ h.2.2 ∙ says_so.trace ∙ ap (λ v. v ++ says_so.changes) (sym reported.2),
+      reported.3 ∙ ap (board_said (Trace seen) reported.0) says_so.over,
+      says_so.changes seen,
+      same ∙ h.2.2 ∙ says_so.trace seen ∙ ap (λ v. v ++ says_so.changes seen) (sym reported.2),
     )

@@ -6,7 +6,7 @@ use Rattle.app_words.specs.declared.exit.Exit.TheVariants as exits
 use Rattle.app_words.specs.declared.kind.Kind.{Kind}
 use Rattle.app_words.specs.Kinds.{limit_of}
 use Rattle.kbd48_app.specs.Answers.{OnFetched}
-use Rattle.kbd48_app.specs.Plans.{Plan, Captures, Fetches}
+use Rattle.kbd48_app.specs.Plans.{Plan, Captures, Fetches, Follows}
 use Rattle.kbd48_app.specs.Reached.{on_fetched, HasDumpFault, IsUnserved, IsTooLong}
 use Rattle.kbd48_app.proofs.PlansEnd.{capture_exit, leads}
 
@@ -42,4 +42,5 @@ dump_faulty n (Fetches kind name next) shelf h =
     (λ bytes. leads n (next bytes) (after_fetch shelf)) exits.Input (λ fails. absurd fails) (λ long. absurd long)
     (λ bytes. dump_faulty n (next bytes) (after_fetch shelf)) (fetched shelf name (limit_of kind)) h
 dump_faulty n (Captures clk dat dump) shelf h = ap capture_exit h.1
+dump_faulty n (Follows layout clk dat dump) shelf h = ap capture_exit h.1
 dump_faulty n leaf shelf h = absurd h

@@ -1,7 +1,7 @@
 -- The causes of the exits, of a shelf that may tell its files.
 use Rattle.std.proofs.Common.{◌≡◌, ℕ, true, List, length, None, Some, IfSome, inl, inr, sym, subst, ◌∙◌}
 use Rattle.std.specs.declared.option.Option.{Option}
-use Rattle.board_probes.specs.Probes.{Watch}
+use Rattle.run_probes.specs.Probes.{Watch}
 use Rattle.io_edge.specs.Said.{Shown}
 use Rattle.io_edge.specs.Shelf.{Shelved}
 use Rattle.app_words.specs.declared.exit.Exit.{Exit}

@@ -1,7 +1,7 @@
 -- The fetches that were made.
 use Rattle.std.proofs.Common.{IfSome, ◌≡◌, ℕ, suc, ◌<◌, ◌≤◌, List, [], ◌∷◌, length, Some, None, Err, inl, inr, refl, ap, subst, ◌∙◌, ◌⊎◌, arith}
 use Rattle.std.specs.declared.option.Option.{Option}
-use Rattle.board_probes.specs.Probes.{Watch}
+use Rattle.run_probes.specs.Probes.{Watch}
 use Rattle.io_edge.specs.Said.{Shown}
 use Rattle.io_edge.specs.Shelf.{Shelved, Fetched, Fails, Long, Found, after_fetch, fetched}
 use Rattle.app_words.specs.declared.exit.Exit.{Exit}
@@ -11,7 +11,7 @@ use Rattle.kbd48_app.specs.Answers.{OnFetched, MayEnd}
 use Rattle.app_answers.specs.Leaving.{Left}
 use Rattle.app_words.specs.Kinds.{limit_of}
 use Rattle.app_answers.specs.FileAnswers.{Answer}
-use Rattle.kbd48_app.specs.Plans.{Plan, Gives, Certifies, Fetches, plan, Spells}
+use Rattle.kbd48_app.specs.Plans.{Plan, Gives, Certifies, Fetches, Follows, plan, Spells}
 use Rattle.kbd48_app.specs.Reached.{on_fetched, fetches_of, after_fetches, Makes}
 use Rattle.app_answers.specs.Says.{Says, exit_said}
 use Rattle.app_words.specs.Words.{command_of}
@@ -57,6 +57,7 @@ made : (p : Plan) (shelf : Shelved) (answer : Answer) (after : Option Shelved) (
 made (Gives said) shelf answer after probes left h = (0, omega arith, h.1.0, inl refl)
 made (Certifies image text) shelf answer after probes left h = (0, omega arith, h.1.0, inl refl)
 made (Spells layout text) shelf answer after probes left h = (0, omega arith, h.1.0, inl refl)
+made (Follows layout clk dat dump) shelf answer after probes left h = (0, omega arith, h.1.0, inl refl)
 made (Fetches kind name next) shelf answer after probes left h =
     let on : List ℕ → Type 0 = λ bytes. MayEnd (next bytes) (Some (after_fetch shelf)) answer after probes left in
     let end : Type 0 = (after ≡ Some (after_fetch shelf)) × (left.probes ≡ probes) × (left.log ≡ []) in

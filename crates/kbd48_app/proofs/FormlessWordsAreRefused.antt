@@ -1,17 +1,17 @@
 -- Words outside the forms, over any shelf.
 use Rattle.std.proofs.Common.{arith, ◌≡◌, ℕ, List, [], length, Some, None, Err, inl, inr, refl, ap, sym, ◌∙◌, ◌⊎◌}
 use Rattle.std.specs.declared.option.Option.{Option}
-use Rattle.story_run.specs.declared.ending.End.{End}
+use Rattle.run_loop.specs.declared.ending.End.{End}
 use Rattle.hexfile.specs.Hex.{hex_of}
 use Rattle.layout_reader.specs.Documents.{layout_of_document}
-use Rattle.board_probes.specs.Probes.{Watch}
+use Rattle.run_probes.specs.Probes.{Watch}
 use Rattle.io_edge.specs.Said.{Shown}
 use Rattle.io_edge.specs.Shelf.{Shelved, after_fetch}
 use Rattle.app_words.specs.declared.exit.Exit.{Exit}
 use Rattle.app_words.specs.declared.exit.Exit.TheVariants as exits
 use Rattle.app_words.specs.declared.refusal.Refusal.TheVariants.{Words}
 use Rattle.app_words.specs.declared.words.Command.{Command}
-use Rattle.app_words.specs.declared.words.Command.TheVariants.{OverFile, OverPair, Debug, Probe, Board, Feed, Sample, Capture}
+use Rattle.app_words.specs.declared.words.Command.TheVariants.{OverFile, OverPair, Debug, Probe, Board, Feed, Sample, Capture, Typed}
 use Rattle.app_words.specs.declared.words.PairCommand.TheVariants.{Certify, OverRun, Spell}
 use Rattle.app_words.specs.declared.words.FileCommand.{FileCommand}
 use Rattle.std.specs.Option.{option_map}
@@ -22,9 +22,9 @@ use Rattle.app_words.specs.declared.kind.Kind.{Kind}
 use Rattle.app_answers.specs.CertTexts.{cert_said}
 use Rattle.app_answers.specs.FileAnswers.{Answer, file_said}
 use Rattle.kbd48_app.specs.Plans.{Plan, Gives, Runs, Boards, Fetches, cert_next}
-use Rattle.kbd48_app.specs.Plans.{plan_of, debug_next, probe_next, text_next}
+use Rattle.kbd48_app.specs.Plans.{plan_of, debug_next, probe_next, text_next, typed_next}
 use Rattle.app_answers.specs.Says.{exit_said}
-use Rattle.app_words.specs.Words.{clock_in, command_of, data_in, fourth_in, name_in, second_in, third_in}
+use Rattle.app_words.specs.Words.{clock_in, command_of, data_in, fourth_in, name_in, second_in, third_in, typed_clock_in, typed_data_in}
 use Rattle.kbd48_app.proofs.CertExits.{cert_exits}
 use Rattle.app_answers.proofs.FileExits.{Exits, file_exits}
 use Rattle.kbd48_app.proofs.PlansEnd.{Ending, IsCut, board_exit, capture_exit, exit_by, fetch_ends, leads, leaf_ends}
@@ -33,10 +33,10 @@ use Rattle.app_words.specs.declared.refusal.Refusal.{Refusal}
 use Rattle.app_words.specs.Refusals.{exit_of}
 use Rattle.app_words.specs.declared.kind.Kind.TheVariants as kinds
 use Rattle.app_boards.specs.BoardTexts.{board_story}
-use Rattle.board_run.proofs.EndOf.{end_of}
-use Rattle.vcd_reader.specs.Reads.{reads_of}
-use Rattle.vcd_reader.specs.declared.fault.VcdFault.{VcdFault}
-use Rattle.typed_log.specs.Typing.{first_without}
+use Rattle.run_program.proofs.EndOf.{end_of}
+use Rattle.capture_vcd.specs.Reads.{reads_of}
+use Rattle.capture_vcd.specs.declared.fault.VcdFault.{VcdFault}
+use Rattle.law_typed_log.specs.Typing.{first_without}
 
 never_file : (command : FileCommand) (bytes : List ℕ) (said : Answer) → Exits command bytes said → exit_said said ≡ exits.Words → ⊥
 never_file command bytes said h is =
@@ -110,6 +110,10 @@ never_command (Probe fill) words =
     programs Together goes_on refused (probe_next fill (fourth_in words)) (probe_next fill (fourth_in words))
     (λ image history script n. never_by (script_fault n script)) (name_in words) (second_in words) (third_in words)
 never_command Capture words = λ bytes n. never_captured (reads_of (clock_in words) (data_in words) bytes).fault
+never_command Typed words =
+    let next = typed_next (typed_clock_in words) (typed_data_in words) (third_in words) in
+    λ bytes. layouts Together goes_on refused next next
+    (λ layout dump n. never_captured (reads_of (typed_clock_in words) (typed_data_in words) dump).fault) (layout_of_document bytes)
 
 only_none : (command : Option Command) (words : List (List ℕ)) (shelf after : Option Shelved) (answer : Answer) (probes : List Watch)
     (left : Left) → MayEndAs command words shelf answer after probes left → exit_said answer ≡ exits.Words → command ≡ None

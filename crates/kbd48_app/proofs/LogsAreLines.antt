@@ -2,19 +2,19 @@
 use Rattle.std.proofs.Common.{ℕ, List, None, Some, inl, inr, sym, subst}
 use Rattle.std.specs.Option.{option_map}
 use Rattle.std.specs.declared.option.Option.{Option}
-use Rattle.board_probes.specs.Probes.{Watch}
+use Rattle.run_probes.specs.Probes.{Watch}
 use Rattle.capture_lines.proofs.Ends.{text_lines}
 use Rattle.capture_lines.specs.Captures.{capture_text}
 use Rattle.io_edge.proofs.Pieces.{AreLines}
 use Rattle.io_edge.specs.Shelf.{Shelved, after_fetch}
-use Rattle.vcd_reader.specs.Reads.{reads_of}
-use Rattle.vcd_reader.specs.declared.fault.VcdFault.{VcdFault}
+use Rattle.capture_vcd.specs.Reads.{reads_of}
+use Rattle.capture_vcd.specs.declared.fault.VcdFault.{VcdFault}
 use Rattle.app_boards.specs.BoardTexts.{board_story}
 use Rattle.kbd48_app.specs.Answers.{MayAnswer, MayEnd}
 use Rattle.app_answers.specs.Captures.{IsCaptured}
 use Rattle.app_answers.specs.Leaving.{Left}
 use Rattle.app_answers.specs.FileAnswers.{Answer}
-use Rattle.kbd48_app.specs.Plans.{Plan, Gives, Certifies, Runs, Boards, Samples, Debugs, Captures, Fetches, plan, Spells}
+use Rattle.kbd48_app.specs.Plans.{Plan, Gives, Certifies, Runs, Boards, Samples, Debugs, Captures, Fetches, Follows, plan, Spells}
 use Rattle.app_words.specs.Words.{command_of}
 use Rattle.app_boards.proofs.BoardsAreSaid.{log_is_lines}
 use Rattle.kbd48_app.proofs.PlansEnd.{as_plan, fetch_ends}
@@ -43,6 +43,7 @@ lines_by (Captures clk dat dump) shelf answer after probes left h =
       | inr found ↦
           captured_lines (reads_of clk dat dump).fault (capture_text clk dat dump) answer left.log (text_lines clk dat dump) found
     ]
+lines_by (Follows layout clk dat dump) shelf answer after probes left h = inl h.1.2
 lines_by (Fetches kind name next) shelf answer after probes left h =
     elim (fetch_ends kind name next shelf answer after probes left h) [
       | inl cut ↦ inl cut.1.2

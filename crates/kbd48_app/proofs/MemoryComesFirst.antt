@@ -3,27 +3,28 @@
 use Rattle.std.proofs.Common.{◌≡◌, ℕ, true, List, [], ◌++◌, None, Some, Err, inl, inr, sym, subst, ◌∙◌}
 use Rattle.std.specs.Option.{option_map}
 use Rattle.std.specs.declared.option.Option.{Option}
-use Rattle.board_run.specs.BoardOutcomes.{Outcome}
-use Rattle.story_run.specs.declared.ending.End.{End}
-use Rattle.story_run.specs.declared.ending.End.TheVariants.{Over, Stuck}
-use Rattle.board_probes.specs.Probes.{Watch}
+use Rattle.run_program.specs.BoardOutcomes.{Outcome}
+use Rattle.run_loop.specs.declared.ending.End.{End}
+use Rattle.run_loop.specs.declared.ending.End.TheVariants.{Over, Stuck}
+use Rattle.run_probes.specs.Probes.{Watch}
 use Rattle.io_edge.specs.Said.{Shown, TakesAll}
 use Rattle.io_edge.specs.Shelf.{Shelved, after_fetch}
 use Rattle.key_file.specs.Histories.{KeyHistory}
+use Rattle.layout_reader.specs.Documents.{layout_of_document}
 use Rattle.layout_reader.specs.Layouts.{KeyLayout}
 use Rattle.app_words.specs.declared.exit.Exit.{Exit}
 use Rattle.app_words.specs.declared.exit.Exit.TheVariants as exits
 use Rattle.app_words.specs.declared.kind.Kind.{Kind}
-use Rattle.app_words.specs.declared.kind.Kind.TheVariants.{Vcd}
+use Rattle.app_words.specs.declared.kind.Kind.TheVariants.{Vcd, Layout as LayoutFile}
 use Rattle.capture_lines.specs.Captures.{capture_text}
-use Rattle.vcd_reader.specs.Reads.{reads_of}
-use Rattle.vcd_reader.specs.declared.fault.VcdFault.{VcdFault}
+use Rattle.capture_vcd.specs.Reads.{reads_of}
+use Rattle.capture_vcd.specs.declared.fault.VcdFault.{VcdFault}
 use Rattle.app_answers.specs.Captures.{IsCaptured}
 use Rattle.app_words.specs.declared.refusal.Refusal.TheVariants.{Memory}
 use Rattle.app_words.specs.declared.words.BoardCommand.{BoardCommand}
 use Rattle.app_words.specs.declared.words.BoardRun.{BoardRun}
 use Rattle.app_words.specs.declared.words.Command.{Command}
-use Rattle.app_words.specs.declared.words.Command.TheVariants.{OverPair, Board, Sample, Capture}
+use Rattle.app_words.specs.declared.words.Command.TheVariants.{OverPair, Board, Sample, Capture, Typed}
 use Rattle.app_words.specs.declared.words.PairCommand.TheVariants.{OverRun}
 use Rattle.app_words.specs.declared.words.RunCommand.{RunCommand}
 use Rattle.app_words.specs.declared.words.RunCommand.TheVariants.{Log, Expect, Trace}
@@ -31,15 +32,15 @@ use Rattle.kbd48_app.specs.Answers.{MayEnd}
 use Rattle.app_answers.specs.Leaving.{Left}
 use Rattle.app_boards.specs.BoardTexts.{board_said}
 use Rattle.app_answers.specs.FileAnswers.{Answer}
-use Rattle.kbd48_app.specs.Plans.{Plan, Boards, Captures, Fetches, Gives, Runs, Samples, plan_of}
+use Rattle.kbd48_app.specs.Plans.{Plan, Boards, Captures, Fetches, Follows, Gives, Runs, Samples, plan_of, typed_next, with_layout}
 use Rattle.app_runs.specs.RunTexts.{AreLeftWithoutMemory}
 use Rattle.app_words.specs.Refusals.{line_of}
 use Rattle.app_answers.specs.Says.{text_said}
-use Rattle.app_words.specs.Words.{clock_in, command_of, data_in, name_in, second_in, takes_memory_first, third_in}
+use Rattle.app_words.specs.Words.{clock_in, command_of, data_in, name_in, second_in, takes_memory_first, third_in, typed_clock_in, typed_data_in}
 use Rattle.kbd48_app.proofs.AnswersEndCalls.{memory_said}
 use Rattle.kbd48_app.proofs.OneText.{no_refusal}
 use Rattle.kbd48_app.proofs.PlansEnd.{Ending, as_plan, fetch_ends}
-use Rattle.kbd48_app.proofs.PlansTogether.{histories, programs}
+use Rattle.kbd48_app.proofs.PlansTogether.{histories, layouts, programs}
 use Rattle.app_words.specs.declared.refusal.Refusal.{Refusal}
 use Rattle.app_answers.specs.Taking.{taking_of}
 
@@ -67,7 +68,7 @@ left_first : (command : RunCommand) (layout : KeyLayout) (history : KeyHistory) 
     → takes_memory_first (Some (OverPair (OverRun command))) ≡ true → AreLeftWithoutMemory command layout history probes left → left ≡ probes
 left_first (Log ticks steps) layout history probes left first h = h
 left_first Expect layout history probes left first h = absurd cc
-left_first Trace layout history probes left first h = h
+left_first (Trace seen) layout history probes left first h = h
 
 run_keeps : (command : RunCommand) → takes_memory_first (Some (OverPair (OverRun command))) ≡ true
     → (layout : KeyLayout) (history : KeyHistory) → KeepsFirst (Runs command layout history)
@@ -103,6 +104,11 @@ capture_keeps clk dat dump shelf answer after probes left h is =
       | inr found ↦ absurd (found_not_memory (reads_of clk dat dump).fault (capture_text clk dat dump) answer left.log found is)
     ]
 
+-- what was typed in a dump: nothing is said before the answer
+typed_keeps : (clk dat name : List ℕ) (layout : KeyLayout) → KeepsFirst (typed_next clk dat name layout)
+typed_keeps clk dat name layout =
+    fetch_keeps Vcd name (Follows layout clk dat) (λ dump shelf answer after probes left h is. (h.1.1, h.1.2))
+
 keeps_as : (command : Option Command) (words : List (List ℕ)) → takes_memory_first command ≡ true → KeepsFirst (plan_of command words)
 keeps_as (Some (Sample count)) words first = sample_keeps count
 keeps_as (Some (OverPair (OverRun command))) words first =
@@ -113,6 +119,11 @@ keeps_as (Some (Board wanted)) words first =
     (Boards wanted) (Boards wanted) (board_keeps wanted) (name_in words) (second_in words) (third_in words)
 keeps_as (Some Capture) words first =
     fetch_keeps Vcd (name_in words) (Captures (clock_in words) (data_in words)) (capture_keeps (clock_in words) (data_in words))
+keeps_as (Some Typed) words first =
+    let next = typed_next (typed_clock_in words) (typed_data_in words) (third_in words) in
+    fetch_keeps LayoutFile (second_in words) (λ bytes. with_layout next (layout_of_document bytes))
+    (λ bytes. layouts (λ p q. KeepsFirst p) (λ kind name other more. fetch_keeps kind name other) (λ refusal other. refused_keeps refusal)
+    next next (typed_keeps (typed_clock_in words) (typed_data_in words) (third_in words)) (layout_of_document bytes))
 keeps_as command words first = absurd cc
 
 -- a command that takes its memory first, and runs out of it, has looked at nothing and said nothing but that

@@ -2,7 +2,7 @@
 -- history they say one.
 use Rattle.std.proofs.Common.{◌≡◌, ◌⊎◌, ℕ, List, [], Some, Ok, Err, inl, inr, subst}
 use Rattle.std.specs.declared.option.Option.{Option}
-use Rattle.board_probes.specs.Probes.{Watch}
+use Rattle.run_probes.specs.Probes.{Watch}
 use Rattle.io_edge.specs.Shelf.{Shelved, Fetched, Fails, Long, Found, after_fetch, fetched}
 use Rattle.key_file.specs.Histories.{KeyHistory}
 use Rattle.layout_reader.specs.Layouts.{KeyLayout}

@@ -2,9 +2,9 @@
 use Rattle.std.proofs.Common.{◌≡◌, ◌⊎◌, ℕ, List, [], ◌∷◌, None, Some, Ok, Err, inl, inr, refl, ap, sym, ◌∙◌, arith}
 use Rattle.std.specs.declared.option.Option.{Option}
 use Rattle.std.specs.declared.result.Result.{Result}
-use Rattle.board_run.proofs.EndOf.{end_found, end_of, outcome_of}
-use Rattle.story_run.specs.declared.ending.End.{End}
-use Rattle.story_run.specs.declared.ending.End.TheVariants.{Over, Stuck}
+use Rattle.run_program.proofs.EndOf.{end_found, end_of, outcome_of}
+use Rattle.run_loop.specs.declared.ending.End.{End}
+use Rattle.run_loop.specs.declared.ending.End.TheVariants.{Over, Stuck}
 use Rattle.debugger.specs.Sessions.{Debuggee, of_layout, of_program, with_fill}
 use Rattle.fw_compile.specs.Image.{image_of}
 use Rattle.joint_feed.specs.Stories.{story}
@@ -17,21 +17,21 @@ use Rattle.key_file.specs.declared.fault.KeyFault.{KeyFault}
 use Rattle.layout_reader.specs.Documents.{layout_of_document}
 use Rattle.layout_reader.specs.Faults.{Refusal as LayoutRefusal}
 use Rattle.layout_reader.specs.Layouts.{KeyLayout}
-use Rattle.typed_log.specs.Typing.{first_without}
-use Rattle.vcd_reader.specs.Reads.{reads_of}
-use Rattle.vcd_reader.specs.declared.fault.VcdFault.{VcdFault}
+use Rattle.law_typed_log.specs.Typing.{first_without}
+use Rattle.capture_vcd.specs.Reads.{reads_of}
+use Rattle.capture_vcd.specs.declared.fault.VcdFault.{VcdFault}
 use Rattle.app_words.specs.declared.exit.Exit.TheVariants as exits
 use Rattle.app_words.specs.declared.kind.Kind.TheVariants as kinds
 use Rattle.app_words.specs.declared.words.BoardRun.{BoardRun}
 use Rattle.app_words.specs.declared.words.Command.{Command}
-use Rattle.app_words.specs.declared.words.Command.TheVariants.{OverFile, OverPair, Debug, Probe, Board, Feed, Sample, Capture}
+use Rattle.app_words.specs.declared.words.Command.TheVariants.{OverFile, OverPair, Debug, Probe, Board, Feed, Sample, Capture, Typed}
 use Rattle.app_words.specs.declared.words.FileCommand.{FileCommand}
 use Rattle.app_words.specs.declared.words.FileCommand.TheVariants.{Step}
 use Rattle.app_words.specs.declared.words.PairCommand.TheVariants.{Certify, Spell, OverRun}
 use Rattle.app_words.specs.declared.words.RunCommand.{RunCommand}
 use Rattle.app_words.specs.Kinds.{kind_of}
 use Rattle.app_words.specs.Refusals.{exit_of}
-use Rattle.app_words.specs.Words.{clock_in, data_in, fourth_in, name_in, second_in, third_in}
+use Rattle.app_words.specs.Words.{clock_in, data_in, fourth_in, name_in, second_in, third_in, typed_clock_in, typed_data_in}
 use Rattle.app_answers.specs.CertTexts.{cert_said}
 use Rattle.app_answers.specs.FileAnswers.{file_said, keys_refusal}
 use Rattle.app_answers.specs.Says.{exit_said}
@@ -39,9 +39,9 @@ use Rattle.app_answers.proofs.FileExits.{asm_answered, file_exits, hex_answered,
 use Rattle.app_boards.specs.BoardTexts.{board_story}
 use Rattle.app_boards.specs.Debugging.{script_fault}
 use Rattle.kbd48_app.specs.Causes.{Fault, InHex, InAsm, InLayout, InCert, InKeys, InScript, InText, BoardStops, IsFault, exit_at}
-use Rattle.kbd48_app.specs.Plans.{Plan, Boards, Captures, Certifies, Debugs, Fetches, Gives, Runs, Samples, Spells, cert_next, debug_next, debug_plan}
+use Rattle.kbd48_app.specs.Plans.{Plan, Boards, Captures, Certifies, Debugs, Fetches, Follows, Gives, Runs, Samples, Spells, cert_next, debug_next, debug_plan}
 use Rattle.kbd48_app.specs.Plans.{history_plan, keys_next, pair_plan, probe_plan}
-use Rattle.kbd48_app.specs.Plans.{plan_of, probe_next, program_next, program_plan, script_next, text_next, with_history, with_image, with_layout}
+use Rattle.kbd48_app.specs.Plans.{plan_of, probe_next, program_next, program_plan, script_next, text_next, typed_next, with_history, with_image, with_layout}
 use Rattle.app_words.specs.declared.kind.Kind.{Kind}
 use Rattle.kbd48_app.specs.Reached.{Reads}
 use Rattle.kbd48_app.proofs.CertExits.{cert_exits}
@@ -406,6 +406,34 @@ module _ (n : ℕ) (plan : Plan) (shelf : Shelved) (clk dat dump : List ℕ) whe
             (stop_on (Some Capture) (λ kind file. Reads kind file plan shelf) (In ((kinds.Vcd, dump) ∷ [])) all h))),
       )
 
+-- `capture --keys`: a dump is read after a layout, and neither has a fault of the other files
+typed_clean : (n : ℕ) (document dump : List ℕ) (layout : KeyLayout) → layout_of_document document ≡ Ok layout → (fault : Fault)
+    → IsFault n fault (In ((kinds.Vcd, dump) ∷ (kinds.Layout, document) ∷ [])) → ⊥
+typed_clean n document dump layout has fault h = grind arith
+
+module _ (n : ℕ) (plan : Plan) (shelf : Shelved) (clk dat document dump : List ℕ) (layout : KeyLayout)
+    (has : layout_of_document document ≡ Ok layout) where
+  abbrev BothRead : Files
+  BothRead = (kinds.Vcd, dump) ∷ (kinds.Layout, document) ∷ []
+
+  typed_judged : (after : Shelved) (first : Option VcdFault) → (reads_of clk dat dump).fault ≡ first
+      → IsReached n (Some Typed) plan shelf BothRead (Follows layout clk dat dump) after
+      → IsCaused n (Some Typed) plan shelf (capture_exit first)
+  typed_judged after None is at = tt
+  typed_judged after (Some fault) is at = inr (inr (at.4 (fault, is)))
+
+  typed_right : (after : Shelved) → IsReached n (Some Typed) plan shelf BothRead (Follows layout clk dat dump) after
+      → IsRight n (Some Typed) plan shelf (capture_exit (reads_of clk dat dump).fault)
+  typed_right after at =
+      let all : (kind : Kind) (file : List ℕ) → Reads kind file plan shelf → In BothRead kind file =
+      λ kind file h. elim (at.0 kind file h) [ inl old ↦ old | inr none ↦ absurd none ] in (
+        typed_judged after (reads_of clk dat dump).fault refl at,
+        (λ fault h. absurd (typed_clean n document dump layout has fault
+            (fault_on n (λ kind file. Reads kind file plan shelf) (In BothRead) all fault h))),
+        (λ h. absurd (never Typed (λ count e. cc) (λ wanted e. cc) BothRead
+            (stop_on (Some Typed) (λ kind file. Reads kind file plan shelf) (In BothRead) all h))),
+      )
+
 -- the plan of each command
 pub right : (n : ℕ) (command : Option Command) (words : List (List ℕ)) (shelf : Shelved)
     → IsRight n command (plan_of command words) shelf (leads n (plan_of command words) shelf)
@@ -450,3 +478,14 @@ right n (Some Capture) words shelf =
     fetched_right n (Some Capture) plan shelf kinds.Vcd (name_in words) (Captures (clock_in words) (data_in words)) [] shelf
     (none_faulty n, none_stops (Some Capture)) (λ dump. dump_right n plan shelf (clock_in words) (data_in words) dump (after_fetch shelf))
     (start n (Some Capture) plan shelf)
+right n (Some Typed) words shelf =
+    let plan = plan_of (Some Typed) words in
+    let clk = typed_clock_in words in
+    let dat = typed_data_in words in
+    let none : IsNever Typed = never Typed (λ count e. cc) (λ wanted e. cc) in
+    layout_right n (Some Typed) plan shelf (last n (Some Typed) plan shelf none) [] (inl refl) (typed_next clk dat (third_in words))
+    (λ document layout has after.
+    fetched_right n (Some Typed) plan shelf kinds.Vcd (third_in words) (Follows layout clk dat) ((kinds.Layout, document) ∷ []) after
+    (layout_clean n [] document layout (inl refl) has, none ((kinds.Layout, document) ∷ []))
+    (λ dump. typed_right n plan shelf clk dat document dump layout has (after_fetch after))) (second_in words)
+    shelf (start n (Some Typed) plan shelf)

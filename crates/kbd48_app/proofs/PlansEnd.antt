@@ -2,18 +2,18 @@
 use Rattle.std.proofs.Common.{◌≡◌, ℕ, Bool, true, false, List, [], length, Some, None, Err, inl, inr, refl, ap, subst, sym, ◌∙◌, ◌⊎◌}
 use Rattle.std.specs.Option.{option_map}
 use Rattle.std.specs.declared.option.Option.{Option}
-use Rattle.board_run.proofs.EndOf.{end_found, end_of}
-use Rattle.board_run.specs.BoardOutcomes.{Outcome}
-use Rattle.story_run.specs.declared.ending.End.{End}
-use Rattle.story_run.specs.declared.ending.End.TheVariants.{Over, Stuck}
-use Rattle.board_probes.specs.Probes.{Watch}
+use Rattle.run_program.proofs.EndOf.{end_found, end_of}
+use Rattle.run_program.specs.BoardOutcomes.{Outcome}
+use Rattle.run_loop.specs.declared.ending.End.{End}
+use Rattle.run_loop.specs.declared.ending.End.TheVariants.{Over, Stuck}
+use Rattle.run_probes.specs.Probes.{Watch}
 use Rattle.debugger.specs.Sessions.{Debuggee}
 use Rattle.io_edge.specs.Said.{Shown}
 use Rattle.layout_reader.specs.Layouts.{KeyLayout}
 use Rattle.capture_lines.specs.Captures.{capture_text}
-use Rattle.vcd_reader.specs.Reads.{reads_of}
-use Rattle.vcd_reader.specs.declared.fault.VcdFault.{VcdFault}
-use Rattle.typed_log.specs.Typing.{first_without}
+use Rattle.capture_vcd.specs.Reads.{reads_of}
+use Rattle.capture_vcd.specs.declared.fault.VcdFault.{VcdFault}
+use Rattle.law_typed_log.specs.Typing.{first_without}
 use Rattle.io_edge.specs.Shelf.{Shelved, Fetched, Fails, Long, Found, after_fetch, fetched}
 use Rattle.app_words.specs.declared.exit.Exit.{Exit}
 use Rattle.app_words.specs.declared.exit.Exit.TheVariants as exits
@@ -26,12 +26,12 @@ use Rattle.app_answers.specs.Answers.{MayAnswerOf, MayAnswerText}
 use Rattle.app_boards.specs.SessionAnswers.{MayAnswerSession}
 use Rattle.app_answers.specs.Leaving.{Left}
 use Rattle.app_boards.specs.BoardTexts.{board_said, board_story}
-use Rattle.app_answers.specs.Captures.{IsCaptured}
+use Rattle.app_answers.specs.Captures.{IsCaptured, MayAnswerTyped}
 use Rattle.app_answers.specs.CertTexts.{cert_said}
 use Rattle.app_boards.specs.Debugging.{script_fault}
 use Rattle.app_words.specs.Kinds.{limit_of}
 use Rattle.app_answers.specs.FileAnswers.{Answer}
-use Rattle.kbd48_app.specs.Plans.{Plan, Gives, Certifies, Runs, Boards, Samples, Debugs, Captures, Fetches, plan, plan_of, Spells}
+use Rattle.kbd48_app.specs.Plans.{Plan, Gives, Certifies, Runs, Boards, Samples, Debugs, Captures, Fetches, Follows, plan, plan_of, Spells}
 use Rattle.kbd48_app.specs.Reached.{on_fetched, may_lack}
 use Rattle.app_answers.specs.Says.{Says, exit_said}
 use Rattle.app_answers.specs.Taking.{taking_of}
@@ -72,6 +72,7 @@ leads n (Boards wanted image history) shelf = board_exit (end_of (board_story wa
 leads n (Samples count) shelf = exits.Done
 leads n (Debugs s script) shelf = exit_by (script_fault n script)
 leads n (Captures clk dat dump) shelf = capture_exit (reads_of clk dat dump).fault
+leads n (Follows layout clk dat dump) shelf = capture_exit (reads_of clk dat dump).fault
 leads n (Fetches kind name next) shelf =
     on_fetched exits.Read exits.Input (λ bytes. leads n (next bytes) (after_fetch shelf)) (fetched shelf name (limit_of kind))
 
@@ -136,6 +137,17 @@ text_led layout text answer h =
       ]
     ]
 
+typed_led : (layout : KeyLayout) (clk dat dump : List ℕ) (answer : Answer)
+    → MayAnswerTyped layout clk dat dump answer → IsLed (capture_exit (reads_of clk dat dump).fault) true answer
+typed_led layout clk dat dump answer h =
+    elim h [
+      | inl memory ↦ inr (memory, refl)
+      | inr more ↦ elim more [
+        | inl fault ↦ inl (ap exit_said fault.2 ∙ sym (ap capture_exit fault.1))
+        | inr typed ↦ inl (ap exit_said typed.2 ∙ sym (ap capture_exit typed.1.faultless))
+      ]
+    ]
+
 abbrev pub IsLeaf : Plan → Type 0
 IsLeaf (Fetches kind name next) = ⊥
 IsLeaf leaf = Unit {0}
@@ -165,6 +177,7 @@ leaf_ends (Captures clk dat dump) some shelf answer after probes left leaf h =
       | inl memory ↦ inr (memory.0, refl)
       | inr found ↦ inl (capture_led (reads_of clk dat dump).fault (capture_text clk dat dump) answer left.log found)
     ]
+leaf_ends (Follows layout clk dat dump) some shelf answer after probes left leaf h = typed_led layout clk dat dump answer h.0
 
 -- over a shelf whose files are known a plan's answer has the exit to which the plan leads, or memory ran out
 pub ends_so : (p : Plan) (shelf : Shelved) (answer : Answer) (after : Option Shelved) (probes : List Watch) (left : Left)

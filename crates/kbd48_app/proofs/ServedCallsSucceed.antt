@@ -2,11 +2,11 @@
 use Rattle.std.proofs.Common.{◌≡◌, ℕ, ◌-◌, ◌^◌, ◌<◌, Bool, true, false, List, ◌++◌, length, Some, None}
 use Rattle.std.proofs.Common.{IfSome, ap, sym, ◌∙◌, subst, inl, inr, refl, arith, ◌⊎◌}
 use Rattle.std.specs.declared.option.Option.{Option}
-use Rattle.board_run.proofs.EndOf.{end_of}
-use Rattle.story_run.specs.declared.ending.End.{End}
+use Rattle.run_program.proofs.EndOf.{end_of}
+use Rattle.run_loop.specs.declared.ending.End.{End}
 use Rattle.cycle_cert.specs.Answers.{answer_of as certificate_said}
 use Rattle.cycle_cert.specs.Faults.{number_of}
-use Rattle.board_probes.specs.Probes.{Watch}
+use Rattle.run_probes.specs.Probes.{Watch}
 use Rattle.app_boards.specs.BoardTexts.{board_story}
 use Rattle.io_edge.specs.Faults.{Rose}
 use Rattle.io_edge.specs.MemorySink.{HeldBytes}
@@ -23,7 +23,7 @@ use Rattle.app_answers.specs.Leaving.{Left}
 use Rattle.kbd48_app.specs.Causes.{IsStuck}
 use Rattle.kbd48_app.specs.Complete.{IsFaultless, IsLeft, IsNoFault, IsServed}
 use Rattle.app_answers.specs.FileAnswers.{Answer}
-use Rattle.kbd48_app.specs.Plans.{Plan, Gives, Certifies, Spells, Runs, Boards, Samples, Debugs, Captures, Fetches, plan_of}
+use Rattle.kbd48_app.specs.Plans.{Plan, Gives, Certifies, Spells, Runs, Boards, Samples, Debugs, Captures, Fetches, Follows, plan_of}
 use Rattle.kbd48_app.specs.Reached.{on_fetched}
 use Rattle.app_answers.specs.Says.{Says, exit_said, text_said}
 use Rattle.app_words.specs.Words.{command_of}
@@ -55,6 +55,7 @@ served_past n (Boards wanted image history) shelf h = board_past (end_of (board_
 served_past n (Samples count) shelf h = inl refl
 served_past n (Debugs s script) shelf h = inl (ap exit_by h)
 served_past n (Captures clk dat dump) shelf h = inl (ap capture_exit h)
+served_past n (Follows layout clk dat dump) shelf h = inl (ap capture_exit h)
 
 -- the end and want of memory are always left
 done_left : (command : Option Command) → IsLeft command exits.Done

@@ -72,3 +72,11 @@ named_4 words plan a b c d first second third fourth more at_a at_b at_c at_d is
     named_3 words (λ name other next. plan name other next fourth) a b c first second third (omega (arith, more)) at_a at_b at_c is_a is_b is_c
     ∙ ap (plan (name_in (map string_bytes words)) (second_in (map string_bytes words)) (third_in (map string_bytes words)))
     (is_d ∙ fourth_name words d more at_d)
+
+-- after an option, the third and the fourth word of a call are the names of a plan's two files
+pub named_after : (words : List (String Global)) (plan : List ℕ → List ℕ → Plan) (b c : String Global) (second third : List ℕ)
+    → 3 < length words → b ≡ slice_index_or words 2 b → c ≡ slice_index_or words 3 c → second ≡ string_bytes b → third ≡ string_bytes c
+    → plan second third ≡ plan (second_in (map string_bytes words)) (third_in (map string_bytes words))
+named_after words plan b c second third more at_b at_c is_b is_c =
+    ap (λ name. plan name third) (is_b ∙ second_name words b (omega (arith, more)) at_b)
+    ∙ ap (plan (second_in (map string_bytes words))) (is_c ∙ third_name words c more at_c)

@@ -3,16 +3,16 @@
 use Rattle.std.specs.Prelude.{◌≡◌, ◌⊎◌, ℕ, List, [], None, Some, Err}
 use Rattle.std.specs.Option.{option_map}
 use Rattle.std.specs.declared.option.Option.{Option}
-use Rattle.board_probes.specs.Probes.{Watch}
+use Rattle.run_probes.specs.Probes.{Watch}
 use Rattle.io_edge.specs.Shelf.{Shelved, Fetched, Fails, Long, Found, after_fetch}
 use Rattle.app_words.specs.declared.refusal.Refusal.TheVariants.{Words, Read, TooLong, Memory}
 use Rattle.app_words.specs.declared.words.Command.{Command}
 use Rattle.app_words.specs.Kinds.{limit_of}
 use Rattle.app_answers.specs.FileAnswers.{Answer}
-use Rattle.kbd48_app.specs.Plans.{Plan, plan_of, Gives, Certifies, Spells, Runs, Boards, Samples, Debugs, Captures, Fetches}
+use Rattle.kbd48_app.specs.Plans.{Plan, plan_of, Gives, Certifies, Spells, Runs, Boards, Samples, Debugs, Captures, Follows, Fetches}
 use Rattle.app_words.specs.Words.{command_of}
 use Rattle.app_answers.specs.Answers.{MayAnswerCert, MayAnswerOf, MayAnswerText}
-use Rattle.app_answers.specs.Captures.{MayAnswerCapture}
+use Rattle.app_answers.specs.Captures.{MayAnswerCapture, MayAnswerTyped}
 use Rattle.app_answers.specs.Fetching.{MayFetch}
 use Rattle.app_answers.specs.Leaving.{Left}
 use Rattle.app_boards.specs.BoardAnswers.{MayAnswerBoard}
@@ -48,6 +48,8 @@ MayEnd (Debugs s script) shelf answer after probes left =
     MayAnswerDebug s script answer probes left × (after ≡ shelf) × (left.log ≡ [])
 MayEnd (Captures clk dat dump) shelf answer after probes left =
     MayAnswerCapture clk dat dump answer left.log × (after ≡ shelf) × (left.probes ≡ probes)
+MayEnd (Follows layout clk dat dump) shelf answer after probes left =
+    MayAnswerTyped layout clk dat dump answer × IsKept shelf after probes left
 MayEnd (Fetches kind name next) shelf answer after probes left =
     let on = option_map after_fetch shelf in
     (outcome : Fetched) × MayFetch shelf name (limit_of kind) outcome

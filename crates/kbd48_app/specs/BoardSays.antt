@@ -1,10 +1,10 @@
 -- `board`, of the image that `compile` makes of a layout, beside `run` and `trace` of the layout.
-use Rattle.std.specs.Prelude.{◌≡◌, ◌⊎◌, ℕ, false, List, [], ◌++◌, Ok, Err}
-use Rattle.runs_agree.specs.Boards.{SaysRun}
-use Rattle.board_run.specs.BoardOutcomes as board
-use Rattle.board_run.specs.Texts.{log_text as stamped_text}
+use Rattle.std.specs.Prelude.{◌≡◌, ◌⊎◌, ℕ, Bool, false, List, [], ◌++◌, Ok, Err}
+use Rattle.law_runs_agree.specs.Boards.{SaysRun}
+use Rattle.run_program.specs.BoardOutcomes as board
+use Rattle.run_program.specs.Texts.{log_text as stamped_text}
 use Rattle.fw_compile.specs.Image.{image_of}
-use Rattle.board_probes.specs.Probes.{Watch}
+use Rattle.run_probes.specs.Probes.{Watch}
 use Rattle.joint_feed.specs.Stories.{Story, story}
 use Rattle.key_file.specs.Accepted.{IsAcceptedFor}
 use Rattle.key_file.specs.Histories.{KeyHistory}
@@ -39,10 +39,10 @@ BoardSaysRun = (of : KeyLayout) (history : KeyHistory) (text : List ℕ) (answer
     → (answer ≡ Err Memory)
     ⊎ ((answer ≡ Ok []) × SaysText (story (image_of of) history) text kept.log)
 
--- and the text of `trace` begins with that of `board --trace`
+-- and the text of `trace` begins with that of `board --trace`, and that of `trace --seen` with that of `board --seen`
 abbrev pub BoardTracesRun : Type 0
-BoardTracesRun = (of : KeyLayout) (history : KeyHistory) (text : List ℕ) (answer : Answer) (probes others : List Watch)
+BoardTracesRun = (seen : Bool) (of : KeyLayout) (history : KeyHistory) (text : List ℕ) (answer : Answer) (probes others : List Watch)
     (left kept : Left) → IsKeyLayout of → IsAcceptedFor of history
-    → MayAnswerRun Trace of history (Ok text) probes left
-    → MayAnswerBoard (on_board board_commands.Trace 0) (image_of of) history answer others kept
+    → MayAnswerRun (Trace seen) of history (Ok text) probes left
+    → MayAnswerBoard (on_board (board_commands.Trace seen) 0) (image_of of) history answer others kept
     → (answer ≡ Err Memory) ⊎ ((answer ≡ Ok []) × (more : List ℕ) × (text ≡ kept.log ++ more))

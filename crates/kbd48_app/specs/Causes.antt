@@ -1,15 +1,15 @@
 -- What causes each exit, of a shelf whose files are known: one definition a cause.
 use Rattle.std.specs.Prelude.{◌≡◌, ◌⊎◌, ℕ, List, Some, Ok, Err}
 use Rattle.std.specs.declared.option.Option.{Option}
-use Rattle.board_run.specs.BoardOutcomes.{IsOutcome, Outcome}
-use Rattle.story_run.specs.declared.ending.End.TheVariants.{Stuck as BoardStuck}
+use Rattle.run_program.specs.BoardOutcomes.{IsOutcome, Outcome}
+use Rattle.run_loop.specs.declared.ending.End.TheVariants.{Stuck as BoardStuck}
 use Rattle.hexfile.specs.Hex.{hex_of}
 use Rattle.hexfile.specs.declared.fault.HexFault.{HexFault}
 use Rattle.mcs48_asm.specs.Assembly.{assembly_of}
 use Rattle.layout_reader.specs.Documents.{layout_of_document}
 use Rattle.layout_reader.specs.Faults.{Refusal as LayoutRefusal}
 use Rattle.layout_reader.specs.Layouts.{KeyLayout}
-use Rattle.typed_log.specs.Typing.{first_without}
+use Rattle.law_typed_log.specs.Typing.{first_without}
 use Rattle.key_file.specs.Histories.{KeyHistory}
 use Rattle.key_file.specs.KeyFile.{history_of}
 use Rattle.key_file.specs.declared.fault.KeyFault.{KeyFault}

@@ -4,8 +4,8 @@ use Rattle.std.specs.declared.option.Option.{Option}
 use Rattle.cycle_cert.specs.Answers.{answer_of as certificate_said}
 use Rattle.cycle_cert.specs.declared.checking.Proved.{Proved}
 use Rattle.io_edge.specs.Shelf.{Shelved, Found, after_fetch, fetched}
-use Rattle.vcd_reader.specs.Reads.{reads_of}
-use Rattle.typed_log.specs.Typing.{first_without}
+use Rattle.capture_vcd.specs.Reads.{reads_of}
+use Rattle.law_typed_log.specs.Typing.{first_without}
 use Rattle.app_words.specs.declared.exit.Exit.{Exit}
 use Rattle.app_words.specs.declared.exit.Exit.TheVariants.{Done, Memory, Stuck}
 use Rattle.app_words.specs.declared.refusal.Refusal.TheVariants.{Stuck as StuckAt}
@@ -15,7 +15,7 @@ use Rattle.app_words.specs.declared.words.FileCommand.TheVariants.{Step}
 use Rattle.app_boards.specs.Debugging.{script_fault}
 use Rattle.app_words.specs.Kinds.{limit_of}
 use Rattle.app_answers.specs.FileAnswers.{Answer}
-use Rattle.kbd48_app.specs.Plans.{Plan, Gives, Certifies, Spells, Debugs, Captures, Fetches, plan}
+use Rattle.kbd48_app.specs.Plans.{Plan, Gives, Certifies, Spells, Debugs, Captures, Follows, Fetches, plan}
 
 -- what is said is a text; or, in `step`, that a byte without an instruction was met, which is no fault of a file
 abbrev pub IsNoFault : Answer → Type 0
@@ -36,6 +36,7 @@ IsServed probes (Certifies image text) shelf = (proved : Proved) × (certificate
 IsServed probes (Spells layout text) shelf = first_without layout text ≡ None
 IsServed probes (Debugs s script) shelf = script_fault probes script ≡ None
 IsServed probes (Captures clk dat dump) shelf = (reads_of clk dat dump).fault ≡ None
+IsServed probes (Follows layout clk dat dump) shelf = (reads_of clk dat dump).fault ≡ None
 IsServed probes leaf shelf = Unit {0}
 
 -- the words have a form, and what they plan is served

@@ -17,20 +17,20 @@ use Rattle.app_words.specs.declared.kind.Kind.TheVariants as kinds
 use Rattle.app_words.specs.declared.refusal.Refusal.TheVariants.{Words, Hex, Layout}
 use Rattle.app_words.specs.declared.words.BoardRun.{BoardRun}
 use Rattle.app_words.specs.declared.words.Command.{Command}
-use Rattle.app_words.specs.declared.words.Command.TheVariants.{OverFile, OverPair, Debug, Probe, Board, Feed, Sample, Capture}
+use Rattle.app_words.specs.declared.words.Command.TheVariants.{OverFile, OverPair, Debug, Probe, Board, Feed, Sample, Capture, Typed}
 use Rattle.app_words.specs.declared.words.PairCommand.{PairCommand}
 use Rattle.app_words.specs.declared.words.PairCommand.TheVariants.{Certify, Spell, OverRun}
 use Rattle.app_words.specs.declared.words.RunCommand.{RunCommand}
 use Rattle.app_words.specs.Kinds.{kind_of}
 use Rattle.app_answers.specs.Feeding.{fed_text}
-use Rattle.app_words.specs.Words.{clock_in, command_of, data_in, name_in, second_in, third_in, fourth_in}
+use Rattle.app_words.specs.Words.{clock_in, command_of, data_in, name_in, second_in, third_in, fourth_in, typed_clock_in, typed_data_in}
 use Rattle.app_answers.specs.FileAnswers.{Answer, file_said, keys_refusal}
 
 -- a plan says something, or what is found of a certificate for an image, or with which keys of a layout a text is
 -- typed, or what a command says of the run of a layout under a history, or what is wanted of the run of an image on the
 -- board under a history, or what is counted in the run of so many strokes, or what a script says in a session over the
--- run of what is debugged, or what is found in a dump with these names of the clock and of the data wire, or it fetches
--- the file of this kind and name, and goes on with the file's bytes
+-- run of what is debugged, or what is found in a dump with these names of the clock and of the data wire, or what was
+-- typed in it on a layout, or it fetches the file of this kind and name, and goes on with the file's bytes
 pub data Plan : Type 0 where
   Gives : Answer → Plan
   Certifies : List ℕ → List ℕ → Plan
@@ -40,6 +40,7 @@ pub data Plan : Type 0 where
   Samples : ℕ → Plan
   Debugs : Debuggee → List ℕ → Plan
   Captures : List ℕ → List ℕ → List ℕ → Plan
+  Follows : KeyLayout → List ℕ → List ℕ → List ℕ → Plan
   Fetches : Kind → List ℕ → (List ℕ → Plan) → Plan
 
 -- what is fetched for the image of a HEX file, or the file's first fault
@@ -105,6 +106,14 @@ probe_plan fill first second third fourth = program_plan (probe_next fill fourth
 abbrev pub capture_plan : List ℕ → List ℕ → List ℕ → Plan
 capture_plan clk dat name = Fetches kinds.Vcd name (Captures clk dat)
 
+-- `capture --keys`: the layout comes first, and then the dump
+abbrev pub typed_next : List ℕ → List ℕ → List ℕ → KeyLayout → Plan
+typed_next clk dat name layout = Fetches kinds.Vcd name (Follows layout clk dat)
+
+abbrev pub typed_plan : List ℕ → List ℕ → List ℕ → List ℕ → Plan
+typed_plan clk dat first second =
+    Fetches kinds.Layout first (λ bytes. with_layout (typed_next clk dat second) (layout_of_document bytes))
+
 -- a command over two files, by their names
 abbrev pub pair_plan : PairCommand → List ℕ → List ℕ → Plan
 pair_plan Certify first second = Fetches kinds.Hex first (λ bytes. with_image (cert_next second) (hex_of bytes))
@@ -125,6 +134,7 @@ plan_of (Some Debug) words = debug_plan (name_in words) (second_in words) (third
 plan_of (Some (Probe fill)) words =
     probe_plan fill (name_in words) (second_in words) (third_in words) (fourth_in words)
 plan_of (Some Capture) words = capture_plan (clock_in words) (data_in words) (name_in words)
+plan_of (Some Typed) words = typed_plan (typed_clock_in words) (typed_data_in words) (second_in words) (third_in words)
 
 abbrev pub plan : List (List ℕ) → Plan
 plan words = plan_of (command_of words) words

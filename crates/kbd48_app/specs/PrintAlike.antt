@@ -1,7 +1,7 @@
 -- `run` and `expect` over the same two files.
 use Rattle.std.specs.Prelude.{◌≡◌, ◌⊎◌, ℕ, List, [], ◌∷◌, Some, Ok, Err, codes}
 use Rattle.std.specs.declared.option.Option.{Option}
-use Rattle.board_probes.specs.Probes.{Watch}
+use Rattle.run_probes.specs.Probes.{Watch}
 use Rattle.io_edge.specs.Shelf.{Shelved}
 use Rattle.app_answers.specs.Leaving.{Left}
 use Rattle.kbd48_app.specs.Answers.{MayAnswer}

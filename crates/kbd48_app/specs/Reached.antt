@@ -5,11 +5,11 @@ use Rattle.io_edge.specs.Shelf.{Shelved, Fetched, Fails, Long, Found, after_fetc
 use Rattle.app_words.specs.declared.exit.Exit.{Exit}
 use Rattle.app_words.specs.declared.exit.Exit.TheVariants.{Memory, Write}
 use Rattle.app_words.specs.declared.kind.Kind.{Kind}
-use Rattle.vcd_reader.specs.Reads.{reads_of}
-use Rattle.vcd_reader.specs.declared.fault.VcdFault.{VcdFault}
+use Rattle.capture_vcd.specs.Reads.{reads_of}
+use Rattle.capture_vcd.specs.declared.fault.VcdFault.{VcdFault}
 use Rattle.kbd48_app.specs.Answers.{OnFetched}
 use Rattle.app_words.specs.Kinds.{limit_of}
-use Rattle.kbd48_app.specs.Plans.{Plan, Captures, Fetches}
+use Rattle.kbd48_app.specs.Plans.{Plan, Captures, Fetches, Follows}
 
 -- a value for each thing that a fetch may come to
 abbrev pub on_fetched : {A : Type 0} → A → A → (List ℕ → A) → Fetched → A
@@ -36,6 +36,7 @@ abbrev pub HasDumpFault : Plan → Shelved → Type 0
 HasDumpFault (Fetches kind name next) shelf =
     OnFetched ⊥ ⊥ (λ bytes. HasDumpFault (next bytes) (after_fetch shelf)) (fetched shelf name (limit_of kind))
 HasDumpFault (Captures clk dat dump) shelf = (fault : VcdFault) × ((reads_of clk dat dump).fault ≡ Some fault)
+HasDumpFault (Follows layout clk dat dump) shelf = (fault : VcdFault) × ((reads_of clk dat dump).fault ≡ Some fault)
 HasDumpFault leaf shelf = ⊥
 
 -- a file of this kind is reached, and has these bytes

@@ -9,12 +9,12 @@ ghost use Rattle.app_answers.specs.Taking.{Taking};
 ghost use Rattle.app_runs.specs.RunOfText.{MaySayOfText};
 ghost use Rattle.app_words.specs.Kinds.{limit_of, kind_of};
 ghost use Rattle.app_words.specs.Words.{command_of, leaves_probes};
-ghost use Rattle.board_probes.specs.Probes.{Watch};
+ghost use Rattle.run_probes.specs.Probes.{Watch};
 ghost use Rattle.kbd48_app.specs.Answers.{MayAnswer, MayEnd};
 ghost use Rattle.kbd48_app.specs.Plans.{Gives, Fetches, pair_plan};
 
 use crate::boarding::over_board;
-use crate::capturing::over_capture;
+use crate::capturing::{over_capture, over_typed};
 use crate::debugging::{over_debug, over_probe};
 use app_answers::{
     Spoken, carry_out, certify, feed, fetch_file, image_in, layout_in, spell, to_say,
@@ -22,10 +22,11 @@ use app_answers::{
 use app_runs::{sample, say_run};
 use app_words::{
     Command, FileCommand, Kind, PairCommand, Refusal, RunCommand, clock_in, data_in, read_command,
+    typed_clock_in, typed_data_in,
 };
-use board_probes::Probe;
 use io_edge::{Shelf, Sink};
 use layout_reader::Layout;
+use run_probes::Probe;
 use std::alloc::Global;
 
 /// Fetches the file of a command, and carries the command out.
@@ -180,5 +181,13 @@ pub fn answer<F: Shelf, K: Sink>(
             shelf,
             out,
         ),
+        Some(Command::Typed) => to_say(over_typed(
+            alloc,
+            &words[2],
+            &words[3],
+            typed_clock_in(words),
+            typed_data_in(words),
+            shelf,
+        )),
     }
 }

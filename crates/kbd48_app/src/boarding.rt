@@ -9,8 +9,8 @@ ghost use Rattle.kbd48_app.specs.Plans.{Boards, program_plan};
 use app_answers::{Spoken, fetch_file, image_in, layout_in};
 use app_boards::run_board;
 use app_words::{BoardRun, Kind, Refusal};
-use board_probes::Probe;
 use io_edge::{Shelf, Sink};
+use run_probes::Probe;
 use std::alloc::Global;
 
 /// `board`: fetches the image, the layout and the key file, judges each before the next is fetched, and then makes the

@@ -10,9 +10,9 @@ ghost use Rattle.kbd48_app.specs.Plans.{debug_plan, probe_plan, script_next};
 use app_answers::{fetch_file, history_in, image_in, layout_in};
 use app_boards::debug;
 use app_words::{Kind, Refusal};
-use board_probes::Probe;
 use debugger::{Debuggee, check_script};
 use io_edge::Shelf;
+use run_probes::Probe;
 use std::alloc::Global;
 
 /// Once it is known what is debugged: fetches the script, judges it, and obeys its lines.

@@ -19,8 +19,8 @@ ghost use Rattle.app_words.specs.Words.{leaves_probes, takes_memory_first};
 use crate::answering::answer;
 use app_answers::Spoken;
 use app_words::{Exit, Refusal};
-use board_probes::Probe;
 use io_edge::{Shelf, Sink, say};
+use run_probes::Probe;
 use std::alloc::Global;
 
 /// Prints a text, and ends with this exit, or with `Write` if the sink fails.

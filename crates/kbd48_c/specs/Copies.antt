@@ -11,10 +11,11 @@ pub record IsTwin (k copy : Keyboard) : Type 0 where
   pub same : IsCopied k copy
   pub has_past : (p : Past) → HasPast p k → HasPast p copy
 
--- the other handle has a copy of this keyboard; or memory is lacking, and it has what it had
+-- the other handle has a copy of this keyboard; or it was empty and is, since memory is lacking
 abbrev pub HasCopied : Keyboard → Option Keyboard → ℤ → Option Keyboard → Type 0
 HasCopied k before status after =
-    ((status ≡ done) × (copy : Keyboard) × (after ≡ Some copy) × IsTwin k copy) ⊎ ((status ≡ no_memory) × (after ≡ before))
+    ((status ≡ done) × (copy : Keyboard) × (after ≡ Some copy) × IsTwin k copy)
+    ⊎ ((status ≡ no_memory) × (before ≡ None) × (after ≡ None))
 
 -- a copy from one handle to another: of an empty one it says so, and does nothing
 abbrev pub CopiesTo : Option Keyboard → Option Keyboard → ℤ → Option Keyboard → Type 0

@@ -1,13 +1,14 @@
 -- What each export does to the keyboard of its handle, in the words of the keyboard's own call.
-use Rattle.std.specs.Prelude.{◌≡◌, ◌≢◌, ◌<◌, ◌≤◌, ◌+◌, ◌-◌, ℕ, ℤ, Bool, Option, None, Some, Ok, Err, OnErr, IfOk}
+use Rattle.std.specs.Prelude.{◌≡◌, ◌≢◌, ◌<◌, ◌≤◌, ◌+◌, ◌-◌, ℕ, ℤ, Bool, Option, None, Some, Ok, Err, OnErr, OnOk, IfOk}
 use Rattle.std.specs.declared.result.Result.{Result}
 use Rattle.board_terms.specs.declared.event.HostAct.{HostAct}
 use Rattle.board_terms.specs.declared.event.HostAct.TheVariants.{Take, Write60, Write64}
 use Rattle.joint_run.specs.Joint.{latch_of}
 use Rattle.ctl_wire.specs.Wires.{wires}
-use Rattle.live_board.specs.Answers.{ItemAnswer}
+use Rattle.live_board.specs.Answers.{ItemAnswer, first_in}
 use Rattle.live_board.specs.Calls.{IsActed, IsKeyed, GivesFirst}
 use Rattle.live_board.specs.Heard.{HasKeptAll, IsKeptLog}
+use Rattle.live_board.specs.Onward.{IsStepped, RunsOn, with_edge}
 use Rattle.live_board.specs.Pasts.{Past, acted}
 use Rattle.live_board.specs.RunCalls.{HasRun}
 use Rattle.live_board.specs.States.{HasPast}
@@ -46,17 +47,19 @@ Calls {X} call k status after = (answer : Result X Refused) × (status ≡ statu
 abbrev pub IsLeft : ℤ → Keyboard → ℤ → Keyboard → Type 0
 IsLeft why k status after = (status ≡ why) × (after ≡ k)
 
--- the host's call, and what is kept and counted of its step
+-- the host's call, what is kept and counted of its step, and the step itself, whatever past the keyboard has
 abbrev pub Acts : {X : Type 0} → HostAct → Keyboard → Result X Refused → Keyboard → Type 0
-Acts act k answer after = IsActed act k answer after × IsKeptLog act k answer after
+Acts act k answer after = IsActed act k answer after × IsKeptLog act k answer after × IsStepped act k answer after
 
 abbrev pub HasActed : HostAct → Keyboard → ℤ → Keyboard → Type 0
 HasActed act = Calls {X = Unit {0}} (Acts act)
 
--- the key's call: no step is made, and what is kept of the log and counted of the line's rises stays
+-- the key's call: no step is made, and what is kept of the log and counted of the line's rises stays; whatever past the
+-- keyboard has, the edge waits
 abbrev pub Keys : ℕ → Bool → Keyboard → Result (Unit {0}) Refused → Keyboard → Type 0
 Keys place down k answer after =
     IsKeyed place down k answer after × (after.joint ≡ k.joint) × (after.heard ≡ k.heard) × (after.rises ≡ k.rises)
+    × OnOk answer (after ≡ with_edge place down k)
 
 -- a key at a place, of which there are 96
 abbrev pub HasPressed : ℕ → Bool → Keyboard → ℤ → Keyboard → Type 0
@@ -74,7 +77,7 @@ HasWritten port byte k status after =
 abbrev pub IsReadAs : HostAct → (ItemAnswer → Option ℕ) → ℕ → ℕ → Keyboard → Result ℕ Refused → Keyboard → Type 0
 IsReadAs act f before byte k answer after =
     Acts act k answer after × OnErr answer (byte ≡ before)
-    × IfOk answer (λ b. (byte ≡ b) × ((p : Past) → HasPast p k → GivesFirst f p (acted p (k.joint.cycle - 4096) act) b))
+    × IfOk answer (λ b. (byte ≡ b) × (first_in f after.seen.items.items ≡ Some b) × ((p : Past) → HasPast p k → GivesFirst f p (acted p (k.joint.cycle - 4096) act) b))
 
 abbrev pub HasRead : HostAct → (ItemAnswer → Option ℕ) → ℕ → ℕ → Keyboard → ℤ → Keyboard → Type 0
 HasRead act f before byte = Calls (IsReadAs act f before byte)
@@ -95,14 +98,16 @@ abbrev pub HasTaken : ℕ → ℕ → Keyboard → ℤ → Keyboard → Type 0
 HasTaken before word k status after =
     (answer : Result (Option ℕ) Refused) × (status ≡ taken_status answer) × (word ≡ word_after answer before)
     × Acts Take k answer after
+    × IfOk answer (λ w. first_in (λ t. t.taken) after.seen.items.items ≡ Some w)
     × IfOk answer (λ w. (p : Past) → HasPast p k → GivesFirst (λ t. t.taken) p (acted p (k.joint.cycle - 4096) Take) w)
 
--- a run: so many cycles passed, and if the processor is stuck the place is written
+-- a run: so many cycles passed, and if the processor is stuck the place is written. Whatever past the keyboard has, these
+-- are its steps from where it is
 abbrev pub HasGone : ℕ → Bool → ℕ → Spot → Spot → Keyboard → ℤ → Keyboard → Type 0
 HasGone cycles watched passed before spot k status after =
     (end : RunEnd) × (status ≡ run_status end) × (k.joint.cycle + passed ≡ after.joint.cycle)
     × (spot ≡ spot_after end before) × ((p : Past) → HasPast p k → HasRun p k cycles watched end after)
-    × ((p : Past) → HasPast p k → HasKeptAll p k after)
+    × ((p : Past) → HasPast p k → HasKeptAll p k after) × RunsOn k cycles watched end after
 
 -- the lights are those of the state in which the keyboard is
 abbrev pub HasShownLights : ℕ → Keyboard → ℤ → Keyboard → Type 0

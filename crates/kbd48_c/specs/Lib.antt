@@ -12,3 +12,4 @@ pub mod Names
 pub mod Stopping
 pub mod Saving
 pub mod QueueSaving
+pub mod Helping

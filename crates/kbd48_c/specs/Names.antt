@@ -32,9 +32,11 @@ place_status (Some place) = done
 abbrev pub HasFault : List ℕ → Type 0
 HasFault text = (fault : Refusal) × (layout_of_document text ≡ Err fault)
 
--- the layout of a text has the key at this place, or has none of the name; or no layout was read, and what was there stays
+-- the layout of a text has the key at this place, or has none of the name; or no key has the name, or no layout was read, and
+-- what was there stays
 abbrev pub IsKeyAt : List ℕ → List ℕ → ℕ → ℤ → ℕ → Type 0
 IsKeyAt text name before status place =
     ((layout : KeyLayout) × (layout_of_document text ≡ Ok layout) × (status ≡ place_status (place_named name layout))
     × (place ≡ place_or (place_named name layout) before))
-    ⊎ ((place ≡ before) × ((status ≡ bad_text) ⊎ (status ≡ too_long) ⊎ (status ≡ no_memory)))
+    ⊎ ((place ≡ before) × ((status ≡ bad_text) ⊎ (status ≡ too_long) ⊎ (status ≡ no_memory)
+    ⊎ ((status ≡ no_such_key) × (key_with_name name ≡ None))))

@@ -1,5 +1,5 @@
 -- A keyboard that is opened over a text.
-use Rattle.std.specs.Prelude.{◌≡◌, ◌⊎◌, ℕ, ℤ, Bool, true, false, List, Option, None, Some, Ok, Err}
+use Rattle.std.specs.Prelude.{◌≡◌, ℕ, ℤ, Bool, true, false, List, Option, None, Some, Ok, Err}
 use Rattle.fw_compile.specs.Image.{image_of}
 use Rattle.hexfile.specs.Hex.{hex_of}
 use Rattle.hexfile.specs.declared.fault.HexFault.{HexFault}
@@ -7,7 +7,7 @@ use Rattle.layout_reader.specs.Documents.{layout_of_document}
 use Rattle.layout_reader.specs.Layouts.{KeyLayout}
 use Rattle.live_board.specs.Ready.{IsOpened, IsReady}
 use Rattle.live_board.specs.declared.parts.Parts.{Parts as Keyboard}
-use Rattle.kbd48_c.specs.Statuses.{done, no_memory}
+use Rattle.kbd48_c.specs.Statuses.{done}
 use Rattle.kbd48_c.specs.declared.opening.Fault.{Fault}
 
 -- the handle has a keyboard with this program that has just been opened with cleared memory; or that is ready: run on
@@ -27,10 +27,9 @@ HasOpenedLayout ready text new =
     (layout : KeyLayout) × (layout_of_document text ≡ Ok layout) × HasOpened ready (image_of layout) new
 
 -- the keyboard was switched off and on again: it has just been opened, with the program that it had and with this byte in
--- memory; or memory of the caller's is lacking, and it is as it was
+-- memory
 abbrev pub HasPoweredOn : ℕ → Keyboard → ℤ → Keyboard → Type 0
-HasPoweredOn fill k status after =
-    ((status ≡ done) × IsOpened fill k.joint.image.bytes after) ⊎ ((status ≡ no_memory) × (after ≡ k))
+HasPoweredOn fill k status after = (status ≡ done) × IsOpened fill k.joint.image.bytes after
 
 -- if a text is at fault
 abbrev pub IsHexFault : List ℕ → Fault → Type 0

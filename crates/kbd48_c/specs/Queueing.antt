@@ -9,6 +9,7 @@ use Rattle.edge_queue.specs.declared.refusal.NotQueued.TheVariants as whys
 use Rattle.fw_kernel.specs.Tables.{debounce_at}
 use Rattle.live_board.specs.Calls.{pressed_now}
 use Rattle.live_board.specs.Heard.{HasKeptAll}
+use Rattle.live_board.specs.Onward.{RunsOn}
 use Rattle.live_board.specs.Pasts.{Past}
 use Rattle.live_board.specs.RunCalls.{HasRun}
 use Rattle.live_board.specs.States.{HasPast}
@@ -98,3 +99,4 @@ pub record HasGoneKeyed (cycles : ℕ) (watched : Bool) (passed : ℕ) (before s
   pub ran : (p : Past) → HasPast p k
       → HasRun (past_with (handed_now q k) k p) middle (room_of cycles left middle) watched end after
   pub log_kept : (p : Past) → HasPast p k → HasKeptAll (past_with (handed_now q k) k p) middle after
+  pub onward : RunsOn middle (room_of cycles left middle) watched end after

@@ -3,6 +3,7 @@ use Rattle.std.specs.Prelude.{◌≡◌, ℕ, ℤ, ◌+◌, ◌*◌, if◌then�
 use Rattle.std.specs.Int.{from_bool}
 use Rattle.bits.specs.Bits.{bit}
 use Rattle.live_board.specs.Heard.{HasKeptAll}
+use Rattle.live_board.specs.OnwardTo.{StopsOn}
 use Rattle.live_board.specs.Pasts.{Past}
 use Rattle.live_board.specs.States.{HasPast}
 use Rattle.live_board.specs.Stopping.{HasStopped}
@@ -45,9 +46,9 @@ spot_at (ends.Met what) s = s
 spot_at ends.Over s = s
 spot_at (ends.Stuck place) s = record { counter = place.pc; byte = place.byte }
 
--- the run: what ended it, and so many cycles passed
+-- the run: what ended it, and so many cycles passed. Whatever past the keyboard has, these are its steps from where it is
 abbrev pub HasRunTo : Stops → ℕ → ℕ → ℕ → ℕ → Spot → Spot → Keyboard → ℤ → Keyboard → Type 0
 HasRunTo stops cycles steps met passed before spot k status after =
     (end : Ending) × (status ≡ ending_status end) × (met ≡ met_after end) × (k.joint.cycle + passed ≡ after.joint.cycle)
     × (spot ≡ spot_at end before) × ((p : Past) → HasPast p k → HasStopped stops p k cycles steps end after)
-    × ((p : Past) → HasPast p k → HasKeptAll p k after)
+    × ((p : Past) → HasPast p k → HasKeptAll p k after) × StopsOn stops k cycles steps end after

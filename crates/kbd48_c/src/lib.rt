@@ -9,6 +9,7 @@ mod calls;
 mod copying;
 mod going;
 mod handle;
+mod helping;
 mod items;
 mod keyed;
 mod looks;

@@ -1,31 +1,22 @@
 //! Keys by their names, and the sample layout.
 
-ghost use Rattle.std.specs.Prelude.{◌≡◌, ◌<◌, ◌⊎◌, true, false, length};
+ghost use Rattle.std.specs.Prelude.{◌≡◌, ◌≤◌, ◌<◌, ◌⊎◌, true, false, length, None};
+ghost use Rattle.std.specs.Str.{is_utf8};
 ghost use Rattle.fw_compile.specs.Image.{image_of};
 ghost use Rattle.layout_reader.specs.Layouts.{us84};
 ghost use Rattle.pc_tables.specs.Keys.{key_with_name};
-ghost use Rattle.kbd48_c.specs.Names.{HasFault, IsKeyAt, place_named, place_or, place_status};
+ghost use Rattle.kbd48_c.specs.Names.{HasFault, IsKeyAt, no_such_key, place_named, place_or, place_status};
 ghost use Rattle.kbd48_c.specs.Opening.{HasOpened};
 ghost use Rattle.kbd48_c.specs.Statuses.{bad_text, done, no_memory, too_long};
 
 use crate::handle::Handle;
-use crate::opening::{MOST_LAYOUT, open};
+use crate::opening::{MOST_LAYOUT, is_text, open};
 use crate::status::{BAD_TEXT, DONE, NO_MEMORY, NO_SUCH_KEY, TOO_LONG};
 use board_terms::Place;
 use fw_compile::compile;
-use layout_reader::{Layout, LayoutFault, read_layout, us84_layout};
+use layout_reader::{LayoutFault, read_layout, us84_layout};
 use pc_tables::key_spelled;
 use std::alloc::Global;
-
-/// The place of the key with this name in a layout, if there is one.
-fn place_named(layout: &Layout, name: &[u8]) -> Option<Place>
-    ensures { result ≡ place_named name.now layout.now }
-{
-    match key_spelled(name) {
-        Some(key) => layout.place_of(key),
-        None => None,
-    }
-}
 
 /// Writes a place, if there is one.
 fn put_place(found: Option<Place>, place: &mut u8) -> i32
@@ -91,19 +82,29 @@ pub extern "C" fn kbd48_sample_key(name: &[u8], place: &mut u8) -> i32
     }
 }
 
-/// The place of the key with this name in a layout, from its text of at most 65,536 bytes.
+/// The place of the key with this name in a layout, from its text of at most 65,536 bytes. A text that is too long, a name
+/// that no key has, and then a text that is no UTF-8 are refused before memory is taken.
+#[tactic(auto, using(crate::proofs::Texts::has_fault))]
 #[unsafe(no_mangle)]
 pub extern "C" fn kbd48_layout_key(alloc: Global, text: &[u8], name: &[u8], place: &mut u8) -> i32
     ensures found { IsKeyAt text.now name.now place.old result place.new }
     ensures faulty { result ≡ bad_text → HasFault text.now }
     ensures long { 65536 < length text.now → result ≡ too_long }
     ensures only { result ≡ too_long → 65536 < length text.now }
+    ensures unknown { length text.now ≤ 65536 → key_with_name name.now ≡ None → result ≡ no_such_key }
+    ensures garbled { length text.now ≤ 65536 → is_utf8 text.now ≡ false → (result ≡ bad_text) ⊎ (result ≡ no_such_key) }
 {
     if text.len() > MOST_LAYOUT {
         return TOO_LONG;
     }
+    let Some(key) = key_spelled(name) else {
+        return NO_SUCH_KEY;
+    };
+    if !is_text(text) {
+        return BAD_TEXT;
+    }
     match read_layout(alloc, text) {
-        Ok(layout) => put_place(place_named(&layout, name), place),
+        Ok(layout) => put_place(layout.place_of(key), place),
         Err(
             LayoutFault::Entry {
                 entry: _,

@@ -1,6 +1,7 @@
 //! Opening a keyboard over a text.
 
-ghost use Rattle.std.specs.Prelude.{◌≡◌, ◌<◌, ◌⊎◌, false, length, Err, Some};
+ghost use Rattle.std.specs.Prelude.{◌≡◌, ◌≤◌, ◌<◌, ◌⊎◌, false, length, Err, Some};
+ghost use Rattle.std.specs.Str.{is_utf8};
 ghost use Rattle.hexfile.specs.Hex.{hex_of};
 ghost use Rattle.hexfile.specs.declared.fault.HexFault.{HexFault};
 ghost use Rattle.int09.specs.Bios.{start};
@@ -23,12 +24,26 @@ const MOST_HEX: usize = 16384;
 /// How long a layout's text may be, in bytes.
 pub(crate) const MOST_LAYOUT: usize = 65536;
 
+/// The rule that bytes break which are no UTF-8 text: they are no TOML.
+const NOT_TOML: u32 = 1;
+
 /// Where a text has its first fault, and the number of the rule that it breaks.
 #[repr(C)]
 #[derive(Drop)]
 pub struct Fault {
     pub position: u32,
     pub number: u32,
+}
+
+/// Whether these bytes are UTF-8 text. If not, they are no layout.
+#[tactic(auto, using(crate::proofs::Texts::readable, crate::proofs::Texts::garbled))]
+pub(crate) fn is_text(bytes: &[u8]) -> bool
+    ensures text { result ≡ is_utf8 bytes.now }
+{
+    match std::str::from_utf8(bytes) {
+        Ok(_) => true,
+        Err(_) => false,
+    }
 }
 
 /// A keyboard with this program and this INT 09h: at stamp 0, or ready, run on until its interrupt line rose or for a second.
@@ -91,7 +106,9 @@ pub(crate) fn open_hex(
     }
 }
 
-/// Opens a keyboard of a layout, from its text of at most 65,536 bytes, and closes the one that was there.
+/// Opens a keyboard of a layout, from its text of at most 65,536 bytes, and closes the one that was there. Text that is too
+/// long or no UTF-8 is refused before memory is taken.
+#[tactic(auto, using(crate::proofs::Texts::no_layout))]
 pub(crate) fn open_layout(
     alloc: Global,
     text: &[u8],
@@ -106,9 +123,15 @@ pub(crate) fn open_layout(
     ensures only { result ≡ too_long → 65536 < length text.now }
     ensures status { (result ≡ done) ⊎ (result ≡ no_memory) ⊎ (result ≡ bad_text) ⊎ (result ≡ too_long) }
     ensures untouched { (result ≡ bad_text → ⊥) → fault.new ≡ fault.old }
+    ensures garbled { length text.now ≤ 65536 → is_utf8 text.now ≡ false → result ≡ bad_text }
 {
     if text.len() > MOST_LAYOUT {
         return TOO_LONG;
+    }
+    if !is_text(text) {
+        fault.position = 0;
+        fault.number = NOT_TOML;
+        return BAD_TEXT;
     }
     match read_layout(alloc, text) {
         Ok(layout) => open(alloc, &compile(&layout), ready, handle),
@@ -156,6 +179,7 @@ pub extern "C" fn kbd48_open_layout(
     ensures only { result ≡ too_long → 65536 < length text.now }
     ensures status { (result ≡ done) ⊎ (result ≡ no_memory) ⊎ (result ≡ bad_text) ⊎ (result ≡ too_long) }
     ensures untouched { (result ≡ bad_text → ⊥) → fault.new ≡ fault.old }
+    ensures garbled { length text.now ≤ 65536 → is_utf8 text.now ≡ false → result ≡ bad_text }
 {
     open_layout(alloc, text, false, handle, fault)
 }

@@ -1,6 +1,7 @@
 //! Opening a keyboard that is run on until its interrupt line rises.
 
-ghost use Rattle.std.specs.Prelude.{◌≡◌, ◌<◌, ◌⊎◌, true, length, Err};
+ghost use Rattle.std.specs.Prelude.{◌≡◌, ◌≤◌, ◌<◌, ◌⊎◌, true, false, length, Err};
+ghost use Rattle.std.specs.Str.{is_utf8};
 ghost use Rattle.hexfile.specs.Hex.{hex_of};
 ghost use Rattle.hexfile.specs.declared.fault.HexFault.{HexFault};
 ghost use Rattle.kbd48_c.specs.Opening.{HasOpenedHex, HasOpenedLayout, IsHexFault, IsLayoutFault};
@@ -47,6 +48,7 @@ pub extern "C" fn kbd48_open_ready_layout(
     ensures only { result ≡ too_long → 65536 < length text.now }
     ensures status { (result ≡ done) ⊎ (result ≡ no_memory) ⊎ (result ≡ bad_text) ⊎ (result ≡ too_long) }
     ensures untouched { (result ≡ bad_text → ⊥) → fault.new ≡ fault.old }
+    ensures garbled { length text.now ≤ 65536 → is_utf8 text.now ≡ false → result ≡ bad_text }
 {
     open_layout(alloc, text, true, handle, fault)
 }

@@ -27,6 +27,16 @@ bad_text bytes p text same within never =
     ∙ ap not (false_unless (is_utf8 (piece_in bytes p))
     (λ utf8. never (subst (λ it. IsUtf8 it) (sym same) (IsUtf8-from_is_utf8 (piece_in bytes p) utf8))))
 
+-- a piece within the bytes that is UTF-8 is no bad one
+pub good_piece : (bytes : List ℕ) (p : Piece) (text : List ℕ) → text ≡ piece_in bytes p → is_outside bytes p ≡ false
+    → IsUtf8 text → false ≡ is_bad_text bytes p
+good_piece bytes p text same within utf8 = sym (good_text bytes p text same within utf8)
+
+-- a piece within the bytes that is no UTF-8 is a bad one
+pub bad_piece : (bytes : List ℕ) (p : Piece) (text : List ℕ) → text ≡ piece_in bytes p → is_outside bytes p ≡ false
+    → ¬ (IsUtf8 text) → true ≡ is_bad_text bytes p
+bad_piece bytes p text same within never = sym (bad_text bytes p text same within never)
+
 -- one more good word
 pub more_words : (bytes : List ℕ) (words : List Piece) (i : ℕ) (d : Piece) → i < length words
     → has_bad_word bytes (take i words) ≡ false → is_bad_text bytes (get_or words i d) ≡ false

@@ -4,7 +4,7 @@ use Rattle.std.proofs.Math.Path.{subst}
 use Rattle.std.specs.declared.option.Option.{Option}
 use Rattle.io_edge.specs.MemorySink.{HeldBytes}
 use Rattle.io_edge.specs.Shelf.{Shelved}
-use Rattle.board_probes.specs.Probes.{Watch}
+use Rattle.run_probes.specs.Probes.{Watch}
 use Rattle.kbd48_app.specs.Answers.{MayAnswer}
 use Rattle.app_answers.specs.FileAnswers.{Answer}
 use Rattle.app_answers.specs.Says.{Says}

@@ -4,7 +4,7 @@ use Rattle.std.specs.declared.option.Option.{Option}
 use Rattle.io_edge.specs.MemorySink.{HeldBytes}
 use Rattle.io_edge.specs.Said.{Shown}
 use Rattle.io_edge.specs.Shelf.{Shelved}
-use Rattle.board_probes.specs.Probes.{Watch, address_kind, cell_kind, line_kind, register_kind, unarmed}
+use Rattle.run_probes.specs.Probes.{Watch, address_kind, cell_kind, line_kind, register_kind, unarmed}
 use Rattle.kbd48_app.specs.Answers.{MayAnswer}
 use Rattle.app_words.specs.Exits.{status_of}
 use Rattle.app_answers.specs.FileAnswers.{Answer}

@@ -4,5 +4,6 @@
 //! break but those of the pointers. Source: our own.
 #![tactic(auto)]
 
+mod bad_pieces;
 mod calling;
 mod pieces;

@@ -1,3 +1,4 @@
 pub mod Placed
 pub mod Lends
+pub mod Queueing
 pub mod Words

@@ -3,7 +3,8 @@
 ghost use Rattle.std.specs.Prelude.{◌≡◌, ◌<◌, pos, Some, is_some};
 ghost use Rattle.ctl_core.specs.Controller.{emptied};
 ghost use Rattle.ctl_wire.specs.Wire.{drive};
-ghost use Rattle.ctl_half.specs.Controllers.{at_start, interrupts, is_turnable, looked, settles, settling, with_core, with_flip};
+ghost use Rattle.ctl_half.specs.Controllers.{interrupts, is_turnable, looked, reset_of, settles, settling};
+ghost use Rattle.ctl_half.specs.Controllers.{with_core, with_flip, with_pins};
 ghost use Rattle.ctl_half.specs.Saves.{gone_back, loaded, saved_of};
 ghost use Rattle.kbd48_halves.specs.Words.{did_of, is_empty, levels_of, lines_in, port_of, registers_of, truth_of, write_by};
 
@@ -55,13 +56,22 @@ fn registers_of(core: &Controller) -> Registers
     }
 }
 
-/// Resets the controller: it is as at power-on.
+/// Resets the controller: it is as at power-on, but the pins of its input port stay as they are.
 #[unsafe(no_mangle)]
 pub extern "C" fn kbd48_controller_reset_at(controller: &mut ControllerAt)
-    ensures controller { controller.new.controller ≡ at_start }
+    ensures controller { controller.new.controller ≡ reset_of controller.old.controller }
     ensures place { controller.new.at ≡ controller.old.at }
 {
     controller.controller().reset();
+}
+
+/// The pins of the input port have these levels from now on.
+#[unsafe(no_mangle)]
+pub extern "C" fn kbd48_controller_pins_at(controller: &mut ControllerAt, pins: u8)
+    ensures controller { controller.new.controller ≡ with_pins pins controller.old.controller }
+    ensures place { controller.new.at ≡ controller.old.at }
+{
+    controller.controller().set_pins(pins);
 }
 
 /// The look of cycle `now` at the wires, which have these levels.

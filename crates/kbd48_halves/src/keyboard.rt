@@ -1,11 +1,12 @@
 //! What C calls of the keyboard.
 
-ghost use Rattle.std.specs.Prelude.{◌≡◌, pos, Some, nat_lt, is_some};
+ghost use Rattle.std.specs.Prelude.{◌≡◌, ◌≤◌, pos, Some, nat_lt, is_some};
 ghost use Rattle.board_terms.specs.Columns.{keys_in};
 ghost use Rattle.chip_core.specs.Chips.{after, cycles_of, next_of, reset_of};
 ghost use Rattle.chip_core.specs.Saves.{loaded, saved_of};
 ghost use Rattle.joint_run.specs.Joint.{latch_of, lights_of};
 ghost use Rattle.kbd_half.specs.Keyboards.{keyboard_on, pins_at, with_chip};
+ghost use Rattle.kbd_half.specs.Rests.{RestsFor};
 ghost use Rattle.kbd_half.specs.Saves.{gone_back};
 ghost use Rattle.kbd48_halves.specs.Words.{keyed, levels_of, lines_in, truth_of};
 
@@ -88,6 +89,19 @@ pub extern "C" fn kbd48_keyboard_lights_at(keyboard: &mut KeyboardAt) -> i32
     ensures place { keyboard.new.at ≡ keyboard.old.at }
 {
     i32::from(keyboard.keyboard().lights())
+}
+
+/// For how many cycles, at most `most`, the keyboard by itself drives the levels and shows the lights of now, if no key moves
+/// and the other side drives these levels all the while. They are those of whole steps: the next step can't be made, ends after
+/// more than `most` cycles, or changes what is seen. The keyboard stays as it is.
+#[unsafe(no_mangle)]
+pub extern "C" fn kbd48_keyboard_rests_at(keyboard: &mut KeyboardAt, levels: u32, most: u32) -> u32
+    ensures rests { RestsFor (lines_in levels) most keyboard.old.keyboard result }
+    ensures within { result ≤ most }
+    ensures unchanged { keyboard.new.keyboard ≡ keyboard.old.keyboard }
+    ensures place { keyboard.new.at ≡ keyboard.old.at }
+{
+    keyboard.keyboard().rests(lines_in(levels), most)
 }
 
 /// Writes the keyboard's state but for the program.

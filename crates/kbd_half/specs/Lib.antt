@@ -1,2 +1,3 @@
 pub mod Keyboards
+pub mod Rests
 pub mod Saves

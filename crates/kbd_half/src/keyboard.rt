@@ -22,7 +22,7 @@ pub struct KbdHalf {
 /// The levels at the processor's pins: the rows of the column that port 1 selects, and the two wires. Nobody pulls
 /// another pin.
 #[inline(always)]
-fn pins(matrix: &Matrix, p1: u8, line: Lines) -> Pins
+pub(crate) fn pins(matrix: &Matrix, p1: u8, line: Lines) -> Pins
     ensures { result ≡ pins_at line matrix.now p1 }
 {
     Pins {
@@ -32,6 +32,17 @@ fn pins(matrix: &Matrix, p1: u8, line: Lines) -> Pins
         t0: line.clk,
         t1: line.dat,
         int_pin: true,
+    }
+}
+
+/// What a latch of port 2 drives on the two wires.
+#[inline(always)]
+pub(crate) fn driven(p2: u8) -> Lines
+    ensures { result ≡ latch_of p2 }
+{
+    Lines {
+        clk: p2 >> 0 & 1 == 1,
+        dat: p2 >> 1 & 1 == 1,
     }
 }
 
@@ -104,11 +115,7 @@ impl KbdHalf {
     pub fn drives(&self) -> Lines
         ensures driven { result ≡ latch_of self.now.chip.mcu.p2 }
     {
-        let p2 = port_2(&self.chip);
-        Lines {
-            clk: p2 >> 0 & 1 == 1,
-            dat: p2 >> 1 & 1 == 1,
-        }
+        driven(port_2(&self.chip))
     }
 
     /// The lights: Scroll as bit 0, Num as bit 1, Caps as bit 2.

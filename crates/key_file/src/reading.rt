@@ -1,8 +1,9 @@
 //! From the bytes of a key file to its history, or to its first fault.
 
-ghost use Rattle.std.specs.Prelude.{◌≡◌, ◌≤◌, Ok, length, IfOk, IfErr};
+ghost use Rattle.std.specs.Prelude.{◌≡◌, ◌≤◌, Ok, length, IfOk, IfErr, IsOk};
 ghost use Rattle.key_file.specs.Accepted.{IsAccepted, IsAcceptedFor};
 ghost use Rattle.key_file.specs.Feeds.{Fed};
+ghost use Rattle.key_file.specs.declared.fault.KeyFault.TheVariants.{Memory};
 ghost use Rattle.key_file.specs.KeyFile.{history_of, IsFaultOf};
 
 use crate::byte_feed::ByteFeed;
@@ -45,12 +46,13 @@ fn host_of(alloc: Global, feed: &mut ByteFeed) -> Result<Vec<HostEvent>, AllocEr
 ///
 /// Ok is exactly the file's history, and it is accepted for the layout. `KeyFault::Input` and `KeyFault::Timing` are
 /// exactly the first faulty line with the lowest number of a rule that it breaks: each line is judged after those
-/// before it. Want of memory may come if the file has no fault, and says nothing of it.
+/// before it. Want of memory comes only if the file has no fault.
 pub fn read_history(alloc: Global, bytes: &[u8], layout: &Layout) -> Result<History, KeyFault>
     requires within { length bytes.now ≤ 4194304 }
     ensures history { IfOk result (λ history. history_of layout.now bytes.now ≡ Ok history) }
     ensures accepted { IfOk result (IsAcceptedFor layout.now) }
     ensures fault { IfErr result (IsFaultOf (history_of layout.now bytes.now)) }
+    ensures memory { IfErr result (λ fault. fault ≡ Memory → IsOk (history_of layout.now bytes.now)) }
 {
     let mut feed = check_history(bytes, layout).map_err(key_fault)?;
     let edges = edges_of(alloc, &mut feed)?;

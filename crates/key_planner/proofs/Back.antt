@@ -9,16 +9,18 @@ use Rattle.layout_reader.specs.declared.entry.Entry.{Entry}
 use Rattle.layout_reader.specs.Layouts.{KeyLayout, IsKeyLayout}
 use Rattle.key_file.specs.Accepted.{IsAccepted}
 use Rattle.key_file.specs.KeyFile.{history_of}
-use Rattle.typed_log.specs.Typing.{Stroke, Plain, Shifted, character, enters, base, shifted, is_shift_entry, stroke_start}
-use Rattle.typed_log.specs.Typing.{presses, releases, edges_of, take_of, edges_from, takes_from, planned}
-use Rattle.key_planner.specs.Plan.{press_line, release_line, take_line, end_line, stroke_lines, lines_from, plan_of}
-use Rattle.typed_log.proofs.Struck.{IsStroke, AreStrokes}
+use Rattle.law_typed_log.specs.Typing.{Stroke, Plain, Shifted, character, enters, base, shifted, is_shift_entry, stroke_start}
+use Rattle.law_typed_log.specs.Typing.{presses, releases, edges_of, take_of, edges_from, takes_from, planned}
+use Rattle.key_lines.specs.Lines.{press_line, release_line, take_line, end_line}
+use Rattle.key_planner.specs.Plan.{stroke_lines, lines_from, plan_of}
+use Rattle.law_typed_log.proofs.Struck.{IsStroke, AreStrokes}
 use Rattle.key_file.proofs.Following.{Follows, follows-edge, follows-host, follows-end, follows-earlier, follows-describes}
 use Rattle.key_file.proofs.ReadsDescribed.{reads-described}
-use Rattle.key_planner.proofs.Numerals.{stamp-back}
-use Rattle.key_planner.proofs.Parted.{name-word, word-by, first-line}
-use Rattle.key_planner.proofs.Said.{word_text, key_text, word-line, key-line, press-said, release-said, take-said, word-said}
-use Rattle.key_planner.proofs.Owned.{IsOwn, owned}
+use Rattle.key_lines.proofs.Numerals.{stamp-back}
+use Rattle.key_lines.proofs.Owned.{IsOwn}
+use Rattle.key_lines.proofs.Parted.{name-word, word-by, first-line}
+use Rattle.key_lines.proofs.Said.{word_text, key_text, word-line, key-line, press-said, release-said, take-said, word-said}
+use Rattle.key_planner.proofs.Owned.{owned}
 
 regroup : (a b c d : List ℕ) → ((a ++ b) ++ c) ++ d ≡ a ++ (b ++ (c ++ d))
 regroup a b c d = simp append_assoc

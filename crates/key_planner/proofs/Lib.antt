@@ -1,6 +1,3 @@
-pub mod Numerals
-pub mod Parted
-pub mod Said
 pub mod Owned
 pub mod Back
 pub mod Sizes

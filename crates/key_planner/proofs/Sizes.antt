@@ -1,43 +1,11 @@
 -- How long a plan is.
-use Rattle.std.proofs.Common.{◌≡◌, ◌≤◌, ◌<◌, ℕ, suc, ◌+◌, ◌*◌, true, List, [], ◌∷◌, ◌++◌}
-use Rattle.std.proofs.Common.{length, codes, refl, arith, decimal, length-append}
-use Rattle.std.specs.Prelude.{nat_le}
-use Rattle.std.proofs.lemmas.Bool.Decides.{nat_tests}
-use Rattle.std.proofs.lemmas.Fmt.{length-decimal-le}
-use Rattle.bits.proofs.Every.{at_each}
-use Rattle.pc_tables.specs.Keys.{keys, name_at}
-use Rattle.layout_reader.specs.declared.entry.Entry.{Entry}
+use Rattle.std.proofs.Common.{◌≤◌, ℕ, suc, ◌+◌, ◌*◌, List, [], ◌∷◌, ◌++◌, length, codes, arith, length-append}
 use Rattle.layout_reader.specs.Layouts.{KeyLayout}
-use Rattle.typed_log.specs.Typing.{Stroke, Plain, Shifted, stroke_start}
-use Rattle.key_planner.specs.Plan.{word_line, key_line, press_line, release_line, take_line, key_lines, stroke_lines, lines_from, plan_of}
+use Rattle.law_typed_log.specs.Typing.{Stroke, Plain, Shifted, stroke_start}
+use Rattle.key_lines.proofs.Sizes.{key-size, word-size}
+use Rattle.key_lines.specs.Lines.{press_line, release_line, take_line}
+use Rattle.key_planner.specs.Plan.{stroke_key_lines, stroke_lines, lines_from, plan_of}
 use Rattle.key_planner.proofs.Back.{AreOwn, AllOwn}
-
--- a key's name has at most nine characters
-names-short : (k : ℕ) → k < 84 → nat_le (length (name_at k)) 9 ≡ true
-unfolding keys
-names-short = at_each (λ k. nat_le (length (name_at k)) 9) 84 refl
-
-name-short : (k : ℕ) → k < 84 → length (name_at k) ≤ 9
-name-short k h = let short = names-short k h in grind (arith, nat_tests)
-
-word-size : (stamp : ℕ) (word : List ℕ) → stamp < 1000000000 → length (word_line stamp word) ≤ 11 + length word
-word-size stamp word h =
-    let stamp_short = length-decimal-le 9 stamp (omega arith) (omega arith) (omega arith) in
-    omega (arith, length-append (decimal stamp ++ 32 ∷ word) (10 ∷ []), length-append (decimal stamp) (32 ∷ word))
-
-key-size : (stamp : ℕ) (word : List ℕ) (key : Entry)
-    → stamp < 1000000000 → key.key < 84 → length (key_line stamp word key) ≤ 21 + length word
-key-size stamp word key h k =
-    let stamp_short = length-decimal-le 9 stamp (omega arith) (omega arith) (omega arith) in
-    let name = name_at key.key in
-    let text = (decimal stamp ++ 32 ∷ word) ++ 32 ∷ name in
-    omega (
-      arith,
-      name-short key.key k,
-      length-append text (10 ∷ []),
-      length-append (decimal stamp ++ 32 ∷ word) (32 ∷ name),
-      length-append (decimal stamp) (32 ∷ word),
-    )
 
 stroke-size : (layout : KeyLayout) (start : ℕ) (stroke : Stroke)
     → start ≤ 240000000 → AreOwn layout stroke → length (stroke_lines start stroke) ≤ 128
@@ -58,7 +26,7 @@ stroke-size layout start (Shifted shift key) h own =
     let three = length-append (press_line start shift ++ press_line (start + 2048) key) (release_line (start + 8192) key) in
     let four = length-append (press_line start shift ++ press_line (start + 2048) key ++ release_line (start + 8192) key)
     (release_line (start + 10240) shift) in
-    let sum = length-append (key_lines start (Shifted shift key)) (take_line (start + 14336)) in
+    let sum = length-append (stroke_key_lines start (Shifted shift key)) (take_line (start + 14336)) in
     omega (arith, a, b, c, d, take, two, three, four, sum)
 
 lines-size : (layout : KeyLayout) (number : ℕ) (strokes : List Stroke)

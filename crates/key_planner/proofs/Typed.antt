@@ -4,10 +4,10 @@ use Rattle.std.specs.Option.{option_map}
 use Rattle.std.specs.declared.option.Option.{Option}
 use Rattle.layout_reader.specs.Layouts.{KeyLayout, IsKeyLayout}
 use Rattle.key_file.specs.Cursors.{found_history, history_in}
-use Rattle.quiet_log.specs.Quiet.{quiet_log}
-use Rattle.typed_log.specs.Typing.{Stroke, strokes_of, planned}
-use Rattle.typed_log.specs.Typed.{IsPlayable, Says, StrokesArePlayable, StrokesSayText}
-use Rattle.typed_log.proofs.Struck.{strokes_are, lengths}
+use Rattle.law_quiet_log.specs.Quiet.{quiet_log}
+use Rattle.law_typed_log.specs.Typing.{Stroke, strokes_of, planned}
+use Rattle.law_typed_log.specs.Typed.{IsPlayable, Says, StrokesArePlayable, StrokesSayText}
+use Rattle.law_typed_log.proofs.Struck.{strokes_are, lengths}
 use Rattle.key_planner.specs.Plan.{plan_of, text_plan}
 use Rattle.key_planner.specs.Types.{Types}
 use Rattle.key_planner.proofs.Back.{strokes-own, plan-back}

@@ -5,7 +5,7 @@ use Rattle.std.specs.Prelude.{is_none}
 use Rattle.std.specs.Option.{option_map}
 use Rattle.std.specs.declared.option.Option.{Option}
 use Rattle.layout_reader.specs.Layouts.{KeyLayout}
-use Rattle.typed_log.specs.Typing.{Stroke, character, stroke_of, before, strokes_of, without_from, first_without, stroke_start}
+use Rattle.law_typed_log.specs.Typing.{Stroke, character, stroke_of, before, strokes_of, without_from, first_without, stroke_start}
 use Rattle.key_planner.specs.Plan.{stroke_lines, lines_from, plan_of, text_plan}
 
 -- the plan is the lines so far and those of the other bytes, and none so far has no key

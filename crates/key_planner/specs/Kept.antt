@@ -1,5 +1,5 @@
 -- A stroke as the program keeps it.
-use Rattle.typed_log.specs.Typing.{Stroke, Plain, Shifted}
+use Rattle.law_typed_log.specs.Typing.{Stroke, Plain, Shifted}
 use Rattle.key_planner.specs.declared.stroke.Stroke.{Stroke as Kept}
 use Rattle.key_planner.specs.declared.stroke.Stroke.TheVariants as kept
 

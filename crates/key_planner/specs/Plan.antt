@@ -1,47 +1,23 @@
 -- The text of a plan: the key file in which the strokes of a text are made, its lines in the order of their stamps.
-use Rattle.std.specs.Prelude.{ℕ, List, [], ◌∷◌, ◌++◌, codes}
+use Rattle.std.specs.Prelude.{ℕ, List, [], ◌∷◌, ◌++◌}
 use Rattle.std.proofs.Common.{suc}
-use Rattle.std.specs.Fmt.{decimal}
 use Rattle.std.specs.Option.{option_map}
 use Rattle.std.specs.declared.option.Option.{Option}
-use Rattle.pc_tables.specs.Keys.{name_at}
-use Rattle.layout_reader.specs.declared.entry.Entry.{Entry}
 use Rattle.layout_reader.specs.Layouts.{KeyLayout}
-use Rattle.typed_log.specs.Typing.{Stroke, Plain, Shifted, stroke_start, strokes_of}
-use Rattle.typed_log.specs.Typing.{first_up, second_down, second_up, word_taken}
-
--- a line: its stamp in decimal, a word and, if the word speaks of a key, that key's name, parted by one space each;
--- it ends with LF
-abbrev pub word_line : ℕ → List ℕ → List ℕ
-word_line stamp word = decimal stamp ++ 32 ∷ word ++ 10 ∷ []
-
-abbrev pub key_line : ℕ → List ℕ → Entry → List ℕ
-key_line stamp word entry = decimal stamp ++ 32 ∷ word ++ 32 ∷ name_at entry.key ++ 10 ∷ []
-
--- a key goes down, or up; it is named by its entry's key, whatever it sends
-abbrev pub press_line : ℕ → Entry → List ℕ
-press_line stamp entry = key_line stamp (codes "press") entry
-
-abbrev pub release_line : ℕ → Entry → List ℕ
-release_line stamp entry = key_line stamp (codes "release") entry
-
--- the host takes a word; the file ends
-abbrev pub take_line : ℕ → List ℕ
-take_line stamp = word_line stamp (codes "take")
-
-abbrev pub end_line : ℕ → List ℕ
-end_line stamp = word_line stamp (codes "end")
+use Rattle.key_lines.specs.Lines.{end_line, press_line, release_line, take_line}
+use Rattle.law_typed_log.specs.Typing.{Stroke, Plain, Shifted, stroke_start, strokes_of}
+use Rattle.law_typed_log.specs.Typing.{first_up, second_down, second_up, word_taken}
 
 -- the lines of the keys of a stroke that begins at a stamp
-abbrev pub key_lines : ℕ → Stroke → List ℕ
-key_lines start (Plain key) = press_line start key ++ release_line (first_up start) key
-key_lines start (Shifted shift key) =
+abbrev pub stroke_key_lines : ℕ → Stroke → List ℕ
+stroke_key_lines start (Plain key) = press_line start key ++ release_line (first_up start) key
+stroke_key_lines start (Shifted shift key) =
     press_line start shift ++ press_line (second_down start) key
     ++ release_line (second_up start) key ++ release_line (first_up start) shift
 
 -- the lines of a stroke: a character is typed, and its word is taken
 abbrev pub stroke_lines : ℕ → Stroke → List ℕ
-stroke_lines start stroke = key_lines start stroke ++ take_line (word_taken start)
+stroke_lines start stroke = stroke_key_lines start stroke ++ take_line (word_taken start)
 
 -- the lines of strokes, the first of which has this number; the end is where one stroke more would begin
 abbrev pub lines_from : ℕ → List Stroke → List ℕ

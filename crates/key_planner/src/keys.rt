@@ -2,8 +2,8 @@
 
 ghost use Rattle.std.specs.Prelude.{◌≡◌, find, option_and_then};
 ghost use Rattle.std.specs.Option.{option_map};
-ghost use Rattle.typed_log.specs.Typing.{base, shifted, character, is_low, word_of, enters, is_shift, is_shift_entry};
-ghost use Rattle.typed_log.specs.Typing.{shift_entry, key_of, stroke_of};
+ghost use Rattle.law_typed_log.specs.Typing.{base, shifted, character, is_low, word_of, enters, is_shift, is_shift_entry};
+ghost use Rattle.law_typed_log.specs.Typing.{shift_entry, key_of, stroke_of};
 ghost use Rattle.key_planner.specs.Kept.{meant};
 
 use crate::stroke::Stroke;
@@ -35,7 +35,7 @@ fn shifted_word(entry: &Entry) -> Option<u16>
 }
 
 /// Whether an entry's key enters the character without shift.
-#[tactic(auto, unfolding(typed_log::specs::Typing::enters))]
+#[tactic(auto, unfolding(law_typed_log::specs::Typing::enters))]
 fn enters(entry: &Entry, character: u8) -> bool
     ensures { result ≡ enters base character entry.now }
 {
@@ -43,7 +43,7 @@ fn enters(entry: &Entry, character: u8) -> bool
 }
 
 /// Whether it enters the character under shift.
-#[tactic(auto, unfolding(typed_log::specs::Typing::enters))]
+#[tactic(auto, unfolding(law_typed_log::specs::Typing::enters))]
 fn enters_shifted(entry: &Entry, character: u8) -> bool
     ensures { result ≡ enters shifted character entry.now }
 {
@@ -58,7 +58,7 @@ fn is_shift(key: Key) -> bool
 }
 
 /// Whether an entry's key is pressed for shift: it sends a shift key's code, and a break.
-#[tactic(auto, unfolding(typed_log::specs::Typing::is_shift_entry))]
+#[tactic(auto, unfolding(law_typed_log::specs::Typing::is_shift_entry))]
 fn is_shift_entry(entry: &Entry) -> bool
     ensures { result ≡ is_shift_entry entry.now }
 {
@@ -115,7 +115,7 @@ fn key_of(character: u8, entries: &[Entry]) -> Option<Stroke>
 }
 
 /// How a byte of a text is typed; None if it has no key, as 00. A line feed is an Enter, as a carriage return is.
-#[tactic(auto, unfolding(typed_log::specs::Typing::stroke_of))]
+#[tactic(auto, unfolding(law_typed_log::specs::Typing::stroke_of))]
 pub(crate) fn stroke_of(layout: &Layout, byte: u8) -> Option<Stroke>
     ensures { option_map meant result ≡ stroke_of layout.now (character byte) }
 {

@@ -4,17 +4,18 @@ ghost use Rattle.std.specs.Prelude.{◌≡◌, ◌≤◌, length, None, Some, If
 ghost use Rattle.std.specs.Option.{option_map};
 ghost use Rattle.layout_reader.specs.Layouts.{IsKeyLayout};
 ghost use Rattle.key_file.specs.Cursors.{history_in};
-ghost use Rattle.typed_log.specs.Typing.{first_without, planned, stroke_start, strokes_of};
+ghost use Rattle.law_typed_log.specs.Typing.{first_without, planned, stroke_start, strokes_of};
 ghost use Rattle.key_planner.specs.Faults.{IsFaultOf};
 ghost use Rattle.key_planner.specs.Plan.{text_plan};
 ghost use Rattle.key_planner.specs.Types.{Types};
 
 use crate::fault::PlanFault;
 use crate::keys::stroke_of;
-use crate::lines::{push_stroke, push_word};
+use crate::lines::push_stroke;
+use key_lines::push_word;
+use law_typed_log::{typed_histories, typed_logs};
 use layout_reader::Layout;
-use std::alloc::Global;
-use typed_log::{typed_histories, typed_logs};
+use std::alloc::{AllocError, Global};
 
 /// The stamp at which the first stroke begins, and the cycles from one stroke to the next.
 const FIRST_STROKE: u64 = 162_816;
@@ -30,19 +31,31 @@ fn stroke_start(number: usize) -> u64
     FIRST_STROKE + STROKE * number as u64
 }
 
-/// The text of the plan.
-fn written(alloc: Global, layout: &Layout, text: &[u8]) -> Result<Vec<u8>, PlanFault>
+/// The first byte of a text that has no key: its number, from 1, and the byte. None if each has one.
+fn keyless(layout: &Layout, text: &[u8]) -> Option<(u32, u8)>
     requires { length text.now ≤ 10000 }
+    ensures { result ≡ first_without layout.now text.now }
+{
+    for number in 0..text.len() {
+        let byte = text[number];
+        if stroke_of(layout, byte).is_none() {
+            return Some((number as u32 + 1, byte));
+        }
+    }
+    None
+}
+
+/// The text of the plan, if each byte of the text has a key.
+fn written(alloc: Global, layout: &Layout, text: &[u8]) -> Result<Vec<u8>, AllocError>
+    requires few { length text.now ≤ 10000 }
+    requires keys { first_without layout.now text.now ≡ None }
     ensures plan { IfOk result (λ plan. text_plan layout.now text.now ≡ Some plan.items) }
-    ensures keys { IfOk result (λ plan. first_without layout.now text.now ≡ None) }
-    ensures fault { IfErr result (IsFaultOf layout.now text.now) }
 {
     let mut plan = Vec::new(alloc);
     for number in 0..text.len() {
-        let byte = text[number];
-        let Some(stroke) = stroke_of(layout, byte) else {
-            let at = number as u32 + 1;
-            return Err(PlanFault::NoKey { at, byte });
+        let Some(stroke) = stroke_of(layout, text[number]) else {
+            // Each byte has a key.
+            unreachable!()
         };
         push_stroke(&mut plan, stroke_start(number), &stroke)?;
     }
@@ -63,8 +76,8 @@ fn is_layout(layout: &Layout)
 /// Ok is exactly the text's plan: the strokes of its bytes, ten ticks of 2,048 cycles each, from stamp 162,816 on. The
 /// host takes a word in each; `end` is if one stroke more would begin. Read again, it is the history of these
 /// strokes, which is accepted for the layout and quiet. Its log says the text: nothing is lost, and the host takes just
-/// the characters. `PlanFault::NoKey` is exactly the first byte that has no key. Want of memory may come with any text,
-/// and says nothing of it.
+/// the characters. `PlanFault::NoKey` is exactly the first byte that has no key. Want of memory comes only with a
+/// text of which each byte has a key.
 pub fn plan(alloc: Global, layout: &Layout, text: &[u8]) -> Result<Vec<u8>, PlanFault>
     requires within { length text.now ≤ 10000 }
     ensures plan { IfOk result (λ plan. text_plan layout.now text.now ≡ Some plan.items) }
@@ -77,5 +90,8 @@ pub fn plan(alloc: Global, layout: &Layout, text: &[u8]) -> Result<Vec<u8>, Plan
     is_layout(layout);
     typed_histories();
     typed_logs();
-    written(alloc, layout, text)
+    if let Some((at, byte)) = keyless(layout, text) {
+        return Err(PlanFault::NoKey { at, byte });
+    }
+    Ok(written(alloc, layout, text)?)
 }

@@ -13,6 +13,10 @@ pub record KeyLayout : Type 0 where
   pub debounce : Bool
   pub entries : List Entry
 
+-- the same layout with a debounce, or without
+abbrev pub with_debounce : Bool → KeyLayout → KeyLayout
+with_debounce debounce layout = record layout { debounce = debounce }
+
 -- the places of the entries, and their keys
 abbrev pub places_of : List Entry → List ℕ
 places_of entries = map (λ entry. entry.place) entries

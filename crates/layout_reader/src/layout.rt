@@ -4,7 +4,7 @@ ghost use Rattle.std.specs.Prelude.{◌≡◌, ◌≤◌, ◌<◌, nat_eq, lengt
 ghost use Rattle.std.specs.List.{IsDistinct, filter};
 ghost use Rattle.layout_reader.specs.Entries.{IsEntry, is_fn};
 ghost use Rattle.layout_reader.specs.Layouts.{KeyLayout, places_of, keys_of, code_at, place_of, entry_at};
-ghost use Rattle.layout_reader.specs.Layouts.{entry_of_key, AreEntries, fn_code_at, fn_place, is_make_only, IsSilentAtFn};
+ghost use Rattle.layout_reader.specs.Layouts.{entry_of_key, AreEntries, fn_code_at, fn_place, is_make_only, IsSilentAtFn, with_debounce};
 
 use crate::entry::Entry;
 use board_terms::Place;
@@ -57,6 +57,13 @@ impl Layout {
         ensures { result ≡ self.now.debounce }
     {
         self.debounce
+    }
+
+    /// The same layout with a debounce, or without.
+    pub fn with_debounce(self, debounce: bool) -> Layout
+        ensures layout { result ≡ with_debounce debounce self }
+    {
+        Layout { debounce, ..self }
     }
 
     /// The entries in the order of the document. There are 84 at most, since no key occurs twice.

@@ -11,3 +11,5 @@ pub mod Gliding
 mod LastBit
 mod Tallying
 mod Rows
+mod Onwards
+mod Starting

@@ -40,15 +40,17 @@ same_level : (b : Bool) → differ b b ≡ false
 same_level true = refl
 same_level false = refl
 
-flat_wires : (l : Lines) → wires_met l l ≡ false
+-- wires that stay as they are don't change
+pub flat_wires : (l : Lines) → wires_met l l ≡ false
 flat_wires l = ap (λ b. b || differ l.dat l.dat) (same_level l.clk) ∙ same_level l.dat
 
 -- a condition that isn't met
-not_met : (asked met : Bool) → met ≡ false → (asked && met) ≡ false
+pub not_met : (asked met : Bool) → met ≡ false → (asked && met) ≡ false
 not_met true met e = e
 not_met false met e = refl
 
-none_of : (a b c d : Bool) → a ≡ false → b ≡ false → c ≡ false → d ≡ false → (a || (b || (c || d))) ≡ false
+-- if none of the four is so, nothing is met
+pub none_of : (a b c d : Bool) → a ≡ false → b ≡ false → c ≡ false → d ≡ false → (a || (b || (c || d))) ≡ false
 none_of a b c d e f g h = ap (λ x. x || (b || (c || d))) e ∙ ap (λ x. x || (c || d)) f ∙ ap (λ x. x || d) g ∙ h
 
 -- what a step does is what the machines before it and after it show

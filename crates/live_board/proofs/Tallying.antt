@@ -29,7 +29,7 @@ use Rattle.live_board.specs.declared.irq.Irq.{Irq}
 use Rattle.live_board.specs.declared.parts.Parts.{Parts as Keyboard}
 
 -- a line that stays as it is doesn't rise, and it rises once at most
-still_rise : (i : Irq) → rise i i ≡ 0
+pub still_rise : (i : Irq) → rise i i ≡ 0
 still_rise i = ap (λ (b : Bool). if b then 1 else 0) (steady i)
 
 once : (b : Bool) → (if b then 1 else 0) ≤ 1

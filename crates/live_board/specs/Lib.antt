@@ -13,3 +13,5 @@ pub mod Stopping
 pub mod Passing
 pub mod Heard
 pub mod Saved
+pub mod Onward
+pub mod OnwardTo

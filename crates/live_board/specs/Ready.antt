@@ -11,6 +11,12 @@ use Rattle.live_board.specs.declared.parts.Parts.{Parts as Keyboard}
 use Rattle.live_board.specs.declared.ran.RunEnd.{RunEnd}
 use Rattle.live_board.specs.declared.refused.Refused.{Refused}
 
+-- it is at power-on, when data memory, A and T hold this byte and nothing is kept of its log
+pub record IsFirst (fill : ℕ) (k : Keyboard) : Type 0 where
+  pub at_first : HasPast (untouched fill k.joint.image.bytes 0) k
+  pub cycle : k.joint.cycle ≡ 0
+  pub none_kept : (k.heard.items.items ≡ []) × (k.heard.lost ≡ 0)
+
 -- it has just been opened: from power-on, when data memory, A and T hold this byte and nothing is kept of its log, it
 -- has run to stamp 0, and there INT 09h was masked, unless the program is stuck. What was said on the way is kept, and
 -- the rises of the line are counted, as of any run and call

@@ -5,6 +5,7 @@ ghost use Rattle.host_turn.specs.Host.{waits};
 ghost use Rattle.live_board.specs.Acts.{IsAnswered};
 ghost use Rattle.live_board.specs.Calls.{IsActed, IsKeyed, Says};
 ghost use Rattle.live_board.specs.Heard.{IsKeptLog};
+ghost use Rattle.live_board.specs.Onward.{IsStepped, with_edge};
 ghost use Rattle.live_board.specs.Pasts.{Past, acted};
 ghost use Rattle.live_board.specs.States.{HasPast};
 
@@ -43,6 +44,7 @@ impl Parts {
             → Says p (acted p (self.old.joint.cycle - 4096) act) self.new.seen.items.items) }
         ensures answered { OnOk result (IsAnswered act self.new.seen.items.items) }
         ensures log_kept { IsKeptLog act self.old result self.new }
+        ensures stepped { IsStepped act self.old result self.new }
     {
         let cycle = self.joint.cycle();
         if cycle < STAMP_0 {
@@ -73,6 +75,7 @@ impl Parts {
         ensures keyed { IsKeyed place down self.old result self.new }
         ensures log_unchanged { (self.new.heard ≡ self.old.heard) × (self.new.rises ≡ self.old.rises) }
         ensures joint { self.new.joint ≡ self.old.joint }
+        ensures waits { OnOk result (self.new ≡ with_edge place down self.old) }
     {
         let cycle = self.joint.cycle();
         if cycle < STAMP_0 {

@@ -4,6 +4,7 @@ ghost use Rattle.std.specs.Prelude.{◌≡◌, ◌≤◌, ◌<◌, ◌^◌, ◌+
 ghost use Rattle.joint_glide.specs.Uneventful.{HasGone};
 ghost use Rattle.joint_run.specs.Due.{with_seen};
 ghost use Rattle.live_board.specs.Heard.{HasKeptAll, heard_all, rise, said_so};
+ghost use Rattle.live_board.specs.Onward.{RunsOn};
 ghost use Rattle.live_board.specs.Passing.{at_fall, passed_by};
 ghost use Rattle.live_board.specs.Pasts.{Past};
 ghost use Rattle.live_board.specs.Rising.{irq_of, rose};
@@ -64,6 +65,7 @@ impl Parts {
         ensures later { self.old.joint.cycle ≤ self.new.joint.cycle }
         ensures run { (p : Past) → HasPast p self.old → HasRun p self.old cycles watched result self.new }
         ensures log_kept { (p : Past) → HasPast p self.old → HasKeptAll p self.old self.new }
+        ensures onward { RunsOn self.old cycles watched result self.new }
     {
         let start = self.joint.cycle();
         let mut was = self.irq();
@@ -91,6 +93,7 @@ impl Parts {
         ensures cycles { self.old.joint.cycle + result.cycles ≡ self.new.joint.cycle }
         ensures run { (p : Past) → HasPast p self.old → HasRun p self.old cycles watched result.end self.new }
         ensures log_kept { (p : Past) → HasPast p self.old → HasKeptAll p self.old self.new }
+        ensures onward { RunsOn self.old cycles watched result.end self.new }
     {
         let start = self.joint.cycle();
         let end = self.go_on(cycles, watched);

@@ -1,13 +1,15 @@
 //! The keyboard that runs as one goes.
 
-ghost use Rattle.std.specs.Prelude.{◌≡◌, ◌+◌, ◌-◌, [], IfOk};
+ghost use Rattle.std.specs.Prelude.{◌≡◌, ◌+◌, ◌-◌, [], IfOk, OnOk, Some};
 ghost use Rattle.board_terms.specs.declared.event.HostAct.TheVariants.{Read60, Status, Take};
 ghost use Rattle.int09.specs.Bios.{start};
 ghost use Rattle.joint_run.specs.Filled.{filled};
+ghost use Rattle.live_board.specs.Answers.{first_in};
 ghost use Rattle.live_board.specs.Acts.{masking_of, write_of};
 ghost use Rattle.live_board.specs.Calls.{IsActed, IsKeyed, GivesFirst};
 ghost use Rattle.live_board.specs.Heard.{HasKeptAll, IsKeptLog, after_next, next_of};
 ghost use Rattle.live_board.specs.Looks.{IsCopied};
+ghost use Rattle.live_board.specs.Onward.{IsStepped, RunsOn, with_edge};
 ghost use Rattle.live_board.specs.Pasts.{Past, acted};
 ghost use Rattle.live_board.specs.Ready.{IsOpened, IsReady};
 ghost use Rattle.live_board.specs.RunCalls.{HasRun};
@@ -47,6 +49,7 @@ impl Keyboard {
     pub fn write(&mut self, port: Port, byte: u8) -> Result<(), Refused>
         ensures acted { IsActed (write_of port byte) self.old result self.new }
         ensures log_kept { IsKeptLog (write_of port byte) self.old result self.new }
+        ensures stepped { IsStepped (write_of port byte) self.old result self.new }
     {
         match port {
             Port::P60 => self.parts.act(HostAct::Write60(byte)),
@@ -58,8 +61,10 @@ impl Keyboard {
     pub fn read60(&mut self) -> Result<u8, Refused>
         ensures acted { IsActed Read60 self.old result self.new }
         ensures log_kept { IsKeptLog Read60 self.old result self.new }
+        ensures stepped { IsStepped Read60 self.old result self.new }
         ensures byte { IfOk result (λ byte. (p : Past) → HasPast p self.old
             → GivesFirst (λ t. t.read) p (acted p (self.old.joint.cycle - 4096) Read60) byte) }
+        ensures said { IfOk result (λ byte. first_in (λ t. t.read) self.new.seen.items.items ≡ Some byte) }
     {
         self.parts.act(HostAct::Read60)?;
         Ok(read_in(self.parts.seen.items.as_slice()))
@@ -69,8 +74,10 @@ impl Keyboard {
     pub fn status(&mut self) -> Result<u8, Refused>
         ensures acted { IsActed Status self.old result self.new }
         ensures log_kept { IsKeptLog Status self.old result self.new }
+        ensures stepped { IsStepped Status self.old result self.new }
         ensures byte { IfOk result (λ byte. (p : Past) → HasPast p self.old
             → GivesFirst (λ t. t.status) p (acted p (self.old.joint.cycle - 4096) Status) byte) }
+        ensures said { IfOk result (λ byte. first_in (λ t. t.status) self.new.seen.items.items ≡ Some byte) }
     {
         self.parts.act(HostAct::Status)?;
         Ok(status_in(self.parts.seen.items.as_slice()))
@@ -80,8 +87,10 @@ impl Keyboard {
     pub fn take(&mut self) -> Result<Option<u16>, Refused>
         ensures acted { IsActed Take self.old result self.new }
         ensures log_kept { IsKeptLog Take self.old result self.new }
+        ensures stepped { IsStepped Take self.old result self.new }
         ensures word { IfOk result (λ word. (p : Past) → HasPast p self.old
             → GivesFirst (λ t. t.taken) p (acted p (self.old.joint.cycle - 4096) Take) word) }
+        ensures said { IfOk result (λ word. first_in (λ t. t.taken) self.new.seen.items.items ≡ Some word) }
     {
         self.parts.act(HostAct::Take)?;
         Ok(taken_in(self.parts.seen.items.as_slice()))
@@ -92,6 +101,7 @@ impl Keyboard {
     pub fn bios(&mut self, on: bool) -> Result<(), Refused>
         ensures acted { IsActed (masking_of on) self.old result self.new }
         ensures log_kept { IsKeptLog (masking_of on) self.old result self.new }
+        ensures stepped { IsStepped (masking_of on) self.old result self.new }
     {
         if on {
             self.parts.act(HostAct::Unmask)
@@ -105,6 +115,7 @@ impl Keyboard {
         ensures keyed { IsKeyed place down self.old result self.new }
         ensures log_unchanged { (self.new.heard ≡ self.old.heard) × (self.new.rises ≡ self.old.rises) }
         ensures joint { self.new.joint ≡ self.old.joint }
+        ensures waits { OnOk result (self.new ≡ with_edge place down self.old) }
     {
         self.parts.key(place, down)
     }
@@ -115,6 +126,7 @@ impl Keyboard {
         ensures cycles { self.old.joint.cycle + result.cycles ≡ self.new.joint.cycle }
         ensures run { (p : Past) → HasPast p self.old → HasRun p self.old cycles watched result.end self.new }
         ensures log_kept { (p : Past) → HasPast p self.old → HasKeptAll p self.old self.new }
+        ensures onward { RunsOn self.old cycles watched result.end self.new }
     {
         self.parts.run(cycles, watched)
     }
@@ -144,14 +156,12 @@ impl Keyboard {
     }
 
     /// The keyboard is switched off and on again: it is as `open` opens it, with its own program, but that data memory, A
-    /// and T hold this byte at power-on. All keys are up, and nothing is left of what was said before.
-    pub fn power_on(&mut self, bios: Bios, fill: u8)
-        requires start { bios ≡ start }
+    /// and T hold this byte at power-on. All keys are up, and nothing is left of what was said before. No memory is taken.
+    pub fn power_on(&mut self, fill: u8)
         ensures opened { IsOpened fill self.old.joint.image.bytes self.new }
         ensures has_past { (p : Past) × (p.bytes ≡ self.old.joint.image.bytes) × (p.held ≡ filled fill) × (p.edges ≡ []) × HasPast p self.new }
     {
-        let parts = Parts::open(self.parts.joint.image(), bios, fill);
-        self.parts = parts;
+        self.parts.switch_on(fill);
     }
 
     /// What happened next since the caller was last handed something, in order; of a step, the byte that passes before
@@ -172,5 +182,13 @@ impl Keyboard {
     {
         let parts = self.parts.copied(alloc)?;
         Ok(Keyboard { parts })
+    }
+
+    /// The keyboard is as another from now on, as its copy is, with the memory that it has.
+    pub fn assign(&mut self, other: &Keyboard)
+        ensures same { IsCopied other.now self.new }
+        ensures has_past { (p : Past) → HasPast p other.now → HasPast p self.new }
+    {
+        self.parts.assign(&other.parts);
     }
 }

@@ -3,6 +3,7 @@
 ghost use Rattle.board_terms.specs.declared.event.HostAct.TheVariants.{Flip};
 ghost use Rattle.live_board.specs.Calls.{IsActed};
 ghost use Rattle.live_board.specs.Heard.{IsKeptLog};
+ghost use Rattle.live_board.specs.Onward.{IsStepped};
 
 use crate::keyboard::Keyboard;
 use crate::refused::Refused;
@@ -14,6 +15,7 @@ impl Keyboard {
     pub fn flip(&mut self, bit: u8) -> Result<(), Refused>
         ensures acted { IsActed (Flip bit) self.old result self.new }
         ensures log_kept { IsKeptLog (Flip bit) self.old result self.new }
+        ensures stepped { IsStepped (Flip bit) self.old result self.new }
     {
         self.parts.act(HostAct::Flip(bit))
     }

@@ -1,6 +1,6 @@
 //! The keyboard's parts, and their joint step.
 
-ghost use Rattle.std.specs.Prelude.{◌≡◌, ◌≤◌, ◌<◌, ◌+◌, ◌-◌, ◌^◌, ◌++◌, ◌∷◌, [], drop, length, map, IfOk, OnErr, OnOk};
+ghost use Rattle.std.specs.Prelude.{ℕ, ◌≡◌, ◌≤◌, ◌<◌, ◌+◌, ◌-◌, ◌^◌, ◌++◌, ◌∷◌, [], drop, length, map, IfOk, OnErr, OnOk};
 ghost use Rattle.int09.specs.Bios.{start};
 ghost use Rattle.joint_run.specs.Due.{due_step, with_seen, IsJointStep};
 ghost use Rattle.joint_run.specs.Filled.{filled};
@@ -9,8 +9,8 @@ ghost use Rattle.live_board.specs.Answers.{line_in, raises};
 ghost use Rattle.live_board.specs.Heard.{heard_all, rise, said_so};
 ghost use Rattle.live_board.specs.Looks.{IsCopied};
 ghost use Rattle.live_board.specs.Passing.{at_fall, passed_by};
-ghost use Rattle.live_board.specs.Pasts.{Past, state_of, untouched};
-ghost use Rattle.live_board.specs.Ready.{IsOpened};
+ghost use Rattle.live_board.specs.Pasts.{Past, state_of};
+ghost use Rattle.live_board.specs.Ready.{IsFirst, IsOpened};
 ghost use Rattle.live_board.specs.Rising.{irq_of};
 ghost use Rattle.live_board.specs.States.{HasPast};
 
@@ -53,8 +53,8 @@ impl Parts {
     /// At power-on, with this program, if data memory, A and T hold this byte.
     fn power_on(image: &Image, bios: Bios, fill: u8) -> Parts
         requires start { bios ≡ start }
-        ensures first { HasPast (untouched fill image.now.bytes 0) result × (result.joint.steps ≡ 0) × (result.joint.cycle ≡ 0) }
-        ensures none_kept { (result.heard.items.items ≡ []) × (result.heard.lost ≡ 0) }
+        ensures first { IsFirst fill result }
+        ensures image { result.joint.image.bytes ≡ image.now.bytes }
     {
         Parts {
             joint: Joint::power_on_filled(image, bios, fill),
@@ -76,9 +76,51 @@ impl Parts {
         ensures has_past { (p : Past) × (p.bytes ≡ image.now.bytes) × (p.held ≡ filled fill) × (p.edges ≡ []) × HasPast p result }
     {
         let mut parts = Parts::power_on(image, bios, fill);
-        let _ = parts.run(STAMP_0, false);
-        let _ = parts.act(HostAct::Mask);
+        parts.begin();
         parts
+    }
+
+    /// At power-on, it is run to stamp 0, and INT 09h is masked there.
+    fn begin(&mut self)
+        ensures opened { (fill : ℕ) → IsFirst fill self.old → IsOpened fill self.old.joint.image.bytes self.new }
+        ensures has_past { (fill : ℕ) → IsFirst fill self.old
+            → (p : Past) × (p.bytes ≡ self.old.joint.image.bytes) × (p.held ≡ filled fill) × (p.edges ≡ []) × HasPast p self.new }
+    {
+        let _ = self.run(STAMP_0, false);
+        let _ = self.act(HostAct::Mask);
+    }
+
+    /// The machine is switched off and on again, with this byte in memory and with its own program, and it is run to stamp 0
+    /// as `open` does. No memory is taken: INT 09h keeps its own.
+    pub(crate) fn switch_on(&mut self, fill: u8)
+        ensures opened { IsOpened fill self.old.joint.image.bytes self.new }
+        ensures has_past { (p : Past) × (p.bytes ≡ self.old.joint.image.bytes) × (p.held ≡ filled fill) × (p.edges ≡ []) × HasPast p self.new }
+    {
+        self.joint.switch_on(fill);
+        self.due = Due {
+            edges: ArrayVec::new(),
+            host: ArrayVec::new(),
+        };
+        self.seen = Seen::nothing();
+        self.heard = Heard::nothing();
+        self.rises = 0;
+        self.begin();
+    }
+
+    /// The parts of another: the machine in the same state, by the same edges that wait. No event of the host does. No memory
+    /// is taken: INT 09h keeps its own.
+    pub(crate) fn assign(&mut self, other: &Parts)
+        ensures same { IsCopied other.now self.new }
+        ensures has_past { (p : Past) → HasPast p other.now → HasPast p self.new }
+    {
+        self.joint.assign(&other.joint);
+        self.due = Due {
+            edges: edge_list(other.due.edges.as_slice()),
+            host: ArrayVec::new(),
+        };
+        self.seen = Seen::nothing();
+        self.heard = other.heard.copied();
+        self.rises = other.rises;
     }
 
     /// Parts of their own: the machine in the same state, by the same edges that wait. No event of the host does.

@@ -2,6 +2,7 @@
 
 ghost use Rattle.std.specs.Prelude.{◌≡◌, ◌≤◌, ◌<◌, ◌^◌, ◌+◌, ◌-◌, ◌⊎◌, None, min, true, false};
 ghost use Rattle.live_board.specs.Heard.{HasKeptAll};
+ghost use Rattle.live_board.specs.OnwardTo.{StopsOn};
 ghost use Rattle.live_board.specs.Pasts.{Past};
 ghost use Rattle.live_board.specs.States.{HasPast};
 ghost use Rattle.live_board.specs.Stopping.{HasStopped, met_by};
@@ -56,6 +57,7 @@ impl Parts {
         ensures later { self.old.joint.cycle ≤ self.new.joint.cycle }
         ensures stopped { (p : Past) → HasPast p self.old → HasStopped stops.now p self.old cycles steps result self.new }
         ensures log_kept { (p : Past) → HasPast p self.old → HasKeptAll p self.old self.new }
+        ensures onward { StopsOn stops.now self.old cycles steps result self.new }
     {
         let start = self.joint.cycle();
         let first = self.joint.steps();
@@ -94,6 +96,7 @@ impl Parts {
         ensures cycles { self.old.joint.cycle + result.cycles ≡ self.new.joint.cycle }
         ensures stopped { (p : Past) → HasPast p self.old → HasStopped stops.now p self.old cycles steps result.end self.new }
         ensures log_kept { (p : Past) → HasPast p self.old → HasKeptAll p self.old self.new }
+        ensures onward { StopsOn stops.now self.old cycles steps result.end self.new }
     {
         let start = self.joint.cycle();
         let end = self.go_to(stops, cycles, steps);
@@ -112,6 +115,7 @@ impl Keyboard {
         ensures cycles { self.old.joint.cycle + result.cycles ≡ self.new.joint.cycle }
         ensures stopped { (p : Past) → HasPast p self.old → HasStopped stops.now p self.old cycles steps result.end self.new }
         ensures log_kept { (p : Past) → HasPast p self.old → HasKeptAll p self.old self.new }
+        ensures onward { StopsOn stops.now self.old cycles steps result.end self.new }
     {
         self.parts.run_to(stops, cycles, steps)
     }

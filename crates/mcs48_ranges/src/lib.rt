@@ -3,5 +3,5 @@
 //!
 //! This layer is definitions in `specs/` and lemmas in `proofs/`: what a row's operands are, and what an instruction,
 //! the timer and an interrupt's entry leave in each part. It knows the opcode table and the processor's definitions,
-//! and no program and no board. The law of a step is a contract in `fw_logic`.
+//! and no program and no board. The law of a step is a contract in `law_fw_logic`.
 #![tactic(auto)]

@@ -1,9 +1,9 @@
 //! A call of the program over a shelf and a sink in memory.
 
 use app_words::Exit;
-use board_probes::{AddressProbe, CellProbe, LineProbe, Probe, RegisterProbe};
 use io_edge::{MemShelf, MemSink};
 use kbd48_app::kbd48;
+use run_probes::{AddressProbe, CellProbe, LineProbe, Probe, RegisterProbe};
 use std::alloc::{AllocError, Global};
 
 /// The file `layout`: a keyboard with one key.

@@ -2,8 +2,8 @@
 
 use crate::calls::call;
 use app_words::Exit;
-use board_probes::{CellProbe, Probe, Tally};
 use io_edge::MemSink;
+use run_probes::{CellProbe, Probe, Tally};
 use std::test::Fail;
 
 /// A probe of one cell, armed with a place and a value.

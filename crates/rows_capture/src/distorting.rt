@@ -3,8 +3,8 @@
 ghost use Rattle.std.specs.Prelude.{◌≤◌};
 
 use board_terms::{Lines, frame_of};
+use capture_frames::{Finding, Listener, Timed, Whole};
 use std::test::Fail;
-use wire_frames::{Finding, Listener, Timed, Whole};
 
 /// What is done to a frame, at one of its eleven pulses.
 #[derive(Clone, Copy, Debug)]

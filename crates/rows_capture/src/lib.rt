@@ -1,17 +1,18 @@
-//! Tests of captures: what dumps say of the two wires, what is found in them, and what is said of it.
+//! Tests of captures: what dumps say of the two wires, what is found in them, what is said of it, and what was typed.
 //!
 //! The dumps are beginnings of what `trace` prints, and the same as sigrok writes it. No layer depends on this crate.
 #![tactic(auto)]
 
 mod distorting;
 mod speaking;
+mod typing;
 
 ghost use Rattle.std.specs.Prelude.{◌<◌, length};
 
+use capture_frames::{Finding, Listener, Said, Timed, Whole};
 use capture_lines::capture;
+use capture_vcd::{Reader, VcdFault};
 use std::test::Fail;
-use vcd_reader::{Reader, VcdFault};
-use wire_frames::{Finding, Listener, Said, Timed, Whole};
 
 /// A frame of the keyboard with the byte AA, and the hold that begins within its last pulse, as `trace` writes them.
 const TEST_PASSED: &[u8] =

@@ -9,7 +9,7 @@ use std::test::Fail;
 
 /// A frame, by who sends it.
 #[derive(Clone, Copy, Debug)]
-enum Sent {
+pub(crate) enum Sent {
     Keyboard(u8),
     Host(u8),
 }
@@ -49,7 +49,10 @@ const SAID_LONE_BREAK: &[u8] =
     b"times outside the limits: 0\nleast clock period: 80.000\nmean clock period: 80.000\ngreatest clock period: 80.000\nbreaks without a code: 1\nbytes asked for three times: 0\n";
 
 /// No dump of these tests is longer.
-const MOST: usize = 100_000;
+pub(crate) const MOST: usize = 100_000;
+
+/// No frame of these tests begins later.
+const MOST_TIME: u32 = 900_000_000;
 
 /// Appends a time and what changes then.
 fn push_change(text: &mut Vec<u8>, time: u32, change: &[u8]) -> Result<(), AllocError> {
@@ -101,12 +104,18 @@ fn push_host(text: &mut Vec<u8>, start: u32, byte: u8) -> Result<(), AllocError>
     push_change(text, start + 2_000, b"1d")
 }
 
-/// The dump of frames, one in 10 ms.
-fn dump_of(rt: &HostRuntime, frames: &[Sent]) -> Result<Vec<u8>, AllocError> {
+/// The dump of frames, one in so many microseconds.
+pub(crate) fn dump_of(
+    rt: &HostRuntime,
+    frames: &[Sent],
+    apart: u32,
+) -> Result<Vec<u8>, AllocError> {
     let mut text = Vec::new(rt.alloc());
     text.extend_from_slice(HEAD)?;
     for (place, frame) in frames.iter().enumerate() {
-        let start = 10_000 * (1 + (place % 100) as u32);
+        let start = apart
+            .saturating_mul(1 + (place % 100) as u32)
+            .min(MOST_TIME);
         match frame {
             Sent::Keyboard(byte) => push_keyboard(&mut text, start, *byte)?,
             Sent::Host(byte) => push_host(&mut text, start, *byte)?,
@@ -122,7 +131,7 @@ fn ends_with(text: &[u8], end: &[u8]) -> bool {
 
 #[test]
 fn three_requests_and_codes_of_set_1_are_said(rt: HostRuntime) -> Result<(), Fail> {
-    let dump = dump_of(&rt, THREE_TIMES)?;
+    let dump = dump_of(&rt, THREE_TIMES, 10_000)?;
     let captured = capture(rt.alloc(), &dump[..dump.len().min(MOST)], b"clock", b"data")?;
     assert!(rt; captured.fault.is_none());
     assert!(rt; ends_with(&captured.text, SAID_THREE_TIMES));
@@ -131,7 +140,7 @@ fn three_requests_and_codes_of_set_1_are_said(rt: HostRuntime) -> Result<(), Fai
 
 #[test]
 fn a_break_without_a_code_is_counted(rt: HostRuntime) -> Result<(), Fail> {
-    let dump = dump_of(&rt, LONE_BREAK)?;
+    let dump = dump_of(&rt, LONE_BREAK, 10_000)?;
     let captured = capture(rt.alloc(), &dump[..dump.len().min(MOST)], b"clock", b"data")?;
     assert!(rt; captured.fault.is_none());
     assert!(rt; ends_with(&captured.text, SAID_LONE_BREAK));

@@ -1,11 +1,11 @@
 //! The model's keyboard with its layout, tick by tick, and worked examples of its keys.
 
 ghost use Rattle.std.specs.Option.{ForSome};
-ghost use Rattle.kbd_model.specs.Codes.{HasCode};
+ghost use Rattle.model_keyboard.specs.Codes.{HasCode};
 
 use board_terms::Place;
-use kbd_model::{Meeting, TickEdge, TickModel};
 use layout_reader::{Layout, read_layout, us84_layout};
+use model_keyboard::{Meeting, TickEdge, TickModel};
 use std::process::Abort;
 use std::test::Fail;
 
@@ -82,7 +82,7 @@ impl Bench {
 
     /// A tick in which a key that sends something goes down or up, in the layer of its press. Returns whether there is such a
     /// key.
-    #[tactic(auto, using(kbd_model::proofs::Silent::has_entry))]
+    #[tactic(auto, using(model_keyboard::proofs::Silent::has_entry))]
     pub(crate) fn key(&mut self, place: Place, down: bool, on_fn: bool) -> bool {
         match self.layout.code_at(place) {
             Some(_) => {

@@ -1,6 +1,6 @@
 //! The queue of the model's keyboard.
 
-use kbd_model::Queue;
+use model_keyboard::Queue;
 
 #[test]
 fn the_seventeenth_byte_is_an_overrun(rt: HostRuntime) {

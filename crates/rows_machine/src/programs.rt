@@ -3,13 +3,13 @@
 ghost use Rattle.std.specs.Prelude.{◌≤◌, length};
 
 use crate::alike::are_alike;
-use board_probes::Probe;
-use board_run::{End, Ended, ProgramRun};
 use io_edge::MemSink;
 use key_file::{History, ListFeed, read_history};
 use layout_reader::us84_layout;
 use mcs48_core::{ALL_HIGH, Mcu, reset};
 use mcs48_isa::Image;
+use run_probes::Probe;
+use run_program::{End, Ended, ProgramRun};
 use std::alloc::{AllocError, Global};
 use std::process::Abort;
 use std::test::Fail;

@@ -1,9 +1,9 @@
 //! Scripts by hand: what they print with and without an armed probe, and each way to be wrong for any number of probes.
 
-use board_probes::{AddressProbe, Probe};
 use debugger::{Debuggee, LineFault, Session, SessionFault, check_script};
 use key_file::read_history;
 use layout_reader::us84_layout;
+use run_probes::{AddressProbe, Probe};
 use std::alloc::{AllocError, Global};
 use std::process::Abort;
 use std::test::Fail;

@@ -7,7 +7,7 @@ use arrayvec::ArrayVec;
 use board_terms::Matrix;
 use fw_compile::compile;
 use fw_kernel::{KERNEL, TICK};
-use fw_logic::at_tick;
+use fw_ticks::at_tick;
 use host_turn::Desk;
 use int09::Bios;
 use joint_run::{Due, Joint, Machine, Outside, Stamped};

@@ -5,7 +5,7 @@ ghost use Rattle.board_terms.specs.Cadence.{IsLast, KeepsCadenceTo, listed};
 
 use key_file::read_history;
 use layout_reader::{Layout, us84_layout};
-use link_model::expect;
+use model_link::expect;
 use pc_tables::Item;
 use std::alloc::{AllocError, Global};
 use std::test::Fail;

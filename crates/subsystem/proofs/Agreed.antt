@@ -3,16 +3,16 @@
 use Rattle.std.proofs.Common.{◌≡◌, ◌≤◌, ℕ, ◌+◌, ◌-◌, List, length, ap, sym, ◌∙◌, arith}
 use Rattle.board_terms.specs.Cadence.{listed}
 use Rattle.fw_kernel.specs.declared.labels.TheConstants.{TICK}
-use Rattle.fw_logic.proofs.Numbers.{same_start}
-use Rattle.fw_logic.specs.JointRun.{KeepsTimeFrom}
+use Rattle.fw_ticks.proofs.Numbers.{same_start}
+use Rattle.fw_ticks.specs.JointRun.{KeepsTimeFrom}
 use Rattle.joint_feed.specs.Stories.{Story}
 use Rattle.joint_run.specs.Joint.{joint_board, joint_start_of}
 use Rattle.joint_run.specs.Run.{Board, World}
 use Rattle.joint_run.specs.Starts.{IsStart}
-use Rattle.agreement.proofs.Upto.{whole_up_to}
-use Rattle.agreement.specs.Agreement.{AgreesFrom}
-use Rattle.link_model.specs.Expected.{Whole, expected}
-use Rattle.link_model.specs.Machine.{KeyboardMachine}
+use Rattle.law_agreement.proofs.Upto.{whole_up_to}
+use Rattle.law_agreement.specs.Agreement.{AgreesFrom}
+use Rattle.model_link.specs.Expected.{Whole, expected}
+use Rattle.model_link.specs.Machine.{KeyboardMachine}
 use Rattle.subsystem.specs.LayoutOutcomes.{IsOutcome, lines_of, Outcome}
 use Rattle.subsystem.proofs.Timekeeping.{ends_at, starts_at}
 

@@ -1,21 +1,22 @@
 -- The tick starts among the first states of a run.
-use Rattle.std.proofs.Common.{◌≡◌, ◌≤◌, ◌<◌, ℕ, zero, suc, ◌+◌, ◌-◌, ◌/◌, Bool, true, false, ◌&&◌, List, []}
+use Rattle.std.proofs.Common.{◌≡◌, ◌≤◌, ◌<◌, ℕ, zero, suc, ◌+◌, ◌-◌, Bool, true, false, ◌&&◌, List, []}
 use Rattle.std.proofs.Common.{◌∷◌, ◌++◌, length, Some, None, refl, ap, sym, subst, ◌∙◌, arith}
 use Rattle.std.specs.Prelude.{if◌then◌else◌, nat_le}
 use Rattle.std.proofs.lemmas.Bool.Decides.{nat_tests}
 use Rattle.std.proofs.lemmas.List.{length-append}
 use Rattle.std.specs.declared.option.Option.{Option}
 use Rattle.board_terms.specs.Cadence.{listed}
-use Rattle.fw_logic.specs.JointRun.{KeepsTimeFrom}
+use Rattle.fw_ticks.specs.JointRun.{KeepsTimeFrom}
 use Rattle.joint_feed.specs.Stories.{Story, state_at, starts_tick}
 use Rattle.joint_run.specs.Joint.{Beside, joint_start_of}
 use Rattle.joint_run.specs.Run.{World}
-use Rattle.story_run.specs.declared.ending.Ending.TheVariants.{TickStart}
-use Rattle.story_run.specs.Running.{GoesOnTo}
-use Rattle.story_run.specs.Starts.{start_stamp, starts_among}
-use Rattle.story_run.proofs.Steps.{before, step_later}
+use Rattle.run_loop.specs.declared.ending.Ending.TheVariants.{TickStart}
+use Rattle.run_loop.specs.Running.{GoesOnTo}
+use Rattle.run_loop.specs.Starts.{start_stamp, starts_among}
+use Rattle.run_loop.proofs.Steps.{before, step_later}
 use Rattle.subsystem.specs.declared.starts.Starts.{Starts}
 use Rattle.subsystem.specs.LogReports.{HasNoted}
+use Rattle.subsystem.specs.Progress.{most_starts}
 use Rattle.subsystem.proofs.Ticks.{AreEach, each_with_if}
 use Rattle.subsystem.proofs.Timekeeping.{numbered}
 
@@ -70,7 +71,7 @@ module _ (s : Story) (t : KeepsTimeFrom (joint_start_of s.held) s.bytes s.edges 
       let open_still : w.cycle < 4096 + s.stop = grind (arith, nat_tests, off) in
       omega (arith, open_still, early)))
 
-  few_by : (k : ℕ) → GoesOnTo TickStart s k → (n : ℕ) → length (starts_among s k) ≡ n → n < s.stop / 2048 + 2
+  few_by : (k : ℕ) → GoesOnTo TickStart s k → (n : ℕ) → length (starts_among s k) ≡ n → n < most_starts s.stop
   few_by k on zero e = omega arith
   few_by k on (suc m) e =
       let below : m < length (starts_among s k) = omega (arith, e) in
@@ -79,7 +80,7 @@ module _ (s : Story) (t : KeepsTimeFrom (joint_start_of s.held) s.bytes s.edges 
       omega (arith, near, so_far)
 
   -- a tick start is at its multiple of 2,048 at least, so there is room for one more
-  pub few_before : (k : ℕ) → GoesOnTo TickStart s k → length (starts_among s k) < s.stop / 2048 + 2
+  pub few_before : (k : ℕ) → GoesOnTo TickStart s k → length (starts_among s k) < most_starts s.stop
   few_before k on = few_by k on (length (starts_among s k)) refl
 
 not_early : (b : Bool) → (b ≡ true → 4096 ≤ 0) → (if b then (0 - 4096) ∷ [] else []) ≡ []

@@ -1,21 +1,21 @@
 -- What a run has come to that was reported.
 use Rattle.std.proofs.Common.{◌≡◌, ℕ, suc, false, List, [], ◌++◌, refl, ap, sym, subst, ◌∙◌, arith}
 use Rattle.std.proofs.lemmas.List.Concat.{flat_map-append}
-use Rattle.fw_logic.specs.JointRun.{KeepsTimeFrom}
-use Rattle.board_probes.specs.Probes.{Watch}
+use Rattle.fw_ticks.specs.JointRun.{KeepsTimeFrom}
+use Rattle.run_probes.specs.Probes.{Watch}
 use Rattle.io_edge.specs.Said.{IsBrokenOff, IsSaid, Shown}
 use Rattle.joint_feed.specs.Stories.{Story}
 use Rattle.joint_feed.specs.declared.course.Course.{Course}
 use Rattle.joint_run.specs.Joint.{joint_start_of}
-use Rattle.link_model.specs.declared.line.LogLine.{LogLine}
-use Rattle.story_run.specs.declared.ending.End.{End}
-use Rattle.story_run.specs.declared.ending.Ending.TheVariants.{TickStart}
-use Rattle.story_run.specs.Advance.{IsEnding}
-use Rattle.story_run.proofs.Ended.{comes_to_end, goes_on_within, over_after}
-use Rattle.story_run.proofs.Texts.{broken_in_all}
-use Rattle.story_run.specs.Running.{log_at}
-use Rattle.story_run.specs.Starts.{starts_among}
-use Rattle.story_run.specs.Reports.{IsReportedTo}
+use Rattle.model_link.specs.declared.line.LogLine.{LogLine}
+use Rattle.run_loop.specs.declared.ending.End.{End}
+use Rattle.run_loop.specs.declared.ending.Ending.TheVariants.{TickStart}
+use Rattle.run_loop.specs.Advance.{IsEnding}
+use Rattle.run_loop.proofs.Ended.{comes_to_end, goes_on_within, over_after}
+use Rattle.run_loop.proofs.Texts.{broken_in_all}
+use Rattle.run_loop.specs.Running.{log_at}
+use Rattle.run_loop.specs.Starts.{starts_among}
+use Rattle.run_loop.specs.Reports.{IsReportedTo}
 use Rattle.subsystem.specs.declared.ended.Ended.{Ended}
 use Rattle.subsystem.specs.declared.starts.Starts.{Starts}
 use Rattle.subsystem.specs.declared.reporting.Putting.{Putting}

@@ -7,13 +7,13 @@ use Rattle.std.proofs.lemmas.List.{get_or_append_left}
 use Rattle.std.proofs.Math.Seq.{get_or-append_seam}
 use Rattle.std.specs.declared.option.Option.{Option}
 use Rattle.board_terms.specs.Cadence.{listed}
-use Rattle.fw_logic.specs.JointRun.{KeepsTimeFrom}
+use Rattle.fw_ticks.specs.JointRun.{KeepsTimeFrom}
 use Rattle.joint_feed.specs.Stories.{Story, state_at, starts_tick}
 use Rattle.joint_run.specs.Joint.{Beside, log_of, joint_start_of}
 use Rattle.joint_run.specs.Run.{World}
-use Rattle.story_run.specs.declared.ending.Ending.TheVariants.{TickStart}
-use Rattle.story_run.specs.Running.{IsOverAfter, log_at, logged}
-use Rattle.story_run.specs.Starts.{start_stamp, starts_among}
+use Rattle.run_loop.specs.declared.ending.Ending.TheVariants.{TickStart}
+use Rattle.run_loop.specs.Running.{IsOverAfter, log_at, logged}
+use Rattle.run_loop.specs.Starts.{start_stamp, starts_among}
 use Rattle.subsystem.specs.LayoutOutcomes.{IsOutcome, Outcome, lines_of}
 use Rattle.subsystem.specs.Progress.{line_so_far, lines_so_far}
 use Rattle.subsystem.proofs.Lines.{lines_whole}

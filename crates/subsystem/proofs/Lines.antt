@@ -8,13 +8,13 @@ use Rattle.std.proofs.lemmas.List.Sums.{sum_by-append}
 use Rattle.board_terms.specs.Cadence.{begun, listed}
 use Rattle.host_turn.specs.declared.stamped.Stamped.{Stamped}
 use Rattle.io_edge.proofs.Pieces.{AreLines, EndsLine}
-use Rattle.link_model.specs.declared.line.LogLine.{LogLine}
+use Rattle.model_link.specs.declared.line.LogLine.{LogLine}
 use Rattle.pc_tables.specs.Items.{text_of}
 use Rattle.subsystem.specs.Account.{in_tick}
 use Rattle.subsystem.specs.Counts.{is_beep, is_port, is_word, with_lines}
 use Rattle.subsystem.specs.Progress.{line_so_far}
-use Rattle.story_run.specs.Running.{AreIn}
-use Rattle.story_run.proofs.Texts.{text_is_lines}
+use Rattle.run_loop.specs.Running.{AreIn}
+use Rattle.run_loop.proofs.Texts.{text_is_lines}
 use Rattle.subsystem.specs.LayoutOutcomes.{line_of, lines_of}
 use Rattle.subsystem.specs.Texts.{line_text, log_text}
 use Rattle.subsystem.specs.declared.counts.Counts.{Counts}

@@ -1,26 +1,26 @@
 -- What is reported after one stretch of steps.
-use Rattle.std.proofs.Common.{◌≡◌, ◌<◌, ◌^◌, ℕ, suc, ◌+◌, ◌-◌, ◌/◌, true, false, List, [], ◌∷◌, ◌++◌}
+use Rattle.std.proofs.Common.{◌≡◌, ◌<◌, ◌^◌, ℕ, suc, ◌-◌, true, false, List, [], ◌∷◌, ◌++◌}
 use Rattle.std.proofs.Common.{length, map, Some, ap, sym, subst, ◌∙◌, arith}
 use Rattle.std.specs.Prelude.{if◌then◌else◌}
 use Rattle.std.proofs.lemmas.List.{append-nil, map-append}
 use Rattle.std.specs.declared.option.Option.{Option}
-use Rattle.fw_logic.specs.JointRun.{KeepsTimeFrom}
+use Rattle.fw_ticks.specs.JointRun.{KeepsTimeFrom}
 use Rattle.joint_feed.proofs.Going.{here}
 use Rattle.joint_feed.specs.Stories.{Story, starts_tick, state_at}
 use Rattle.joint_feed.specs.declared.course.Course.{Course}
 use Rattle.joint_run.specs.Joint.{Beside, log_of, joint_start_of}
 use Rattle.joint_run.specs.Run.{World}
-use Rattle.link_model.specs.declared.line.LogLine.{LogLine}
-use Rattle.story_run.specs.declared.ending.Ending.{Ending}
-use Rattle.story_run.specs.declared.ending.Ending.TheVariants.{TickStart, Stamp}
-use Rattle.story_run.specs.Advance.{IsAtReport}
-use Rattle.story_run.specs.Running.{log_at, logged, step_says}
-use Rattle.story_run.specs.Starts.{start_stamp, starts_among}
-use Rattle.story_run.specs.Gliding.{IsSilent}
-use Rattle.story_run.proofs.Reported.{says_seen}
-use Rattle.story_run.proofs.Steps.{log_grows, said_by, says_in}
+use Rattle.model_link.specs.declared.line.LogLine.{LogLine}
+use Rattle.run_loop.specs.declared.ending.Ending.{Ending}
+use Rattle.run_loop.specs.declared.ending.Ending.TheVariants.{TickStart, Stamp}
+use Rattle.run_loop.specs.Advance.{IsAtReport}
+use Rattle.run_loop.specs.Running.{log_at, logged, step_says}
+use Rattle.run_loop.specs.Starts.{start_stamp, starts_among}
+use Rattle.run_loop.specs.Gliding.{IsSilent}
+use Rattle.run_loop.proofs.Reported.{says_seen}
+use Rattle.run_loop.proofs.Steps.{log_grows, said_by, says_in}
 use Rattle.subsystem.specs.Account.{in_tick}
-use Rattle.subsystem.specs.Progress.{line_so_far, lines_to, lines_so_far}
+use Rattle.subsystem.specs.Progress.{line_so_far, lines_to, lines_so_far, most_starts}
 use Rattle.subsystem.specs.LogReports.{HasNoted}
 use Rattle.subsystem.specs.Putting.{step_lines}
 use Rattle.subsystem.specs.declared.starts.Starts.{Starts}
@@ -80,7 +80,7 @@ lines_of_step c starts = map (in_tick (length starts - 1)) c.seen.items.items
 -- what is reported of one step more, by the starts that were noted: `last` steps were made before it, and it led to this state
 pub record IsOneMore (s : Story) (k : ℕ) (c : Course) (last : ℕ) (world : World Beside) (starts : List ℕ) : Type 0 where
   pub few : length starts < 2 ^ 32
-  pub room : length starts < s.stop / 2048 + 2
+  pub room : length starts < most_starts s.stop
   pub later : k < c.joint.steps
   pub steps : c.joint.steps ≡ suc last
   pub still : lines_so_far s last ≡ lines_so_far s k

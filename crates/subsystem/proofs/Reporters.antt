@@ -9,9 +9,9 @@ use Rattle.joint_feed.specs.Stories.{Story, starts_tick}
 use Rattle.joint_feed.specs.declared.course.Course.{Course}
 use Rattle.joint_run.specs.Joint.{Beside}
 use Rattle.joint_run.specs.Run.{World}
-use Rattle.link_model.specs.declared.line.LogLine.{LogLine}
-use Rattle.story_run.specs.declared.ending.Ending.{Ending}
-use Rattle.story_run.specs.Starts.{start_stamp}
+use Rattle.model_link.specs.declared.line.LogLine.{LogLine}
+use Rattle.run_loop.specs.declared.ending.Ending.{Ending}
+use Rattle.run_loop.specs.Starts.{start_stamp}
 use Rattle.subsystem.specs.Account.{in_tick}
 use Rattle.subsystem.specs.Counts.{none_counted, with_lines}
 use Rattle.subsystem.specs.Progress.{lines_so_far}
@@ -20,7 +20,7 @@ use Rattle.subsystem.specs.LogReports.{HasNoted, HasPut}
 use Rattle.subsystem.specs.Texts.{line_text, log_text}
 use Rattle.subsystem.specs.declared.starts.Starts.{Starts}
 use Rattle.subsystem.specs.declared.reporting.Putting.{Putting}
-use Rattle.story_run.proofs.Texts.{IsOneFurther}
+use Rattle.run_loop.proofs.Texts.{IsOneFurther}
 use Rattle.subsystem.proofs.Lines.{are_lines, lines_in_tick, short_more, with_lines-append}
 use Rattle.subsystem.proofs.Reported.{IsOneMore, lines_more, lines_of_step}
 

@@ -6,14 +6,14 @@ use Rattle.std.proofs.Math.Seq.{get_or-append_seam}
 use Rattle.std.specs.declared.option.Option.{Option}
 use Rattle.board_terms.specs.Cadence.{KeepsCadenceTo, listed}
 use Rattle.fw_kernel.specs.declared.labels.TheConstants.{TICK}
-use Rattle.fw_logic.specs.JointRun.{KeepsTimeFrom}
+use Rattle.fw_ticks.specs.JointRun.{KeepsTimeFrom}
 use Rattle.joint_feed.specs.Stories.{Story, starts_tick}
 use Rattle.joint_run.specs.Joint.{Beside, joint_board, joint_start_of}
 use Rattle.joint_run.specs.Run.{World}
 use Rattle.joint_run.specs.Starts.{start_in, starts_before, IsStart}
 use Rattle.mcs48_core.specs.Status.{digit}
 use Rattle.subsystem.specs.LayoutOutcomes.{IsOutcome, Outcome}
-use Rattle.story_run.specs.Starts.{start_stamp, starts_among}
+use Rattle.run_loop.specs.Starts.{start_stamp, starts_among}
 use Rattle.subsystem.proofs.Ticks.{AreEach, each_with_if, longer_if, one_longer}
 
 -- the run's starts are those at the states before its last one, and this one's

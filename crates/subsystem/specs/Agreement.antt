@@ -1,14 +1,14 @@
 -- What a run says, against what the model expects.
 use Rattle.std.specs.Prelude.{◌≡◌, ◌≤◌, ◌<◌, ◌-◌, ℕ, length}
-use Rattle.agreement.specs.Agreement.{IsPrompt}
+use Rattle.law_agreement.specs.Agreement.{IsPrompt}
 use Rattle.board_terms.specs.Cadence.{KeepsCadenceTo, listed}
 use Rattle.fw_compile.specs.Image.{image_of}
 use Rattle.joint_feed.specs.Stories.{story}
 use Rattle.key_file.specs.Accepted.{IsAccepted, IsLawfulFor}
 use Rattle.key_file.specs.Histories.{KeyHistory}
 use Rattle.layout_reader.specs.Layouts.{KeyLayout, IsKeyLayout}
-use Rattle.link_model.specs.Expected.{expected_log}
-use Rattle.quiet_log.specs.Quiet.{IsQuiet, quiet_log}
+use Rattle.model_link.specs.Expected.{expected_log}
+use Rattle.law_quiet_log.specs.Quiet.{IsQuiet, quiet_log}
 use Rattle.subsystem.specs.LayoutOutcomes.{Outcome, IsOutcome}
 
 -- a run's log is the one that the model expects if its ticks start when the run's do, and these starts keep the

@@ -1,7 +1,7 @@
 -- How many bytes reached port 60h, how many words into the buffer and how many beeps a log has.
 use Rattle.std.specs.Prelude.{◌+◌, Bool, true, false, List, count_by}
 use Rattle.pc_tables.specs.declared.item.Item.TheVariants.{Port, Word, Beep}
-use Rattle.link_model.specs.declared.line.LogLine.{LogLine}
+use Rattle.model_link.specs.declared.line.LogLine.{LogLine}
 use Rattle.subsystem.specs.declared.counts.Counts.{Counts}
 
 abbrev pub is_port : LogLine → Bool

@@ -1,6 +1,6 @@
 -- The outcome of a run whose log wasn't kept.
 use Rattle.joint_feed.specs.Stories.{Story}
-use Rattle.story_run.specs.Running.{log_at}
+use Rattle.run_loop.specs.Running.{log_at}
 use Rattle.subsystem.specs.declared.ended.Ended.{Ended}
 use Rattle.subsystem.specs.LayoutOutcomes.{Outcome, lines_of}
 

@@ -5,9 +5,9 @@ use Rattle.host_turn.specs.declared.stamped.Stamped.{Stamped}
 use Rattle.joint_feed.specs.Stories.{Story, state_at, starts_tick}
 use Rattle.joint_run.specs.Joint.{Beside, log_of}
 use Rattle.joint_run.specs.Run.{World}
-use Rattle.link_model.specs.declared.line.LogLine.{LogLine}
+use Rattle.model_link.specs.declared.line.LogLine.{LogLine}
 use Rattle.mcs48_core.specs.Cpu.{Cpu}
-use Rattle.story_run.specs.Starts.{starts_among}
+use Rattle.run_loop.specs.Starts.{starts_among}
 use Rattle.subsystem.specs.declared.outcome.Run.{Run}
 
 -- an item of the log with its tick

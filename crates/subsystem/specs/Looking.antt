@@ -1,9 +1,9 @@
 -- Probes that ride on a run.
 use Rattle.std.specs.Prelude.{List}
-use Rattle.board_probes.specs.Probes.{Watch}
+use Rattle.run_probes.specs.Probes.{Watch}
 use Rattle.joint_feed.specs.Stories.{Story}
-use Rattle.story_run.specs.declared.ending.Ending.TheVariants.{TickStart}
-use Rattle.story_run.specs.Looking as run
+use Rattle.run_loop.specs.declared.ending.Ending.TheVariants.{TickStart}
+use Rattle.run_loop.specs.Looking as run
 
 -- they have looked at the states that some first steps of the run lead to, of which there may be none
 abbrev pub HaveLookedAtSome : Story → List Watch → List Watch → Type 0

@@ -1,12 +1,12 @@
 -- The run so far, as the loop keeps it.
-use Rattle.std.specs.Prelude.{◌≡◌, ◌≤◌, ◌/◌, ℕ, ◌+◌, ◌-◌, List, [], length, map, vec_capacity}
+use Rattle.std.specs.Prelude.{◌≡◌, ◌/◌, ℕ, ◌+◌, ◌-◌, List, [], length, map, vec_capacity}
 use Rattle.board_terms.specs.Cadence.{begun, listed}
 use Rattle.host_turn.specs.declared.stamped.Stamped.{Stamped}
 use Rattle.joint_feed.specs.Stories.{Story}
 use Rattle.key_file.specs.Feeds.{Fed}
-use Rattle.link_model.specs.declared.line.LogLine.{LogLine}
-use Rattle.story_run.specs.Running.{log_at}
-use Rattle.story_run.specs.Starts.{starts_among}
+use Rattle.model_link.specs.declared.line.LogLine.{LogLine}
+use Rattle.run_loop.specs.Running.{log_at}
+use Rattle.run_loop.specs.Starts.{starts_among}
 use Rattle.subsystem.specs.declared.starts.Starts.{Starts}
 
 -- an item with the number of starts at or before its cycle, less one
@@ -21,7 +21,11 @@ lines_to s starts k = map (line_so_far starts) (log_at s k)
 abbrev pub lines_so_far : Story → ℕ → List LogLine
 lines_so_far s k = lines_to s (starts_among s k) k
 
--- there is room for all starts of a run
+-- how many ticks start at most up to the first start at or after an end stamp: no start comes before its multiple of 2,048
+abbrev pub most_starts : ℕ → ℕ
+most_starts end = (end + 2047) / 2048 + 1
+
+-- there is room for all starts of a run, and for no more
 pub record HasRoom (fed : Fed) (starts : Starts) : Type 0 where
   pub none : starts.stamps.items ≡ []
-  pub room : fed.history.end / 2048 + 2 ≤ vec_capacity starts.stamps
+  pub room : vec_capacity starts.stamps ≡ most_starts fed.history.end

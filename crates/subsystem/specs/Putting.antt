@@ -1,15 +1,15 @@
 -- What a sink has of a run's text if a put failed.
 use Rattle.std.specs.Prelude.{ℕ, suc, ◌-◌, List, length, map}
-use Rattle.board_probes.specs.Probes.{Watch}
+use Rattle.run_probes.specs.Probes.{Watch}
 use Rattle.io_edge.specs.Said.{Shown}
 use Rattle.joint_feed.specs.Stories.{Story}
-use Rattle.link_model.specs.declared.line.LogLine.{LogLine}
-use Rattle.story_run.specs.declared.ending.Ending.TheVariants.{TickStart}
-use Rattle.story_run.specs.Broken.{IsTextBrokenOff}
-use Rattle.story_run.specs.Looking.{BrokeOff}
-use Rattle.story_run.specs.Running.{step_says}
-use Rattle.story_run.specs.Starts.{starts_among}
-use Rattle.story_run.specs.Reports.{IsBrokenAfter}
+use Rattle.model_link.specs.declared.line.LogLine.{LogLine}
+use Rattle.run_loop.specs.declared.ending.Ending.TheVariants.{TickStart}
+use Rattle.run_loop.specs.Broken.{IsTextBrokenOff}
+use Rattle.run_loop.specs.Looking.{BrokeOff}
+use Rattle.run_loop.specs.Running.{step_says}
+use Rattle.run_loop.specs.Starts.{starts_among}
+use Rattle.run_loop.specs.Reports.{IsBrokenAfter}
 use Rattle.subsystem.specs.Account.{in_tick}
 use Rattle.subsystem.specs.Progress.{lines_so_far}
 use Rattle.subsystem.specs.LayoutOutcomes.{IsOutcome, Outcome}

@@ -1,7 +1,7 @@
 -- The tick starts of a run whose log isn't kept.
 use Rattle.std.specs.Prelude.{◌≡◌, ℕ, List}
-use Rattle.board_probes.specs.Looks.{looks}
-use Rattle.board_probes.specs.Probes.{Watch}
+use Rattle.run_probes.specs.Looks.{looks}
+use Rattle.run_probes.specs.Probes.{Watch}
 use Rattle.joint_feed.specs.Stories.{Story}
 use Rattle.subsystem.specs.LayoutOutcomes.{IsOutcome, Outcome}
 

@@ -1,7 +1,7 @@
 -- The log's text: a line an item.
 use Rattle.std.specs.Prelude.{ℕ, List, flat_map}
 use Rattle.pc_tables.specs.Items.{line_of}
-use Rattle.link_model.specs.declared.line.LogLine.{LogLine}
+use Rattle.model_link.specs.declared.line.LogLine.{LogLine}
 
 -- the tick in decimal, a space, the item, LF
 abbrev pub line_text : LogLine → List ℕ

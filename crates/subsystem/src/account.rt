@@ -4,7 +4,7 @@ ghost use Rattle.std.specs.Prelude.{◌≡◌, ◌++◌, OnOk, map};
 ghost use Rattle.subsystem.specs.Account.{in_tick};
 
 use host_turn::Stamped;
-use link_model::LogLine;
+use model_link::LogLine;
 use std::alloc::AllocError;
 
 /// Puts items after a log, in this tick.

@@ -5,7 +5,7 @@ ghost use Rattle.subsystem.specs.Account.{in_tick};
 ghost use Rattle.subsystem.specs.Counts.{none_counted, with_lines};
 
 use host_turn::Stamped;
-use link_model::LogLine;
+use model_link::LogLine;
 use pc_tables::Item;
 
 /// How many bytes reached port 60h, how many words into the buffer of INT 09h, and how many beeps there were.

@@ -3,7 +3,7 @@
 ghost use Rattle.std.specs.Prelude.{◌≡◌, ◌-◌, length, map, IfOk, OnErr};
 ghost use Rattle.board_terms.specs.Cadence.{KeepsCadenceTo, listed};
 ghost use Rattle.fw_compile.specs.Image.{image_of};
-ghost use Rattle.board_probes.specs.Looks.{looks};
+ghost use Rattle.run_probes.specs.Looks.{looks};
 ghost use Rattle.io_edge.specs.Said.{IsSaid};
 ghost use Rattle.joint_feed.specs.Stories.{story};
 ghost use Rattle.key_file.specs.Accepted.{IsAccepted, IsAcceptedFor};
@@ -12,7 +12,7 @@ ghost use Rattle.layout_reader.specs.Layouts.{IsKeyLayout, KeyLayout};
 ghost use Rattle.subsystem.specs.Agreement.{IsAsExpected};
 ghost use Rattle.subsystem.specs.Counts.{none_counted, with_lines};
 ghost use Rattle.subsystem.specs.Ending.{ending};
-ghost use Rattle.story_run.specs.Gliding.{history_of};
+ghost use Rattle.run_loop.specs.Gliding.{history_of};
 ghost use Rattle.subsystem.specs.Looking.{HaveLookedAtSome};
 ghost use Rattle.subsystem.specs.Putting.{HaveLookedToBreak, IsLogBrokenOff};
 ghost use Rattle.subsystem.specs.LayoutOutcomes.{IsOutcome};
@@ -24,16 +24,16 @@ use crate::law::runs_are_expected;
 use crate::outcome::copied;
 use crate::reporting::Putting;
 use crate::starts::Starts;
-use agreement::run_and_model_agree;
-use board_probes::Probe;
 use board_terms::TICK_CYCLES;
 use io_edge::{Sink, SinkFault};
 use joint_feed::Course;
 use key_file::Feed;
+use law_agreement::run_and_model_agree;
 use layout_reader::Layout;
+use run_loop::{Ending, begin_run, make_run};
+use run_probes::Probe;
 use std::alloc::{AllocError, Global};
 use std::marker::Model;
-use story_run::{Ending, begin_run, make_run};
 
 /// The run of a layout's compiled image under the history of a feed, at power-on, with all the memory that it takes. A
 /// clause sees what is run.
@@ -46,8 +46,8 @@ pub struct Engine<F: Feed> {
 
 impl<F: Feed> Model for Engine<F> {
     ghost use Rattle.joint_feed.specs.Stories.{Story, story};
-    ghost use Rattle.story_run.specs.declared.ending.Ending.TheVariants.{TickStart};
-    ghost use Rattle.story_run.specs.Ready.{IsReady};
+    ghost use Rattle.run_loop.specs.declared.ending.Ending.TheVariants.{TickStart};
+    ghost use Rattle.run_loop.specs.Ready.{IsReady};
     ghost use Rattle.subsystem.specs.Progress.{HasRoom};
 
     ghost Value = { Story };
@@ -93,7 +93,7 @@ impl<F: Feed> Engine<F> {
         run_and_model_agree();
         let mut feed = feed;
         let course = begin_run(alloc, layout, &mut feed)?;
-        let most = feed.end() / TICK_CYCLES + 2;
+        let most = (feed.end() + TICK_CYCLES - 1) / TICK_CYCLES + 1;
         let stamps = Vec::with_capacity(alloc, most as usize)?;
         Ok(Engine {
             feed,

@@ -2,8 +2,8 @@
 
 ghost use Rattle.subsystem.specs.Agreement.{RunsAsExpected};
 
-use agreement::run_and_model_agree;
-use quiet_log::{logs_are_limited, quiet_histories};
+use law_agreement::run_and_model_agree;
+use law_quiet_log::{logs_are_limited, quiet_histories};
 
 /// Every run of a layout's compiled image under a history that is lawful for it gives the log that the model expects
 /// if its ticks start when the run's do, and each of these starts is at its multiple of 2,048 or one cycle past it; for a

@@ -1,6 +1,6 @@
 //! The subsystem as a whole: the run of a layout's compiled image under a key history, and the log's text.
 //!
-//! This layer reports the one joint run that `story_run` makes, in which probes look at the state after each step. It
+//! This layer reports the one joint run that `run_loop` makes, in which probes look at the state after each step. It
 //! notes each tick start, and keeps what is said, with its tick, in a list, or puts it into a sink line by line, with no
 //! list of events or of lines. It knows how the log is written. That the log is the one which the model expects is a law
 //! of the layer below. It knows no instruction, no wire and no rule of the keyboard. Source: our own.
@@ -26,7 +26,7 @@ pub use counts::Counts;
 pub use ended::Ended;
 pub use engine::Engine;
 pub use law::runs_are_expected;
-pub use link_model::LogLine;
+pub use model_link::LogLine;
 pub use outcome::Run;
 pub use printing::print_log;
 pub use running::run;

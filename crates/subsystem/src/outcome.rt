@@ -2,8 +2,8 @@
 
 ghost use Rattle.std.specs.Prelude.{◌≡◌};
 
-use link_model::LogLine;
 use mcs48_core::Mcu;
+use model_link::LogLine;
 
 /// A run from power-on to the first tick start at or after the end stamp.
 #[derive(Drop)]

@@ -3,7 +3,7 @@
 ghost use Rattle.std.specs.Prelude.{◌≡◌, ◌++◌, IfOk};
 ghost use Rattle.subsystem.specs.Texts.{log_text};
 
-use link_model::LogLine;
+use model_link::LogLine;
 use pc_tables::item_line;
 use std::alloc::{AllocError, Global};
 

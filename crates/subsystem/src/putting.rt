@@ -8,7 +8,7 @@ use arrayvec::ArrayVec;
 use hex_text::begun;
 use host_turn::Stamped;
 use pc_tables::item_line;
-use story_run::ItemLine;
+use run_loop::ItemLine;
 
 /// Items are in this tick.
 #[derive(Drop)]

@@ -13,9 +13,9 @@ use crate::putting::InTick;
 use crate::starts::Starts;
 use io_edge::{Sink, SinkFault};
 use joint_feed::Course;
-use link_model::LogLine;
+use model_link::LogLine;
+use run_loop::{Reporter, put_items};
 use std::alloc::AllocError;
-use story_run::{Reporter, put_items};
 
 /// Keeps the lines in a list.
 #[derive(Drop)]

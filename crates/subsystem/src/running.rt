@@ -3,12 +3,12 @@
 ghost use Rattle.std.specs.Prelude.{◌≡◌, ◌<◌, ◌-◌, true, length, map, IfOk};
 ghost use Rattle.board_terms.specs.Cadence.{KeepsCadenceTo, listed};
 ghost use Rattle.fw_compile.specs.Image.{image_of};
-ghost use Rattle.board_probes.specs.Looks.{looks};
+ghost use Rattle.run_probes.specs.Looks.{looks};
 ghost use Rattle.joint_feed.specs.Stories.{story};
 ghost use Rattle.key_file.specs.Accepted.{IsAcceptedFor};
 ghost use Rattle.layout_reader.specs.Layouts.{IsKeyLayout};
-ghost use Rattle.link_model.specs.Expected.{expected_log};
-ghost use Rattle.quiet_log.specs.Quiet.{IsQuiet, quiet_log};
+ghost use Rattle.model_link.specs.Expected.{expected_log};
+ghost use Rattle.law_quiet_log.specs.Quiet.{IsQuiet, quiet_log};
 ghost use Rattle.subsystem.specs.Looking.{HaveLookedAtSome};
 ghost use Rattle.subsystem.specs.LayoutOutcomes.{IsRun};
 
@@ -16,14 +16,14 @@ use crate::law::runs_are_expected;
 use crate::outcome::{Run, copied};
 use crate::reporting::Keeping;
 use crate::starts::Starts;
-use agreement::run_and_model_agree;
-use board_probes::Probe;
 use joint_feed::Course;
 use key_file::{History, ListFeed};
+use law_agreement::run_and_model_agree;
 use layout_reader::Layout;
-use link_model::LogLine;
+use model_link::LogLine;
+use run_loop::{Ending, begin_run, make_run};
+use run_probes::Probe;
 use std::alloc::{AllocError, Global};
-use story_run::{Ending, begin_run, make_run};
 
 /// The outcome of a run that is over.
 fn outcome_of(course: &Course, starts: Starts, log: Vec<LogLine>) -> Run

@@ -4,10 +4,10 @@ ghost use Rattle.std.specs.Prelude.{◌≡◌, ◌-◌, ◌++◌, ◌^◌, ◌<�
 ghost use Rattle.joint_feed.specs.Stories.{Story, starts_tick};
 ghost use Rattle.joint_run.specs.Joint.{Beside};
 ghost use Rattle.joint_run.specs.Run.{World};
-ghost use Rattle.story_run.specs.Starts.{start_stamp};
+ghost use Rattle.run_loop.specs.Starts.{start_stamp};
 
 use board_terms::STAMP_0;
-use fw_logic::at_tick;
+use fw_ticks::at_tick;
 use joint_run::Joint;
 use std::alloc::AllocError;
 

@@ -10,9 +10,9 @@ ghost use Rattle.subsystem.specs.Looking.{HaveLookedAtSome};
 ghost use Rattle.subsystem.specs.Starts.{AreStartsOf};
 
 use crate::running::run;
-use board_probes::Probe;
 use key_file::History;
 use layout_reader::Layout;
+use run_probes::Probe;
 use std::alloc::{AllocError, Global};
 
 /// The stamps of the tick starts in the run that `run` makes. After each step each probe looks at the state that it led

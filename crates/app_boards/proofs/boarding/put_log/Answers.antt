@@ -1,6 +1,6 @@
 use Rattle.std.proofs.Common.{sym, subst, ◌∙◌}
 use Rattle.std.specs.Prelude.{OnErr, OnOk}
-use Rattle.board_run.specs.Ending.{ending}
+use Rattle.run_program.specs.Ending.{ending}
 use Rattle.io_edge.specs.Said.{IsBrokenOff, IsSaid}
 use Rattle.app_words.specs.declared.words.BoardCommand.TheVariants.{Log}
 use Rattle.app_boards.proofs.BoardsAreSaid.{cut, over_after, stuck_after}

@@ -1,5 +1,5 @@
 use Rattle.std.proofs.Common.{Ok, sym, ◌∙◌}
-use Rattle.board_run.specs.Ending.{ending}
+use Rattle.run_program.specs.Ending.{ending}
 use Rattle.io_edge.proofs.Pieces.{none_said}
 use Rattle.app_words.specs.declared.words.BoardCommand.TheVariants.{Trace}
 use Rattle.app_boards.proofs.BoardsAreSaid.{cut, over_after, stuck_after}
@@ -10,14 +10,14 @@ returns-in-Err g c =
     let x = g.K.Sink.shown c.args.out.now in
     let z = g.K.Sink.shown c.trace_to.new.out in
     let part = c.in-Err.ensures.broken in
-    record { says = cut Trace c.args.board _ _ part.run part.is c.in-Err.fault x z c.in-Err.ensures.looked_to_break part.part }
+    record { says = cut (Trace c.args.seen) c.args.board _ _ part.run part.is c.in-Err.fault x z c.in-Err.ensures.looked_to_break part.part }
 
 pub returns : goal.returns
 returns g c =
     let x = g.K.Sink.shown c.args.out.now in
     let y = g.K.Sink.shown c.trace_to.new.out in
     record {
-      says = stuck_after Trace c.args.board _ _ (ending c.args.board c.in-Ok.ended) c.in-Ok.ensures.run c.in-Ok.ensures.looked
+      says = stuck_after (Trace c.args.seen) c.args.board _ _ (ending c.args.board c.in-Ok.ended) c.in-Ok.ensures.run c.in-Ok.ensures.looked
           c.in-Stuck.stuck x y (sym c.end.ensures.end ∙ c.in-Stuck.is) c.in-Ok.ensures.said;
     }
 
@@ -27,6 +27,6 @@ returns-in-Over g c =
     let y = g.K.Sink.shown c.trace_to.new.out in
     let run = ending c.args.board c.in-Ok.ended in
     record {
-      says = over_after Trace c.args.board _ _ run c.in-Ok.ensures.run c.in-Ok.ensures.looked (Ok tt)
+      says = over_after (Trace c.args.seen) c.args.board _ _ run c.in-Ok.ensures.run c.in-Ok.ensures.looked (Ok tt)
           x y y (sym c.end.ensures.end ∙ c.in-Over.is) c.in-Ok.ensures.said (none_said y) tt;
     }

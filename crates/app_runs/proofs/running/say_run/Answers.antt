@@ -17,7 +17,7 @@ returns-in-Log-clause-says g c =
 
 pub returns-in-Trace-clause-says : goal.returns-in-Trace-clause-says
 returns-in-Trace-clause-says g c =
-    said_by_run c.args.command Trace c.args.layout.now c.args.text.now _ _ c.trace_wires.result
+    said_by_run c.args.command (Trace c.in-Trace.seen) c.args.layout.now c.args.text.now _ _ c.trace_wires.result
     (g.K.Sink.shown c.args.out.now)
     (g.K.Sink.shown c.trace_wires.new.out)
     c.in-Trace.is (c.trace_wires.ensures.says _)

@@ -1,7 +1,7 @@
 use Rattle.std.proofs.Common.{refl, subst, ◌∙◌, arith}
 use Rattle.io_edge.specs.Said.{IsBrokenOff, IsSaid}
 use Rattle.io_edge.proofs.Taken.{on_err}
-use Rattle.story_run.proofs.Texts.{line_cut, line_said}
+use Rattle.run_loop.proofs.Texts.{line_cut, line_said}
 use Rattle.app_runs.proofs.StartsAreLines.{ends, next_line}
 use Rattle.app_runs.proofs.streaming.put_starts.Goals as goal
 

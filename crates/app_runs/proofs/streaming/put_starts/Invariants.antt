@@ -1,6 +1,6 @@
 use Rattle.std.proofs.Common.{drop}
 use Rattle.app_runs.specs.RunTexts.{start_lines}
-use Rattle.story_run.proofs.Texts.{IsSaidTo}
+use Rattle.run_loop.proofs.Texts.{IsSaidTo}
 use Rattle.app_runs.proofs.streaming.put_starts.Given as goal
 
 abbrev pub invariant-loop-number : goal.invariant-loop-number

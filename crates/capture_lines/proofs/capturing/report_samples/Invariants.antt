@@ -1,7 +1,7 @@
 use Rattle.std.proofs.Common.{◌≡◌, length}
 use Rattle.capture_lines.specs.Captures.{found_by, reported_all}
 use Rattle.capture_lines.specs.Timing.{timed_all}
-use Rattle.wire_frames.specs.Listening.{at_first}
+use Rattle.capture_frames.specs.Listening.{at_first}
 use Rattle.capture_lines.proofs.capturing.report_samples.Given as goal
 
 -- what is left is reported from here on

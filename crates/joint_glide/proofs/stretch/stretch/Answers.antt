@@ -1,6 +1,7 @@
-use Rattle.std.proofs.Common.{◌≡◌, ◌≤◌, ◌+◌, ◌*◌, ◌%◌, ◌==◌, false, ap, sym, ◌∙◌, arith}
+use Rattle.std.proofs.Common.{inl, inr, ◌≡◌, ◌≤◌, ◌+◌, ◌*◌, ◌%◌, ◌==◌, false, ap, sym, ◌∙◌, arith}
 use Rattle.mcs48_core.specs.Leap.{spun}
 use Rattle.joint_run.specs.declared.machine.Machine.{Machine}
+use Rattle.joint_glide.specs.Uneventful.{is_at}
 use Rattle.joint_glide.proofs.Turns.{parts_leapt, parts_on, turn_leapt, turn_on, turn_stuck, turn_reported, turn_written}
 use Rattle.joint_glide.proofs.stretch.stretch.Goals as goal
 
@@ -12,6 +13,7 @@ returns-in-Err c =
           turn_stuck c.args.due.now c.args.tick_pc c.args.joint.now c.steps.joint c.args.room c.steps.steps c.steps.passed
           c.requires.still inv.parts inv.latch inv.quiet c.steps-test.true
           c.call.new.joint c.count.new.self c.call.ensures.parts c.in-Err.stuck c.in-Err.ensures.step c.count.ensures.counted;
+      far = tt;
     }
 
 pub returns-then-port_2-latch : goal.returns-then-port_2-latch
@@ -25,6 +27,9 @@ returns-then-port_2-latch c =
           c.in-Ok.ensures.some c.in-Ok.ensures.few c.in-Ok.ensures.step
           c.end_step.new.self c.end_step.new.seen c.count-then-port_2-latch.ensures.counted c.end_step.ensures.ended
           c.end_step.ensures.seen c.end_step.ensures.cycles;
+      far = inl (λ same.
+          let kept = ap (λ (m : Machine). m.mcu.p2) c.end_step.ensures.ended ∙ ap (λ (m : Machine). m.mcu.p2) c.count-then-port_2-latch.ensures.counted in
+          c.if-port_2-latch.true (c.port_2.ensures ∙ sym kept ∙ same ∙ sym c.port_2-latch.ensures));
     }
 
 pub returns-then-is_at : goal.returns-then-is_at
@@ -39,6 +44,7 @@ returns-then-is_at c =
           c.call.new.joint c.count-then-is_at.new.self c.call.ensures.parts c.in-Ok.cycles c.in-Ok.ensures.some
           c.in-Ok.ensures.few c.in-Ok.ensures.step kept
           c.lines-line.result c.report.new.seen c.lines-line.ensures.wires c.count-then-is_at.ensures.counted c.report.ensures;
+      far = inr (ap (λ (m : Machine). is_at c.args.tick_pc m) c.count-then-is_at.ensures.counted ∙ sym c.is_at.ensures ∙ c.if-is_at.true);
     }
 
 pub steps-preserved : goal.steps-preserved

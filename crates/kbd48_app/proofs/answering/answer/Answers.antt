@@ -1,11 +1,11 @@
 use Rattle.std.proofs.Common.{sym, ◌∙◌, ap, map, string_bytes, Some}
 use Rattle.app_answers.specs.FileAnswers.{file_said}
 use Rattle.app_words.specs.Kinds.{kind_of}
-use Rattle.app_words.specs.declared.words.Command.TheVariants.{OverFile, OverPair, Debug, Probe, Board, Capture}
-use Rattle.kbd48_app.specs.Plans.{Boards, Fetches, Gives, capture_plan, debug_plan, pair_plan, probe_plan, program_plan}
-use Rattle.app_words.specs.Words.{clock_in, name_in}
+use Rattle.app_words.specs.declared.words.Command.TheVariants.{OverFile, OverPair, Debug, Probe, Board, Capture, Typed}
+use Rattle.kbd48_app.specs.Plans.{Boards, Fetches, Gives, capture_plan, debug_plan, pair_plan, probe_plan, program_plan, typed_plan}
+use Rattle.app_words.specs.Words.{clock_in, name_in, second_in, third_in, typed_clock_in}
 use Rattle.kbd48_app.proofs.AnswersAreSpoken.{sample_spoken, spoken_as, unsaid_as}
-use Rattle.kbd48_app.proofs.WordsAreNames.{named_1, named_2, named_3, named_4}
+use Rattle.kbd48_app.proofs.WordsAreNames.{named_1, named_2, named_3, named_4, named_after}
 use Rattle.kbd48_app.proofs.answering.answer.Goals as goal
 
 pub returns-in-Some-OverFile-clause-ends : goal.returns-in-Some-OverFile-clause-ends
@@ -89,3 +89,19 @@ returns-in-Some-Capture-clause-ends g c =
     c.over_capture.result
     (g.K.Sink.shown c.args.out.now)
     (g.K.Sink.shown c.over_capture.new.out) (c.over_capture.ensures.ends _)
+
+pub returns-in-Some-Typed-clause-ends : goal.returns-in-Some-Typed-clause-ends
+returns-in-Some-Typed-clause-ends g c =
+    let words = map string_bytes c.args.words.now in
+    unsaid_as c.args.words.now (g.F.Shelf.in_memory c.args.shelf.now) _ Typed
+    (typed_plan c.typed_clock_in.result.now c.typed_data_in.result.now c.deref-in-Some-Typed.result.now c.deref-in-Some-Typed-2.result.now) _ _
+    (sym c.read_command.ensures.command ∙ (c.in-Some-Typed.is ∙ ap (λ f. Some f) c.in-Some-Typed.field-0-is))
+    (named_after c.args.words.now (typed_plan c.typed_clock_in.result.now c.typed_data_in.result.now)
+    c.index-words-2-in-Some-Typed.result c.index-words-3-in-Some-Typed.result _ _
+    (rw c.in-Some-Typed.field-0-is at c.in-Some-Typed.ensures.named)
+    c.index-words-2-in-Some-Typed.is c.index-words-3-in-Some-Typed.is c.deref-in-Some-Typed.ensures c.deref-in-Some-Typed-2.ensures
+    ∙ (ap (λ name. typed_plan name c.typed_data_in.result.now (second_in words) (third_in words)) c.typed_clock_in.ensures.name
+    ∙ ap (λ name. typed_plan (typed_clock_in words) name (second_in words) (third_in words)) c.typed_data_in.ensures.name))
+    c.to_say-in-Some-Typed.result c.over_typed.result
+    (g.K.Sink.shown c.args.out.now)
+    c.to_say-in-Some-Typed.ensures (c.over_typed.ensures.ends _)

@@ -1,5 +1,6 @@
 use Rattle.std.proofs.Common.{ap, sym, subst, ◌∙◌, ◌+◌, rules, w32}
 use Rattle.std.proofs.lemmas.Int.{to_z-of_z}
+use Rattle.live_board.specs.Onward.{RunsOn}
 use Rattle.live_board.specs.RunCalls.{HasRun}
 use Rattle.edge_queue.specs.Queue.{queue_of}
 use Rattle.kbd48_c.specs.Queueing.{handed_now, past_with}
@@ -25,5 +26,6 @@ returns c =
             subst (λ n. HasRun (past_with (handed_now q k) k p) middle n c.args.watched c.run-ran.result.end after) c.room-room.ensures.room
             (run.run (past_with (handed_now q k) k p) (hands.has_past p s));
         log_kept = λ p s. run.log_kept (past_with (handed_now q k) k p) (hands.has_past p s);
+        onward = subst (λ n. RunsOn middle n c.args.watched c.run-ran.result.end after) c.room-room.ensures.room run.onward;
       };
     }

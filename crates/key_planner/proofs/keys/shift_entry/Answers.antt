@@ -1,7 +1,7 @@
 use Rattle.std.proofs.Common.{rules, tests}
 use Rattle.std.proofs.lemmas.Iterator.{YieldsList-from_slice}
 use Rattle.std.proofs.lemmas.Iterator.Search.{find_from_yields_List}
-use Rattle.typed_log.specs.Typing.{is_shift_entry}
+use Rattle.law_typed_log.specs.Typing.{is_shift_entry}
 use Rattle.key_planner.proofs.keys.shift_entry.Goals as goal
 
 pub returns-in-Some : goal.returns-in-Some

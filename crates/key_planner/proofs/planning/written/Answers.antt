@@ -1,5 +1,5 @@
 use Rattle.std.proofs.Common.{◌≡◌, ◌+◌, ◌++◌, get_or, Some, ap, sym, subst, ◌∙◌}
-use Rattle.typed_log.specs.Typing.{character, stroke_of, stroke_start}
+use Rattle.law_typed_log.specs.Typing.{character, stroke_of, stroke_start}
 use Rattle.key_planner.specs.Kept.{meant}
 use Rattle.key_planner.specs.Plan.{stroke_lines}
 use Rattle.key_planner.proofs.Written.{IsSoFar, so_far-first, so_far-next}

@@ -1,9 +1,9 @@
-use Rattle.std.proofs.Common.{◌<◌, length, refl, subst, sym, ◌∙◌}
-use Rattle.agreement.proofs.Run.{cleared}
+use Rattle.std.proofs.Common.{◌<◌, length, subst, sym, ◌∙◌}
+use Rattle.law_agreement.proofs.Run.{cleared}
 use Rattle.board_terms.specs.Cadence.{listed}
 use Rattle.fw_compile.specs.Image.{image_of}
 use Rattle.joint_feed.specs.Stories.{story}
-use Rattle.link_model.specs.Machine.{keyboard}
+use Rattle.model_link.specs.Machine.{keyboard}
 use Rattle.mcs48_core.specs.Reset.{reset_cpu}
 use Rattle.subsystem.proofs.Agreed.{log_as_expected}
 use Rattle.subsystem.proofs.Timekeeping.{keeps_cadence, starts_at}

@@ -1,12 +1,12 @@
 use Rattle.std.proofs.Common.{ap, subst, sym, ◌∙◌}
 use Rattle.std.proofs.lemmas.List.{append-nil}
 use Rattle.fw_compile.specs.Image.{image_of}
-use Rattle.fw_logic.specs.JointRun.{KeepsTime}
+use Rattle.fw_ticks.specs.JointRun.{KeepsTime}
 use Rattle.joint_feed.specs.Stories.{Story, story}
 use Rattle.subsystem.specs.LayoutOutcomes.{IsOutcome, outcome}
 use Rattle.subsystem.proofs.Begun.{begins}
-use Rattle.story_run.specs.declared.ending.Ending.TheVariants.{TickStart}
-use Rattle.story_run.proofs.Looked.{looked_by, some_looked, some_looked_to_break}
+use Rattle.run_loop.specs.declared.ending.Ending.TheVariants.{TickStart}
+use Rattle.run_loop.proofs.Looked.{looked_by, some_looked, some_looked_to_break}
 use Rattle.subsystem.proofs.Came.{came_kept}
 use Rattle.subsystem.proofs.Timekeeping.{serves_at_end}
 use Rattle.key_file.proofs.Lawful.{lawful_for}

@@ -1,7 +1,7 @@
 use Rattle.std.proofs.Common.{◌≡◌, ap, subst, sym, ◌∙◌}
 use Rattle.debugger.specs.Advance.{DecidesSessionOver}
 use Rattle.debugger.specs.Sessions.{has_ended}
-use Rattle.board_probes.specs.Stuck.{sticks}
+use Rattle.run_probes.specs.Stuck.{sticks}
 use Rattle.debugger.proofs.SessionStates.{debuggee_in, ended_so}
 use Rattle.debugger.proofs.session.Session.has_ended.Goals as goal
 

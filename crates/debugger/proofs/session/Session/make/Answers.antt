@@ -1,6 +1,6 @@
 use Rattle.std.proofs.Common.{List, [], map, refl, sym, ◌∙◌, arith}
-use Rattle.board_probes.proofs.Over.{seen_map}
-use Rattle.board_probes.specs.Probes.{Watch, looked, sight_of}
+use Rattle.run_probes.proofs.Over.{seen_map}
+use Rattle.run_probes.specs.Probes.{Watch, looked, sight_of}
 use Rattle.debugger.proofs.Making.{made_none, made_some, resting}
 use Rattle.debugger.proofs.session.Session.make.Goals as goal
 

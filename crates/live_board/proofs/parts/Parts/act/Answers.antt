@@ -4,6 +4,7 @@ use Rattle.host_turn.specs.Host.{waits}
 use Rattle.joint_run.specs.Due.{due_step}
 use Rattle.joint_run.specs.declared.due.Due.{Due}
 use Rattle.live_board.proofs.Calling.{acted_on, acted_stuck, answered_here, says_on, holds_still, stuck_at}
+use Rattle.live_board.proofs.Onwards.{host_step, no_step}
 use Rattle.live_board.proofs.Passed.{passed_over}
 use Rattle.live_board.proofs.Stepping.{counted}
 use Rattle.live_board.proofs.Watching.{line_here}
@@ -95,6 +96,31 @@ returns-in-Ok-clause-answered c =
     c.one_event-self.ensures ∙ ap (λ n. record { stamp = n - 4096; act = act } ∷ []) cycle in
     let e = c.in-Ok.ensures in
     answered_here k act late room due c.step.new.self.joint c.step.new.self.seen only e.some e.step
+
+pub returns-in-Ok-clause-stepped : goal.returns-in-Ok-clause-stepped
+returns-in-Ok-clause-stepped c =
+    let k = c.args.self.now in
+    let act = c.args.act in
+    let cycle = c.cycle-cycle.ensures.cycle in
+    let only : c.one_event-self.result.items ≡ record { stamp = k.joint.cycle - 4096; act = act } ∷ [] =
+    c.one_event-self.ensures ∙ ap (λ n. record { stamp = n - 4096; act = act } ∷ []) cycle in
+    let e = c.in-Ok.ensures in (
+      host_step k act c.one_event-self.result only (record c.step.new.self { due = record c.step.new.self.due { host = c.new-self.result } })
+          e.step e.edges e.kept e.risen,
+      c.new-self.ensures,
+    )
+
+pub returns-in-Err-clause-stepped : goal.returns-in-Err-clause-stepped
+returns-in-Err-clause-stepped c =
+    let k = c.args.self.now in
+    let act = c.args.act in
+    let cycle = c.cycle-cycle.ensures.cycle in
+    let only : c.one_event-self.result.items ≡ record { stamp = k.joint.cycle - 4096; act = act } ∷ [] =
+    c.one_event-self.ensures ∙ ap (λ n. record { stamp = n - 4096; act = act } ∷ []) cycle in
+    let e = c.in-Err.ensures in (
+      no_step k act c.one_event-self.result only c.step.new.self.joint c.in-Err.stuck e.step,
+      ap (λ (d : Due). d.edges) e.unchanged.1,
+    )
 
 pub returns-in-Err-clause-acted : goal.returns-in-Err-clause-acted
 returns-in-Err-clause-acted c =

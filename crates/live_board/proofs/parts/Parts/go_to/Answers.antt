@@ -1,8 +1,11 @@
 use Rattle.std.proofs.Common.{◌<◌, ◌+◌, false, refl, ap, sym, ◌∙◌, inl, inr, arith}
 use Rattle.live_board.proofs.Gliding.{cycles_on, goes_all, has_stuck, one_step, so_last, holds_on, stuck_later}
 use Rattle.live_board.proofs.Meeting.{as_met, last_unmet, lines_of, met_last, steps_few, steps_later, stuck_few, stuck_unmet, unmet_more}
+use Rattle.live_board.proofs.Onwards.{ends_met, goes_onward, quiet_unmet, stuck_onward, stuck_soon, unmet_step}
 use Rattle.live_board.proofs.Tallying.{rise_few, tally_first, tally_on, tally_stuck}
 use Rattle.live_board.proofs.Watching.{before_on, goes_first, goes_still}
+use Rattle.live_board.specs.Onward.{begun}
+use Rattle.live_board.specs.OnwardTo.{IsUnmetStep}
 use Rattle.live_board.specs.Rising.{irq_of}
 use Rattle.live_board.specs.Stopping.{is_met}
 use Rattle.live_board.proofs.parts.Parts.go_to.Goals as goal
@@ -21,6 +24,7 @@ going-init c =
       so_far = λ p s. goes_still p old c.args.cycles false old (record old { rises = 0 }) refl refl
           (goes_first p old c.args.cycles false s);
       unmet = λ p s j l m. absurd (omega (arith, l, m));
+      onward = (0, refl);
       log_kept = λ p s. tally_first p old (record old { rises = 0 }) refl refl refl;
     }
 
@@ -68,6 +72,16 @@ going-preserved c =
           ∙ as_met c.args.stops.now new c.met-met.result c.irq-was.result (irq_of k.joint.outside.desk.port)
           c.lines-lines.result (lines_of k.joint) c.met-met.ensures c.irq-was.ensures.irq c.lines-lines.ensures.wires)
           ∙ flat);
+      onward =
+          let to = old.joint.cycle + c.args.cycles in
+          let stops = c.args.stops.now in
+          let quietly = quiet_unmet stops to k.joint.cycle most c.quiet_room-most.ensures.alone (omega (arith, room)) in
+          goes_onward k new most to (IsUnmetStep stops to) inv.onward.0 (begun old) inv.onward.1 room quietly g e.edges e.host
+          c.irq-was.result c.irq-was.ensures.irq e.kept e.risen
+          (unmet_step k new most to (IsUnmetStep stops to) inv.onward.0 (begun old) inv.onward.1 room quietly g e.edges e.host
+          c.irq-was.result c.irq-was.ensures.irq e.kept e.risen stops
+          (ap is_met (as_met stops new c.met-met.result c.irq-was.result (irq_of k.joint.outside.desk.port)
+          c.lines-lines.result (lines_of k.joint) c.met-met.ensures c.irq-was.ensures.irq c.lines-lines.ensures.wires) ∙ flat));
       log_kept = λ p s.
           tally_on k new most g p old c.args.cycles false (inv.so_far p s) room e.edges e.host c.irq-was.result
           c.irq-was.ensures.irq e.kept e.risen (inv.log_kept p s);
@@ -262,3 +276,100 @@ returns-clause-stopped c =
 
 pub returns-clause-log_kept : goal.returns-clause-log_kept
 returns-clause-log_kept c = c.going.invariant.log_kept
+
+pub returns-then-is_full-clause-onward : goal.returns-then-is_full-clause-onward
+returns-then-is_full-clause-onward c =
+    let inv = c.going.invariant in
+    let full = c.is_full.ensures.full c.if-is_full.true in
+    let made = c.steps-made.ensures.steps in
+    let first = inv.first in
+    let above = inv.more in
+    let limit = inv.limit in
+    (inv.onward.0, inv.onward.1, inv.limit, inr (omega (arith, full, made, first, above, limit)))
+
+pub returns-then-cycle-ge-LAST-clause-onward : goal.returns-then-cycle-ge-LAST-clause-onward
+returns-then-cycle-ge-LAST-clause-onward c =
+    let inv = c.going.invariant in
+    let over = c.if-cycle-ge-LAST.true in
+    let at = c.cycle-cycle.ensures.cycle in
+    let test = c.going-test.true in
+    let now = c.cycle.ensures.cycle in
+    let start = inv.start in
+    let later = inv.later in
+    let room = c.is_full.ensures.room c.if-is_full.false in
+    let made = c.steps-made.ensures.steps in
+    let first = inv.first in
+    let above = inv.more in (
+      inv.onward.0,
+      inv.onward.1,
+      omega (arith, over, at),
+      record { soon = omega (arith, test, now, start, later); few = omega (arith, room, made, first, above) },
+    )
+
+pub returns-in-Err-clause-onward : goal.returns-in-Err-clause-onward
+returns-in-Err-clause-onward c =
+    let inv = c.going.invariant in
+    let old = c.args.self.now in
+    let k = c.going.self in
+    let new = c.glide.new.self in
+    let e = c.in-Err.ensures in
+    let most = c.quiet_room-most.result in
+    let later = inv.later in
+    let start = inv.start in
+    let first = inv.first in
+    let above = inv.more in
+    let now = c.cycle-cycle.ensures.cycle in
+    let made = c.steps-made.ensures.steps in
+    let within = c.quiet_room-most.ensures.within in
+    let few = c.quiet_room-most.ensures.few in
+    let few_more = stuck_few k new most c.in-Err.stuck e.gone in
+    let to = old.joint.cycle + c.args.cycles in
+    let room : k.joint.cycle + most < to = omega (arith, within, now, start, later) in
+    let quietly = quiet_unmet c.args.stops.now to k.joint.cycle most c.quiet_room-most.ensures.alone (omega (arith, room)) in
+    let at = stuck_soon k new most c.in-Err.stuck e.gone in
+    let stuck = stuck_onward k new most (IsUnmetStep c.args.stops.now to) inv.onward.0 (begun old) c.in-Err.stuck
+    inv.onward.1 quietly e.gone e.unchanged e.log_unchanged.0 e.log_unchanged.1 in (
+      stuck.0,
+      stuck.1,
+      stuck.2,
+      stuck.3,
+      stuck.4,
+      record { soon = omega (arith, at, room); few = omega (arith, few_more, few, made, first, above) },
+    )
+
+pub returns-then-is_any-clause-onward : goal.returns-then-is_any-clause-onward
+returns-then-is_any-clause-onward c =
+    let inv = c.going.invariant in
+    let old = c.args.self.now in
+    let k = c.going.self in
+    let new = c.glide.new.self in
+    let e = c.in-Ok.ensures in
+    let most = c.quiet_room-most.result in
+    let few_more = steps_few k new most e.gone in
+    let later = inv.later in
+    let start = inv.start in
+    let first = inv.first in
+    let above = inv.more in
+    let limit = inv.limit in
+    let now = c.cycle-cycle.ensures.cycle in
+    let made = c.steps-made.ensures.steps in
+    let within = c.quiet_room-most.ensures.within in
+    let few = c.quiet_room-most.ensures.few in
+    let to = old.joint.cycle + c.args.cycles in
+    let stops = c.args.stops.now in
+    let room : k.joint.cycle + most < to = omega (arith, within, now, start, later) in
+    let quietly = quiet_unmet stops to k.joint.cycle most c.quiet_room-most.ensures.alone (omega (arith, room)) in
+    ends_met k new most to (IsUnmetStep stops to) inv.onward.0 (begun old) inv.onward.1 room quietly e.gone e.edges e.host
+    c.irq-was.result c.irq-was.ensures.irq e.kept e.risen stops c.met-met.result (old.joint.steps + c.args.steps)
+    (as_met stops new c.met-met.result c.irq-was.result (irq_of k.joint.outside.desk.port)
+    c.lines-lines.result (lines_of k.joint) c.met-met.ensures c.irq-was.ensures.irq c.lines-lines.ensures.wires)
+    (sym c.is_any.ensures ∙ c.if-is_any.true) (omega (arith, few_more, few, made, first, above, limit))
+
+pub returns-clause-onward : goal.returns-clause-onward
+returns-clause-onward c =
+    let inv = c.going.invariant in
+    let later = inv.later in
+    let start = inv.start in
+    let now = c.cycle.ensures.cycle in
+    let test = c.going-test.false in
+    (inv.onward.0, inv.onward.1, inv.limit, inl (omega (arith, test, now, start, later)))

@@ -1,6 +1,7 @@
-use Rattle.std.proofs.Common.{◌≡◌, ◌≤◌, ◌+◌, ◌^◌, ◌-◌, false}
+use Rattle.std.proofs.Common.{◌≡◌, ◌≤◌, ◌+◌, ◌^◌, ◌-◌, ℕ, false}
 use Rattle.live_board.proofs.Watching.{GoesOnSo}
 use Rattle.live_board.specs.Heard.{HasKeptAll}
+use Rattle.live_board.specs.OnwardTo.{AreUnmetSteps}
 use Rattle.live_board.specs.Pasts.{Past}
 use Rattle.live_board.specs.States.{HasPast}
 use Rattle.live_board.specs.Stopping.{AreUnmet}
@@ -16,6 +17,7 @@ invariant-going l = record {
   few : l.self.rises + l.start ≤ l.self.joint.cycle;
   so_far : (p : Past) → HasPast p l.fn.self → GoesOnSo p l.fn.self l.cycles false l.self;
   unmet : (p : Past) → HasPast p l.fn.self → AreUnmet l.stops p l.fn.self.joint.steps l.self.joint.steps;
+  onward : (n : ℕ) × AreUnmetSteps l.stops l.fn.self l.cycles n l.self;
   log_kept : (p : Past) → HasPast p l.fn.self → HasKeptAll p l.fn.self l.self;
 }
 

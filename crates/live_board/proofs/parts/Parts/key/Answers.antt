@@ -1,4 +1,4 @@
-use Rattle.std.proofs.Common.{◌≤◌, ◌-◌, [], ◌∷◌, ◌++◌, refl, ap, ◌∙◌, arith}
+use Rattle.std.proofs.Common.{◌≤◌, ◌-◌, List, [], ◌∷◌, ◌++◌, refl, ap, ◌∙◌, arith}
 use Rattle.board_terms.specs.declared.event.Edge.{Edge}
 use Rattle.live_board.proofs.Calling.{keyed_on}
 use Rattle.live_board.proofs.parts.Parts.key.Goals as goal
@@ -18,4 +18,5 @@ returns c =
       keyed = (late, omega (arith, long, room), λ p s. keyed_on p k _ e late refl refl items refl s);
       log_unchanged = (refl, refl);
       joint = refl;
+      waits = ap (λ (l : List Edge). record k { due = record k.due { edges = record { items = l } } }) items;
     }

@@ -3,9 +3,9 @@ use Rattle.io_edge.proofs.Pieces.{none_said}
 use Rattle.io_edge.proofs.Taken.{on_err}
 use Rattle.joint_feed.specs.Stories.{Story, story}
 use Rattle.key_file.specs.Accepted.{IsAcceptedFor}
-use Rattle.story_run.specs.declared.ending.Ending.TheVariants.{TickStart}
-use Rattle.story_run.specs.Gliding.{history_of}
-use Rattle.story_run.proofs.Looked.{broke_by, looked_by, some_looked, some_looked_to_break}
+use Rattle.run_loop.specs.declared.ending.Ending.TheVariants.{TickStart}
+use Rattle.run_loop.specs.Gliding.{history_of}
+use Rattle.run_loop.proofs.Looked.{broke_by, looked_by, some_looked, some_looked_to_break}
 use Rattle.subsystem.specs.Agreement.{IsAsExpected}
 use Rattle.subsystem.specs.Ending.{ending}
 use Rattle.subsystem.specs.Putting.{IsLogBrokenAt, IsLogBrokenOff}
@@ -25,7 +25,7 @@ make_run-requires g c =
       reported = (
         record {
           noted = begins s c.self.invariant.0.timely c.self.inside.starts room.none;
-          room = room.room;
+          room = let exact = room.room in omega (arith, exact);
           counts = c.none.ensures;
           short = omega arith;
         },

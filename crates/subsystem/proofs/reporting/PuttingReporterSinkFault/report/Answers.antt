@@ -1,7 +1,7 @@
 use Rattle.std.proofs.Common.{◌≤◌, false, length, ap, sym, subst, ◌∙◌, arith}
 use Rattle.io_edge.proofs.Taken.{on_err}
-use Rattle.story_run.proofs.Reported.{items_near}
-use Rattle.story_run.proofs.Texts.{broken_further, said_further}
+use Rattle.run_loop.proofs.Reported.{items_near}
+use Rattle.run_loop.proofs.Texts.{broken_further, said_further}
 use Rattle.subsystem.specs.Counts.{with_lines}
 use Rattle.subsystem.proofs.Reported.{one_more}
 use Rattle.subsystem.proofs.Reporters.{lines_by, put_on, text_further}

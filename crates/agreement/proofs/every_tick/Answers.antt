@@ -1,5 +1,0 @@
-use Rattle.agreement.proofs.Does.{tick_law}
-use Rattle.agreement.proofs.every_tick.Goals as goal
-
-pub returns : goal.returns
-returns c = record { ticks = tick_law }

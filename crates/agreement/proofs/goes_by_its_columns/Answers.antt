@@ -1,5 +1,0 @@
-use Rattle.agreement.proofs.AnyStart.{any_count}
-use Rattle.agreement.proofs.goes_by_its_columns.Goals as goal
-
-pub returns : goal.returns
-returns c = record { any_count = any_count }

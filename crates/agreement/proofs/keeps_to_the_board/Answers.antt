@@ -1,5 +1,0 @@
-use Rattle.agreement.proofs.AnyRun.{every_execution, every_look, every_next_look}
-use Rattle.agreement.proofs.keeps_to_the_board.Goals as goal
-
-pub returns : goal.returns
-returns c = record { executed = every_execution; late = every_look; soon = every_next_look }

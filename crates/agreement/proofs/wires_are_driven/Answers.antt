@@ -1,5 +1,0 @@
-use Rattle.agreement.proofs.Run.{every_wire}
-use Rattle.agreement.proofs.wires_are_driven.Goals as goal
-
-pub returns : goal.returns
-returns c = record { wires = every_wire }

@@ -1,5 +1,0 @@
-use Rattle.capture_heard.proofs.Widths.{every_pulse}
-use Rattle.capture_heard.proofs.pulses_are_wide.Goals as goal
-
-pub returns : goal.returns
-returns c = record { pulses = every_pulse }

@@ -1,6 +1,0 @@
-use Rattle.ctl_obeys.proofs.CtlRules.{controller_keeps}
-use Rattle.ctl_obeys.proofs.Joined.{at_controller}
-use Rattle.ctl_obeys.proofs.controller_keeps_rules.Goals as goal
-
-pub returns : goal.returns
-returns c = record { rules = controller_keeps; works = at_controller }

@@ -1,5 +1,0 @@
-use Rattle.fw_link.proofs.FrameLaws.{sent_law}
-use Rattle.fw_link.proofs.frames.frame_sent.Goals as goal
-
-pub returns : goal.returns
-returns c = record { sent = sent_law }

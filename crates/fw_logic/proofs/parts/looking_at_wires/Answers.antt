@@ -1,6 +1,0 @@
-use Rattle.fw_logic.specs.Boards.{numbered}
-use Rattle.fw_logic.proofs.BlockLaws.{looks_law}
-use Rattle.fw_logic.proofs.parts.looking_at_wires.Goals as goal
-
-pub returns : goal.returns
-returns c = record { looks = λ bytes has pins tick w at. looks_law (numbered pins tick) bytes has w at }

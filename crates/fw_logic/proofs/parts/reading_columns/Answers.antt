@@ -1,8 +1,0 @@
-use Rattle.fw_logic.specs.Boards.{numbered}
-use Rattle.fw_logic.proofs.BlockLaws.{columns_law}
-use Rattle.fw_logic.proofs.parts.reading_columns.Goals as goal
-
-pub returns : goal.returns
-returns c = record {
-  columns = λ bytes has pins tick w at r0 r1 r3 p1. columns_law (numbered pins tick) bytes has w at r0 r1 r3 p1;
-}

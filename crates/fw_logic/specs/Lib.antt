@@ -1,8 +1,0 @@
-pub mod Boards
-pub mod Scan
-pub mod Ticks
-pub mod Blocks
-pub mod Steps
-pub mod JointRun
-pub mod Executed
-pub mod Selecting

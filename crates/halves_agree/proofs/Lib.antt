@@ -1,3 +1,0 @@
-mod Cycles
-mod Steps
-mod Turns

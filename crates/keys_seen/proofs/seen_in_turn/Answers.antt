@@ -1,6 +1,0 @@
-use Rattle.keys_seen.proofs.Taking.{one_later, taken_in_turn}
-use Rattle.keys_seen.proofs.Ticks.{seen_in_turn}
-use Rattle.keys_seen.proofs.seen_in_turn.Goals as goal
-
-pub returns : goal.returns
-returns c = record { turns = seen_in_turn; taken = taken_in_turn; one_later = one_later }

@@ -1,0 +1,4 @@
+pub mod Captured
+pub mod Seen
+pub mod Pulses
+pub mod Found

@@ -1,0 +1,4 @@
+mod Cycles
+mod Pins
+mod Steps
+mod Turns

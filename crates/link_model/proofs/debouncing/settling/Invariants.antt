@@ -1,8 +1,0 @@
-use Rattle.std.proofs.Common.{◌≡◌}
-use Rattle.link_model.specs.Debounce.{is_down_at, settles}
-use Rattle.link_model.specs.TickEdges.{by_place, shown_at}
-use Rattle.link_model.proofs.debouncing.settling.Given as goal
-
-abbrev pub invariant-loop-number : goal.invariant-loop-number
-invariant-loop-number l = l.edges.items
-    ≡ by_place (shown_at (is_down_at l.was) (λ p. settles (is_down_at l.was p) (is_down_at l.before p) (is_down_at l.now p))) l.number

@@ -1,0 +1,26 @@
+-- What a sink has of the trace of a whole run.
+use Rattle.std.specs.Prelude.{ℕ, suc, Bool}
+use Rattle.io_edge.specs.Said.{IsBrokenOff, IsSaid, Shown}
+use Rattle.joint_feed.specs.Stories.{Story, state_at}
+use Rattle.run_loop.specs.declared.ending.Ending.TheVariants.{TickStart}
+use Rattle.run_loop.specs.Running.{IsOverAfter}
+use Rattle.run_loop.specs.Reports.{IsBrokenAfter}
+use Rattle.run_wires.specs.Trace.{changes_to, text_in, trace_to}
+use Rattle.law_wires_heard.specs.Hearing.{heard_to}
+
+-- the trace of a run is said, up to the first tick start at or after the end stamp
+pub record IsTraceSaid (seen : Bool) (s : Story) (before after : Shown) : Type 0 where
+  pub steps : ℕ
+  pub is_over : IsOverAfter TickStart s steps
+  pub said : IsSaid before after (trace_to seen s steps)
+
+-- its saying is broken off
+pub record IsTraceBrokenOff (seen : Bool) (s : Story) (before after : Shown) : Type 0 where
+  pub steps : ℕ
+  pub is_over : IsOverAfter TickStart s steps
+  pub broken : IsBrokenOff before after (trace_to seen s steps)
+
+-- the saying of what the samples add is broken off in what that of the step after the first k adds
+abbrev pub AreChangesBrokenAt : Bool → Story → Shown → Shown → ℕ → Type 0
+AreChangesBrokenAt seen s before after k =
+    IsBrokenAfter before after (changes_to seen s k) (text_in seen (state_at s (suc k)) (heard_to s k))

@@ -1,0 +1,5 @@
+pub mod Seen
+pub mod Text
+pub mod Trace
+pub mod Ending
+pub mod HeardSoFar

@@ -1,5 +1,0 @@
-use Rattle.runs_agree.proofs.RunsAlike.{runs_alike}
-use Rattle.runs_agree.proofs.runs_are_alike.Goals as goal
-
-pub returns : goal.returns
-returns c = record { alike = runs_alike }

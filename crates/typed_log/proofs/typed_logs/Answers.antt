@@ -1,5 +1,0 @@
-use Rattle.typed_log.proofs.Texts.{strokes_say_text}
-use Rattle.typed_log.proofs.typed_logs.Goals as goal
-
-pub returns : goal.returns
-returns c = record { says = strokes_say_text }

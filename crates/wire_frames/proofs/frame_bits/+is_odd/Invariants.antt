@@ -1,5 +1,0 @@
-use Rattle.std.proofs.Common.{length}
-use Rattle.wire_frames.proofs.frame_bits.+is_odd.Given as goal
-
-abbrev pub decreases-is_odd : goal.decreases-is_odd
-decreases-is_odd l = length l.bits.now

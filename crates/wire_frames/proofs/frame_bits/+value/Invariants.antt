@@ -1,5 +1,0 @@
-use Rattle.std.proofs.Common.{length}
-use Rattle.wire_frames.proofs.frame_bits.+value.Given as goal
-
-abbrev pub decreases-value : goal.decreases-value
-decreases-value l = length l.bits.now

@@ -1,4 +1,0 @@
-pub mod Text
-pub mod Trace
-pub mod Ending
-pub mod HeardSoFar

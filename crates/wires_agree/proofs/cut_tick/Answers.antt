@@ -1,5 +1,0 @@
-use Rattle.wires_agree.proofs.Looked.{all_cut}
-use Rattle.wires_agree.proofs.cut_tick.Goals as goal
-
-pub returns : goal.returns
-returns c = record { cut = all_cut }

@@ -1,5 +1,0 @@
-use Rattle.wires_agree.proofs.Turned.{flips_seen}
-use Rattle.wires_agree.proofs.flips_seen.Goals as goal
-
-pub returns : goal.returns
-returns c = record { seen = flips_seen }

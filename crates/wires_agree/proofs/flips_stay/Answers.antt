@@ -1,5 +1,0 @@
-use Rattle.wires_agree.proofs.Pending.{flips_stay}
-use Rattle.wires_agree.proofs.flips_stay.Goals as goal
-
-pub returns : goal.returns
-returns c = record { stay = flips_stay }

@@ -1,5 +1,0 @@
-use Rattle.wires_agree.proofs.Got.{frame_shown}
-use Rattle.wires_agree.proofs.frame_shown.Goals as goal
-
-pub returns : goal.returns
-returns c = record { shown = frame_shown }

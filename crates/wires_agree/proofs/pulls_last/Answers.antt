@@ -1,5 +1,0 @@
-use Rattle.wires_agree.proofs.Lasting.{pulls_last}
-use Rattle.wires_agree.proofs.pulls_last.Goals as goal
-
-pub returns : goal.returns
-returns c = record { pulls = pulls_last }

@@ -1,5 +1,0 @@
-use Rattle.wires_agree.proofs.Looked.{all_still}
-use Rattle.wires_agree.proofs.still_tick.Goals as goal
-
-pub returns : goal.returns
-returns c = record { still = all_still }

@@ -1,5 +1,0 @@
-use Rattle.wires_heard.proofs.Probing.{every_probe_counts}
-use Rattle.wires_heard.proofs.wire_probes_count.Goals as goal
-
-pub returns : goal.returns
-returns c = record { counted = every_probe_counts }
