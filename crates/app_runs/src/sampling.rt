@@ -49,7 +49,7 @@ fn stroke_place(k: u32) -> Place
     ensures { result ≡ stroke_key k }
 {
     let number = ((29 + 25 * k) % 84) as u8;
-    Place::at(number / 8, number % 8).unwrap()
+    Place::numbered(number).unwrap()
 }
 
 /// The history of so many strokes.

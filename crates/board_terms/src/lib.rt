@@ -13,6 +13,7 @@ mod lines;
 mod matrix;
 mod place;
 mod time;
+mod transfer;
 
 pub use event::{Edge, HostAct, HostEvent};
 pub use frame::{Frame, byte_of, frame_of};
@@ -21,3 +22,4 @@ pub use lines::{HIGH, Lines};
 pub use matrix::Matrix;
 pub use place::Place;
 pub use time::{STAMP_0, TICK_CYCLES};
+pub use transfer::Transfer;

@@ -1,7 +1,7 @@
 //! The places of the matrix.
 
 ghost use Rattle.std.specs.Prelude.{◌≡◌, ◌<◌};
-ghost use Rattle.board_terms.specs.Places.{place_at};
+ghost use Rattle.board_terms.specs.Places.{place_at, place_numbered};
 
 use std::marker::Model;
 
@@ -32,6 +32,17 @@ impl Place {
             Some(Place {
                 number: 8 * column + row,
             })
+        } else {
+            None
+        }
+    }
+
+    /// The place of this number, which is eight times its column and its row; None exactly if it is 96 or more.
+    pub fn numbered(number: u8) -> Option<Place>
+        ensures place { result ≡ place_numbered number }
+    {
+        if number < 96 {
+            Some(Place { number })
         } else {
             None
         }

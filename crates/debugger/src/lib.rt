@@ -22,7 +22,7 @@ pub use debuggee::Debuggee;
 pub use law::probes_count;
 pub use rule::{LineFault, SessionFault};
 pub use run_probes::{
-    AddressProbe, CellProbe, LineDecoder, LineProbe, Probe, RegisterProbe, Tally, Transfer,
+    AddressProbe, CellProbe, LineDecoder, LineProbe, Probe, RegisterProbe, Tally,
 };
 pub use script::check_script;
 pub use scripted::obey_script;

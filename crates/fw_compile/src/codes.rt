@@ -13,7 +13,7 @@ fn code_of(layout: &Layout, number: u8) -> u8
     requires { number < 96 }
     ensures { result ≡ code_byte layout.now number }
 {
-    let place = Place::at(number / 8, number % 8).unwrap();
+    let place = Place::numbered(number).unwrap();
     layout.code_at(place).unwrap_or(0)
 }
 
@@ -33,7 +33,7 @@ fn fn_code_of(layout: &Layout, number: u8) -> u8
     requires { number < 96 }
     ensures { result ≡ fn_code_byte layout.now number }
 {
-    let place = Place::at(number / 8, number % 8).unwrap();
+    let place = Place::numbered(number).unwrap();
     layout.fn_code_at(place).unwrap_or(0)
 }
 

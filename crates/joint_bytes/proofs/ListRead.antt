@@ -4,7 +4,7 @@ use Rattle.std.proofs.Common.{ap, sym, subst, ◌∙◌, arith}
 use Rattle.std.specs.Prelude.{nat_lt, slice_index, slice_index_or}
 use Rattle.std.proofs.lemmas.Bool.Decides.{nat_tests}
 use Rattle.board_terms.specs.declared.event.Edge.{Edge}
-use Rattle.joint_bytes.specs.declared.happened.Happened.{Happened}
+use Rattle.live_items.specs.declared.happened.Happened.{Happened}
 use Rattle.joint_bytes.proofs.Pushed.{later_is, one_less}
 use Rattle.joint_bytes.specs.Lists.{edge_bytes, edge_in, edges_bytes, edges_in, have_places, item_bytes, item_in, items_bytes, items_in}
 use Rattle.joint_bytes.specs.Lists.{no_item}

@@ -20,8 +20,8 @@ use Rattle.pc_tables.specs.declared.item.Item.TheVariants.{
   SysMake,
   SysBreak,
 }
-use Rattle.joint_bytes.specs.declared.happened.What.{What}
-use Rattle.joint_bytes.specs.declared.happened.What.TheVariants.{Said, Passed}
+use Rattle.live_items.specs.declared.happened.What.{What}
+use Rattle.live_items.specs.declared.happened.What.TheVariants.{Said, Passed}
 
 -- the kind of an item as a number, and its byte or word. A taking that found the buffer empty is a kind of its own
 abbrev pub kind_of : Item → ℕ

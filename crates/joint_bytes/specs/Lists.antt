@@ -4,8 +4,8 @@ use Rattle.std.specs.Int.{w16, w64, to_le_bytes, from_bool}
 use Rattle.board_terms.specs.declared.event.Edge.{Edge}
 use Rattle.pc_tables.specs.declared.item.Item.TheVariants.{Port}
 use Rattle.joint_bytes.specs.Kinds.{what_by, what_kind, what_value}
-use Rattle.joint_bytes.specs.declared.happened.Happened.{Happened}
-use Rattle.joint_bytes.specs.declared.happened.What.TheVariants.{Said}
+use Rattle.live_items.specs.declared.happened.Happened.{Happened}
+use Rattle.live_items.specs.declared.happened.What.TheVariants.{Said}
 use Rattle.mcs48_bytes.specs.Numbers.{number_at, truth_at, word_at}
 
 -- words of 2 bytes

@@ -7,9 +7,10 @@ ghost use Rattle.joint_bytes.specs.Kinds.{item_by, kind_of, value_of, what_by, w
 ghost use Rattle.mcs48_bytes.specs.Numbers.{word_at};
 ghost use Rattle.joint_bytes.specs.Lists.{item_bytes, item_in, items_bytes, items_in};
 
-use crate::happened::{Happened, Transfer, What};
 use arrayvec::ArrayVec;
+use board_terms::Transfer;
 use hex_text::append;
+use live_items::{Happened, What};
 use mcs48_bytes::{number_at, word_at};
 use pc_tables::Item;
 

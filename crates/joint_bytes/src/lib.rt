@@ -5,13 +5,11 @@
 //! knows no file and no call of a keyboard. Our own.
 #![tactic(auto)]
 
-mod happened;
 mod items;
 mod link;
 mod lists;
 mod side;
 
-pub use happened::{Happened, Transfer, What};
 pub use items::{push_items, take_items, what_kind, what_value};
 pub use link::{link_bytes, link_in};
 pub use lists::{have_places, push_edges, push_words, take_edges, take_words};

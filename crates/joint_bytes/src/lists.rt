@@ -75,7 +75,7 @@ fn edge_in(bytes: &[u8]) -> Edge
     let place = bytes[8];
     Edge {
         stamp: number_at(bytes, 0),
-        place: Place::at(place / 8, place % 8).unwrap(),
+        place: Place::numbered(place).unwrap(),
         down: truth_at(bytes, 9),
     }
 }

@@ -29,7 +29,7 @@ use Rattle.board_terms.specs.declared.event.Edge.{Edge}
 use Rattle.ctl_link.specs.Empty.{fits}
 use Rattle.ctl_link.specs.declared.link.Link.{Link}
 use Rattle.ctl_wire.specs.declared.wire.Wire.{Wire}
-use Rattle.joint_bytes.specs.declared.happened.Happened.{Happened}
+use Rattle.live_items.specs.declared.happened.Happened.{Happened}
 use Rattle.joint_bytes.specs.Links.{link_bytes, link_in}
 use Rattle.joint_bytes.specs.Lists.{edges_bytes, edges_in, have_places, items_bytes, items_in, words_bytes, words_in}
 use Rattle.mcs48_bytes.specs.Numbers.{number_at}

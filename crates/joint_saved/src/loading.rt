@@ -18,10 +18,9 @@ use board_terms::{Edge, Matrix};
 use ctl_link::Link;
 use ctl_wire::Wire;
 use int09::Bios;
-use joint_bytes::{
-    Happened, flags_in, have_places, link_in, side_in, take_edges, take_items, take_words,
-};
+use joint_bytes::{flags_in, have_places, link_in, side_in, take_edges, take_items, take_words};
 use joint_run::{Joint, Machine};
+use live_items::Happened;
 use mcs48_bytes::{number_at, processor_in};
 use mcs48_core::Mcu;
 use mcs48_isa::Image;

@@ -10,10 +10,9 @@ ghost use Rattle.joint_saved.specs.Saved.{IsRead, columns_of, kept, loaded, mach
 
 use arrayvec::ArrayVec;
 use board_terms::Edge;
-use joint_bytes::{
-    Happened, controller_bytes, link_bytes, push_edges, push_items, push_words, side_bytes,
-};
+use joint_bytes::{controller_bytes, link_bytes, push_edges, push_items, push_words, side_bytes};
 use joint_run::Joint;
+use live_items::Happened;
 use mcs48_bytes::processor_bytes;
 
 /// How many bytes a saved keyboard has.

@@ -2,7 +2,7 @@
 use Rattle.std.specs.Prelude.{◌≡◌, ℤ}
 use Rattle.joint_bytes.specs.Kinds.{what_kind, what_value}
 use Rattle.live_board.specs.Heard.{after_next, next_of}
-use Rattle.joint_bytes.specs.declared.happened.Happened.{Happened}
+use Rattle.live_items.specs.declared.happened.Happened.{Happened}
 use Rattle.live_board.specs.declared.heard.Next.{Next}
 use Rattle.live_board.specs.declared.heard.Next.TheVariants as nexts
 use Rattle.live_board.specs.declared.parts.Parts.{Parts as Keyboard}

@@ -28,7 +28,7 @@ pub(crate) fn press(keyboard: &mut Keyboard, place: u8, down: bool) -> i32
     ensures joint { keyboard.new.joint ≡ keyboard.old.joint }
     ensures heard { keyboard.new.heard ≡ keyboard.old.heard }
 {
-    match Place::at(place / 8, place % 8) {
+    match Place::numbered(place) {
         Some(at) => status_of(keyboard.key(at, down)),
         None => NO_SUCH_PLACE,
     }

@@ -7,8 +7,9 @@ ghost use Rattle.kbd48_c.specs.Statuses.{done};
 
 use crate::handle::Handle;
 use crate::status::{DONE, LOST, NOT_OPEN, NOTHING_SAID};
-use joint_bytes::{Happened, what_kind, what_value};
+use joint_bytes::{what_kind, what_value};
 use live_board::{Keyboard, Next};
+use live_items::Happened;
 use std::alloc::Global;
 
 /// What happened: the cycle in which it did, its kind, and its byte or word.

@@ -33,7 +33,7 @@ pub extern "C" fn kbd48_queue_key(queue: &mut EdgeQueue, cycle: u64, place: u8, 
     ensures status { result ≡ push_status cycle place down (queue_of queue.old) }
     ensures after { queue_of queue.new ≡ queue_after cycle place down (queue_of queue.old) }
 {
-    match Place::at(place / 8, place % 8) {
+    match Place::numbered(place) {
         Some(at) => queued_status(queue.push(stamp_of(cycle), at, down)),
         None => NO_SUCH_PLACE,
     }

@@ -48,7 +48,7 @@ pub extern "C" fn kbd48_keyboard_key_at(keyboard: &mut KeyboardAt, place: u8, do
     ensures answer { result ≡ truth_of (nat_lt place 96) }
     ensures at { keyboard.new.at ≡ keyboard.old.at }
 {
-    match Place::at(place / 8, place % 8) {
+    match Place::numbered(place) {
         Some(key) => {
             keyboard.keyboard().edge(key, down);
             1

@@ -34,7 +34,7 @@ pub extern "C" fn kbd48_queue_push(queue: &mut EdgeQueue, now: u64, place: u8, d
     ensures answer { result ≡ pos (push_answer now place down (queue_of queue.old)) }
     ensures after { queue_of queue.new ≡ pushed_at now place down (queue_of queue.old) }
 {
-    match Place::at(place / 8, place % 8) {
+    match Place::numbered(place) {
         Some(key) => queued(queue.push(now, key, down)),
         None => 0,
     }
@@ -71,7 +71,7 @@ fn debounces(keyboard: &KbdHalf) -> bool
 fn press(keyboard: &mut KbdHalf, place: u8, down: bool)
     ensures { keyboard.new ≡ keyed place down keyboard.old }
 {
-    if let Some(key) = Place::at(place / 8, place % 8) {
+    if let Some(key) = Place::numbered(place) {
         keyboard.edge(key, down);
     }
 }

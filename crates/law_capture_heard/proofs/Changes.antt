@@ -6,7 +6,7 @@ use Rattle.std.specs.declared.option.Option.{Option}
 use Rattle.std.specs.Str.Lines.{lines}
 use Rattle.std.proofs.lemmas.Bool.Decides.{nat_tests}
 use Rattle.board_terms.specs.declared.lines.Lines.{Lines}
-use Rattle.run_probes.specs.declared.heard.Transfer.{Transfer}
+use Rattle.board_terms.specs.declared.transfer.Transfer.{Transfer}
 use Rattle.hex_text.specs.Digits.{hex_byte, hex_digit}
 use Rattle.text_lines.specs.Fields.{fields}
 use Rattle.capture_vcd.specs.Changes.{marked, taken}

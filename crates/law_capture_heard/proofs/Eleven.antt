@@ -2,7 +2,7 @@
 use Rattle.std.proofs.Common.{◌≡◌, ◌≤◌, ◌<◌, inl, inr, ℕ, ◌+◌, ◌-◌, ◌*◌, List, [], ◌∷◌, Bool, true, false, refl, ap, sym, ◌∙◌, arith}
 use Rattle.std.specs.Prelude.{take, drop}
 use Rattle.law_agreement.specs.Wires.{GoesWith}
-use Rattle.run_probes.specs.declared.heard.Transfer.{Transfer}
+use Rattle.board_terms.specs.declared.transfer.Transfer.{Transfer}
 use Rattle.board_terms.specs.Bits.{value}
 use Rattle.board_terms.specs.declared.event.HostEvent.{HostEvent}
 use Rattle.ctl_link.specs.Link.{is_busy}

@@ -5,7 +5,7 @@ use Rattle.std.specs.Prelude.{drop, if◌then◌else◌, take}
 use Rattle.std.specs.declared.option.Option.{Option}
 use Rattle.bits.proofs.Every.{and-left, and-right}
 use Rattle.run_probes.specs.Transfers.{is_hosts, is_keyboards, transfer_in}
-use Rattle.run_probes.specs.declared.heard.Transfer.{Transfer}
+use Rattle.board_terms.specs.declared.transfer.Transfer.{Transfer}
 use Rattle.board_terms.specs.Bits.{is_odd, value}
 use Rattle.capture_frames.specs.declared.finding.Finding.{Finding}
 use Rattle.capture_frames.specs.declared.finding.Finding.TheVariants.{Byte}

@@ -4,7 +4,7 @@ use Rattle.std.proofs.Common.{None, Some, refl, ap, sym, ◌∙◌, append_assoc
 use Rattle.std.proofs.lemmas.List.{append-nil}
 use Rattle.std.specs.Prelude.{if◌then◌else◌}
 use Rattle.std.specs.declared.option.Option.{Option}
-use Rattle.run_probes.specs.declared.heard.Transfer.{Transfer}
+use Rattle.board_terms.specs.declared.transfer.Transfer.{Transfer}
 use Rattle.run_probes.specs.Transfers.{Ear, completed, wires_at}
 use Rattle.board_terms.specs.declared.lines.Lines.{Lines}
 use Rattle.joint_feed.specs.Stories.{Story, state_at}

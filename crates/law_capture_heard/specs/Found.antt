@@ -1,7 +1,7 @@
 -- The bytes that a capture finds in the trace of a run, and those that pass over the wires in it.
 use Rattle.std.specs.Prelude.{◌≡◌, ◌≤◌, ℕ, zero, suc, ◌-◌, ◌*◌, Bool, true, false, not, ◌&&◌, List, [], ◌∷◌}
 use Rattle.std.specs.Prelude.{◌++◌, map, Option, Some, None, if◌then◌else◌}
-use Rattle.run_probes.specs.declared.heard.Transfer.{Transfer}
+use Rattle.board_terms.specs.declared.transfer.Transfer.{Transfer}
 use Rattle.capture_lines.specs.Captures.{found_by}
 use Rattle.ctl_wire.specs.Wire.{drive}
 use Rattle.fw_compile.specs.Image.{image_of}

@@ -3,7 +3,7 @@ use Rattle.std.proofs.Common.{◌≡◌, ◌≤◌, ℕ, zero, suc, ◌+◌, ◌
 use Rattle.std.proofs.Common.{ap, sym, subst, ◌∙◌, arith}
 use Rattle.std.specs.declared.result.Result.{Result}
 use Rattle.board_terms.specs.Matrix.{all_up, turned_by}
-use Rattle.joint_bytes.specs.declared.happened.Happened.{Happened}
+use Rattle.live_items.specs.declared.happened.Happened.{Happened}
 use Rattle.joint_feed.specs.Stories.{state_at}
 use Rattle.joint_run.specs.Due.{outside_of}
 use Rattle.joint_run.specs.Joint.{Beside, log_of}

@@ -5,7 +5,7 @@ use Rattle.std.specs.Prelude.{◌==◌, not, ◌&&◌, if◌then◌else◌, is_s
 use Rattle.std.specs.declared.option.Option.{Option}
 use Rattle.std.proofs.lemmas.Bool.Decides.{nat_tests}
 use Rattle.std.proofs.lemmas.List.{append-nil, drop-append-le, length-drop, take-append-le}
-use Rattle.run_probes.specs.declared.heard.Transfer.{Transfer}
+use Rattle.board_terms.specs.declared.transfer.Transfer.{Transfer}
 use Rattle.board_terms.specs.Bits.{value}
 use Rattle.board_terms.specs.declared.event.HostEvent.{HostEvent}
 use Rattle.board_terms.specs.declared.lines.Lines.{Lines}
@@ -20,7 +20,6 @@ use Rattle.ctl_wire.specs.declared.wire.Wire.TheVariants.{Recv, Send}
 use Rattle.host_turn.specs.Cycle.{host_of, port_by}
 use Rattle.host_turn.specs.Host.{Turn, turn}
 use Rattle.host_turn.specs.declared.desk.Desk.{Desk}
-use Rattle.joint_bytes.specs.declared.happened.Transfer.{Transfer as Byte}
 use Rattle.joint_run.proofs.Passing.{cycle_is}
 use Rattle.joint_run.specs.Cycle.{looked_outside, outside_cycle, outside_wires}
 use Rattle.joint_run.specs.Due.{outside_of}
@@ -43,7 +42,7 @@ same_bits dat bits ten =
 abbrev sent_byte : List Bool → List Transfer
 sent_byte bits = record { from_host = false; byte = value bits } ∷ []
 
-abbrev ends_frame : Bool → List Bool → Option Byte
+abbrev ends_frame : Bool → List Bool → Option Transfer
 ends_frame whole bits = if whole then Some (record { from_host = false; byte = value (take 8 (drop 1 bits)) }) else None
 
 recv_alike : (dat : Bool) (cycle : ℕ) (bits : List Bool) (whole : Bool) → (length bits == 10) ≡ whole
@@ -54,7 +53,7 @@ recv_alike dat cycle bits true h =
     ap sent_byte (sym (same_bits dat bits ten))
 recv_alike dat cycle bits false h = refl
 
-abbrev ends_sent : Bool → ℕ → Option Byte
+abbrev ends_sent : Bool → ℕ → Option Transfer
 ends_sent whole byte = if whole then Some (record { from_host = true; byte = byte }) else None
 
 abbrev given_byte : ℕ → List Transfer
@@ -192,7 +191,7 @@ module _ (events : List HostEvent) (p2 : ℕ) where
         by true h = inr (stays_high n now s (Recv flip bits) (grind (arith, nat_tests, h)) high e c)
     none_or_high true (Busy (Send byte edges)) high c e = inr (stays_high n now s (Send byte edges) refl high e c)
 
-  none_passed : (o : Option Byte) (cycle : ℕ) (clock : Bool) → (o ≡ None) ⊎ (clock ≡ true) → bytes_among (passed_by o cycle clock) ≡ []
+  none_passed : (o : Option Transfer) (cycle : ℕ) (clock : Bool) → (o ≡ None) ⊎ (clock ≡ true) → bytes_among (passed_by o cycle clock) ≡ []
   none_passed o cycle clock (inl none) = ap (λ v. bytes_among (passed_by v cycle clock)) none
   none_passed None cycle clock (inr high) = refl
   none_passed (Some byte) cycle clock (inr high) = ap (λ c. bytes_among (passed_by (Some byte) cycle c)) high

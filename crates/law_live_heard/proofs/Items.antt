@@ -6,7 +6,7 @@ use Rattle.std.specs.declared.option.Option.{Option}
 use Rattle.run_probes.specs.Transfers.{Ear}
 use Rattle.fw_compile.specs.Image.{image_of}
 use Rattle.host_turn.specs.declared.stamped.Stamped.{Stamped}
-use Rattle.joint_bytes.specs.declared.happened.Happened.{Happened}
+use Rattle.live_items.specs.declared.happened.Happened.{Happened}
 use Rattle.joint_feed.proofs.Going.{same_state}
 use Rattle.joint_feed.specs.Stories.{Story, state_at}
 use Rattle.joint_run.specs.Joint.{Beside, joint_board}

@@ -1,10 +1,10 @@
 -- The bytes on the wires among what happened to a keyboard, and what passes over the wires.
 use Rattle.std.specs.Prelude.{◌≡◌, ℕ, zero, suc, ◌+◌, List, [], ◌∷◌, ◌++◌}
-use Rattle.run_probes.specs.declared.heard.Transfer.{Transfer}
+use Rattle.board_terms.specs.declared.transfer.Transfer.{Transfer}
 use Rattle.fw_compile.specs.Image.{image_of}
-use Rattle.joint_bytes.specs.declared.happened.Happened.{Happened}
-use Rattle.joint_bytes.specs.declared.happened.What.{What}
-use Rattle.joint_bytes.specs.declared.happened.What.TheVariants.{Said, Passed}
+use Rattle.live_items.specs.declared.happened.Happened.{Happened}
+use Rattle.live_items.specs.declared.happened.What.{What}
+use Rattle.live_items.specs.declared.happened.What.TheVariants.{Said, Passed}
 use Rattle.joint_feed.specs.Stories.{Story}
 use Rattle.key_file.specs.Accepted.{IsLawfulFor}
 use Rattle.key_file.specs.Histories.{KeyHistory}
@@ -18,7 +18,7 @@ use Rattle.law_wires_heard.specs.Passing.{passed_at}
 -- the byte on the wires that it is, if it is one
 abbrev pub byte_of : What → List Transfer
 byte_of (Said item) = []
-byte_of (Passed byte) = record { from_host = byte.from_host; byte = byte.byte } ∷ []
+byte_of (Passed byte) = byte ∷ []
 
 -- the bytes on the wires among what happened, in order
 abbrev pub bytes_among : List Happened → List Transfer

@@ -11,7 +11,7 @@ use Rattle.board_terms.specs.declared.lines.Lines.{Lines}
 use Rattle.run_probes.specs.Transfers.{are_spaced, are_spaced_after, completed, data_at, fall_at, is_fall}
 use Rattle.run_probes.specs.Transfers.{transfer_by, transfer_in, wires_at, with_fall}
 use Rattle.run_probes.specs.declared.heard.Fall.{Fall}
-use Rattle.run_probes.specs.declared.heard.Transfer.{Transfer}
+use Rattle.board_terms.specs.declared.transfer.Transfer.{Transfer}
 use Rattle.joint_feed.specs.Stories.{Story, state_at}
 use Rattle.joint_run.specs.Joint.{Beside, joint_start_of}
 use Rattle.joint_run.specs.Run.{World}

@@ -4,7 +4,7 @@ use Rattle.std.proofs.Common.{[], ◌∷◌, ◌++◌, Some, None, refl, ap, sym
 use Rattle.std.specs.Prelude.{if◌then◌else◌, nat_lt}
 use Rattle.std.specs.declared.option.Option.{Option}
 use Rattle.std.proofs.lemmas.Bool.Decides.{nat_tests}
-use Rattle.run_probes.specs.declared.heard.Transfer.{Transfer}
+use Rattle.board_terms.specs.declared.transfer.Transfer.{Transfer}
 use Rattle.run_probes.specs.declared.tally.Arms.{Arms}
 use Rattle.run_probes.specs.Counts.{meets_if, hears_if, met_from, ear_from}
 use Rattle.run_probes.specs.Probes.{line_kind, is_awaited, awaited_if}

@@ -7,7 +7,7 @@ use Rattle.bits.proofs.Every.{same_of}
 use Rattle.bits.specs.Bits.{bit}
 use Rattle.ctl_link.specs.Link.{is_busy}
 use Rattle.run_probes.specs.Transfers.{completed}
-use Rattle.run_probes.specs.declared.heard.Transfer.{Transfer}
+use Rattle.board_terms.specs.declared.transfer.Transfer.{Transfer}
 use Rattle.law_fw_link.proofs.Wired.{IsReleased}
 use Rattle.law_fw_link.specs.Latch.{Frame}
 use Rattle.joint_feed.specs.Stories.{Story, state_at}

@@ -13,7 +13,7 @@ use Rattle.ctl_link.specs.declared.link.Link.TheVariants.{Free, Hold, Ask, Reque
 use Rattle.ctl_wire.specs.Wire.{drive}
 use Rattle.ctl_wire.specs.declared.wire.Wire.{Wire}
 use Rattle.ctl_wire.specs.declared.wire.Wire.TheVariants.{Recv, Send}
-use Rattle.run_probes.specs.declared.heard.Transfer.{Transfer}
+use Rattle.board_terms.specs.declared.transfer.Transfer.{Transfer}
 use Rattle.law_fw_link.proofs.Wired.{IsReleased}
 use Rattle.law_fw_link.proofs.Wires.{look_within}
 use Rattle.law_fw_link.specs.Latch.{Frame, NoFrame, SentFrame, CutFrame, ReceivedFrame, tick_latch}

@@ -4,7 +4,7 @@ use Rattle.std.specs.declared.option.Option.{Option}
 use Rattle.fw_compile.specs.Image.{image_of}
 use Rattle.run_probes.specs.Transfers.{Ear, heard, sample, silence, completed}
 use Rattle.run_probes.specs.declared.heard.Sample.{Sample}
-use Rattle.run_probes.specs.declared.heard.Transfer.{Transfer}
+use Rattle.board_terms.specs.declared.transfer.Transfer.{Transfer}
 use Rattle.joint_feed.specs.Stories.{Story, story, story_from, state_at}
 use Rattle.joint_run.specs.Joint.{Beside, latch_of}
 use Rattle.joint_run.specs.Run.{World}

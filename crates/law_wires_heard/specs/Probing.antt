@@ -1,7 +1,7 @@
 -- What a probe that listens to the wires counts: the steps in which the controller takes, or sends, a byte.
 use Rattle.std.specs.Prelude.{◌≡◌, ◌≤◌, ℕ, zero, suc, ◌-◌, Bool, false, ◌||◌, List, [], ◌∷◌, ◌++◌, if◌then◌else◌}
 use Rattle.fw_compile.specs.Image.{image_of}
-use Rattle.run_probes.specs.declared.heard.Transfer.{Transfer}
+use Rattle.board_terms.specs.declared.transfer.Transfer.{Transfer}
 use Rattle.run_probes.specs.declared.tally.Arms.{Arms}
 use Rattle.run_probes.specs.Counts.{met_between, ear_between}
 use Rattle.run_probes.specs.Probes.{Watch, heard_as, is_awaited}

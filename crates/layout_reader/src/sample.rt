@@ -16,7 +16,7 @@ fn sample_entry(key: Key) -> Entry
     ensures { result ≡ sample_entry key }
 {
     let number = key.number();
-    let place = Place::at(number / 8, number % 8).unwrap();
+    let place = Place::numbered(number).unwrap();
     Entry {
         place,
         key,

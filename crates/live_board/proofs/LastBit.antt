@@ -8,7 +8,7 @@ use Rattle.std.specs.declared.option.Option.{Option}
 use Rattle.board_terms.specs.Bits.{value}
 use Rattle.ctl_wire.specs.declared.wire.Wire.TheVariants.{Recv}
 use Rattle.live_board.specs.Passing.{ended_by}
-use Rattle.joint_bytes.specs.declared.happened.Transfer.{Transfer}
+use Rattle.board_terms.specs.declared.transfer.Transfer.{Transfer}
 
 -- the last bit is none of the byte's
 same_bits : (bits : List Bool) → length bits ≡ 10 → take 8 (drop 1 (bits ++ true ∷ [])) ≡ take 8 (drop 1 bits)

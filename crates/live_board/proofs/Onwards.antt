@@ -31,7 +31,7 @@ use Rattle.live_board.specs.OnwardTo.{IsUnmetStep, met_in}
 use Rattle.live_board.specs.Passing.{at_fall, passed_by}
 use Rattle.live_board.specs.Rising.{irq_of, rose}
 use Rattle.live_board.specs.Stopping.{counter_met, is_met, item_met, met_by, wires_met}
-use Rattle.joint_bytes.specs.declared.happened.Happened.{Happened}
+use Rattle.live_items.specs.declared.happened.Happened.{Happened}
 use Rattle.live_board.specs.declared.irq.Irq.{Irq}
 use Rattle.live_board.specs.declared.parts.Parts.{Parts as Keyboard}
 use Rattle.live_board.specs.declared.stops.Met.{Met}

@@ -12,8 +12,8 @@ use Rattle.live_board.specs.Heard.{heard_all, heard_one, item_of, said_among, sa
 use Rattle.live_board.specs.Passing.{at_fall, ended_at, passed_at, passed_between, passed_by}
 use Rattle.live_board.specs.Pasts.{Past, gone_on, state_of, story_of}
 use Rattle.live_board.specs.States.{HasPast}
-use Rattle.joint_bytes.specs.declared.happened.Happened.{Happened}
-use Rattle.joint_bytes.specs.declared.happened.Transfer.{Transfer}
+use Rattle.live_items.specs.declared.happened.Happened.{Happened}
+use Rattle.board_terms.specs.declared.transfer.Transfer.{Transfer}
 use Rattle.live_board.specs.declared.heard.Heard.{Heard}
 use Rattle.live_board.specs.declared.parts.Parts.{Parts as Keyboard}
 

@@ -24,7 +24,7 @@ use Rattle.live_board.specs.Pasts.{Past, gone_on, story_of}
 use Rattle.live_board.specs.Rising.{irq_of, rose}
 use Rattle.live_board.specs.RunCalls.{rises}
 use Rattle.live_board.specs.States.{HasPast}
-use Rattle.joint_bytes.specs.declared.happened.Happened.{Happened}
+use Rattle.live_items.specs.declared.happened.Happened.{Happened}
 use Rattle.live_board.specs.declared.irq.Irq.{Irq}
 use Rattle.live_board.specs.declared.parts.Parts.{Parts as Keyboard}
 

@@ -10,9 +10,9 @@ use Rattle.live_board.specs.Pasts.{Past, acted, gone_on, state_of}
 use Rattle.live_board.specs.Rising.{irq_in, rose}
 use Rattle.live_board.specs.RunCalls.{rises}
 use Rattle.live_board.specs.States.{HasPast}
-use Rattle.joint_bytes.specs.declared.happened.Happened.{Happened}
-use Rattle.joint_bytes.specs.declared.happened.What.{What}
-use Rattle.joint_bytes.specs.declared.happened.What.TheVariants.{Said as SaidIt, Passed}
+use Rattle.live_items.specs.declared.happened.Happened.{Happened}
+use Rattle.live_items.specs.declared.happened.What.{What}
+use Rattle.live_items.specs.declared.happened.What.TheVariants.{Said as SaidIt, Passed}
 use Rattle.live_board.specs.declared.heard.Heard.{Heard}
 use Rattle.live_board.specs.declared.heard.Next.{Next}
 use Rattle.live_board.specs.declared.heard.Next.TheVariants.{Said, Lost, Nothing}

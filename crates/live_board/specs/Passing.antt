@@ -12,9 +12,9 @@ use Rattle.joint_run.specs.Joint.{Beside}
 use Rattle.joint_run.specs.Run.{World}
 use Rattle.joint_run.specs.declared.outside.Outside.{Outside}
 use Rattle.live_board.specs.Pasts.{Past, story_of}
-use Rattle.joint_bytes.specs.declared.happened.Happened.{Happened}
-use Rattle.joint_bytes.specs.declared.happened.Transfer.{Transfer}
-use Rattle.joint_bytes.specs.declared.happened.What.TheVariants.{Passed}
+use Rattle.live_items.specs.declared.happened.Happened.{Happened}
+use Rattle.board_terms.specs.declared.transfer.Transfer.{Transfer}
+use Rattle.live_items.specs.declared.happened.What.TheVariants.{Passed}
 
 -- the byte that a falling edge of the clock ends, if it is the eleventh of its frame. The keyboard's byte is that of bits 1
 -- to 8 as they were on the wires, whatever noise turns round; the controller's is the one that it sends

@@ -5,8 +5,9 @@ ghost use Rattle.live_board.specs.Heard.{after_next, has_room, heard_all, heard_
 ghost use Rattle.live_board.specs.Passing.{passed_by};
 
 use arrayvec::ArrayVec;
+use board_terms::Transfer;
 use host_turn::Stamped;
-use joint_bytes::{Happened, Transfer, What};
+use live_items::{Happened, What};
 
 /// How much is kept.
 const MOST: usize = 64;

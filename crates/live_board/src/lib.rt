@@ -25,10 +25,10 @@ mod stopping;
 mod stops;
 
 pub use heard::Next;
-pub use joint_bytes::{Happened, Transfer, What};
 pub use joint_saved::{SAVED, Unloaded};
 pub use keyboard::Keyboard;
 pub use law::stories_grow_at_end;
+pub use live_items::{Happened, What};
 pub use looks::Registers;
 pub use ran::{Ran, RunEnd};
 pub use refused::Refused;

@@ -5,9 +5,9 @@ ghost use Rattle.board_terms.specs.Bits.{value as value_of};
 ghost use Rattle.live_board.specs.Passing.{at_fall, ended_by};
 
 use crate::parts::Parts;
+use board_terms::Transfer;
 use ctl_link::Link;
 use ctl_wire::Wire;
-use joint_bytes::Transfer;
 
 /// The number that at most eight bits are, the lowest first.
 fn value(bits: &[bool]) -> u8

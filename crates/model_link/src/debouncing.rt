@@ -121,7 +121,7 @@ fn push_change(
     ensures { IfOk result (λ u. edges.new.items ≡ edges.old.items ++ change_at number was down) }
 {
     if was != down {
-        let place = Place::at(number / 8, number % 8).unwrap();
+        let place = Place::numbered(number).unwrap();
         edges.push((place, down))?;
     }
     Ok(())

@@ -17,7 +17,7 @@ fn place_of(number: u8) -> Place
     requires { number < 96 }
     ensures { result ≡ number }
 {
-    Place::at(number / 8, number % 8).unwrap()
+    Place::numbered(number).unwrap()
 }
 
 /// The matrix in which the same keys are down.

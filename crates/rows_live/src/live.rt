@@ -8,8 +8,9 @@ use crate::rows::Row::{
     Together, Waiting, Write,
 };
 use crate::rows::{NOTHING, NOTHING_MET, SECOND};
+use board_terms::Transfer;
 use ctl_core::Port::{P60, P64};
-use live_board::{Ending, Met, Refused, Registers, RunEnd, Stops, Transfer, Unloaded, What};
+use live_board::{Ending, Met, Refused, Registers, RunEnd, Stops, Unloaded, What};
 use mcs48_core::Stuck;
 use pc_tables::Item;
 use std::alloc::AllocError;

@@ -1,7 +1,7 @@
 //! Frames on the wires, as the decoder reads them.
 
-use board_terms::Lines;
-use run_probes::{LineDecoder, Transfer};
+use board_terms::{Lines, Transfer};
+use run_probes::LineDecoder;
 
 /// What the decoder answers to a sample; None if it isn't after the last one.
 fn heard(decoder: &mut LineDecoder, cycle: u64, clk: bool, dat: bool) -> Option<Transfer> {

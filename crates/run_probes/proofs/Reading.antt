@@ -5,7 +5,7 @@ use Rattle.std.specs.declared.option.Option.{Option}
 use Rattle.board_terms.specs.Bits.{is_odd, value}
 use Rattle.board_terms.specs.Frame.{byte_of, is_right}
 use Rattle.run_probes.specs.declared.heard.Fall.{Fall}
-use Rattle.run_probes.specs.declared.heard.Transfer.{Transfer}
+use Rattle.board_terms.specs.declared.transfer.Transfer.{Transfer}
 use Rattle.run_probes.specs.Transfers.{are_spaced, data_at, transfer_by, transfer_in}
 
 -- the data at one of the falls

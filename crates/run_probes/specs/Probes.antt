@@ -10,7 +10,7 @@ use Rattle.joint_run.specs.declared.machine.Machine.{Machine}
 use Rattle.mcs48_core.specs.Cpu.{Cpu}
 use Rattle.mcs48_core.specs.Registers.{register}
 use Rattle.ctl_wire.specs.Wires.{wires}
-use Rattle.run_probes.specs.declared.heard.Transfer.{Transfer}
+use Rattle.board_terms.specs.declared.transfer.Transfer.{Transfer}
 use Rattle.run_probes.specs.declared.tally.Arms.{Arms}
 use Rattle.run_probes.specs.Tallies.{Counted, noted}
 use Rattle.run_probes.specs.Tallies as tally

@@ -6,7 +6,7 @@ use Rattle.board_terms.specs.declared.lines.Lines.{Lines}
 use Rattle.board_terms.specs.Bits.{value, is_odd}
 use Rattle.run_probes.specs.declared.heard.Sample.{Sample}
 use Rattle.run_probes.specs.declared.heard.Fall.{Fall}
-use Rattle.run_probes.specs.declared.heard.Transfer.{Transfer}
+use Rattle.board_terms.specs.declared.transfer.Transfer.{Transfer}
 
 -- a sample: the wires, after so many cycles
 abbrev pub sample : ℕ → Lines → Sample

@@ -4,9 +4,9 @@ ghost use Rattle.std.specs.Prelude.{◌≡◌, true, false};
 ghost use Rattle.run_probes.specs.Kept.{both_high};
 ghost use Rattle.run_probes.specs.Transfers.{completed, heard, is_later_than, sample, silence, wires_at};
 
-use crate::heard::{Fall, Kept, Transfer, push_fall, transfer_by};
+use crate::heard::{Fall, Kept, push_fall, transfer_by};
 use arrayvec::ArrayVec;
-use board_terms::{HIGH, Lines};
+use board_terms::{HIGH, Lines, Transfer};
 use std::marker::Model;
 
 /// Reads the bytes that pass from samples of the two wires. It keeps the last sample and the last eleven falls of the

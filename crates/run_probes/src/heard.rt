@@ -5,14 +5,7 @@ ghost use Rattle.run_probes.specs.Kept.{sample_kept};
 ghost use Rattle.run_probes.specs.Transfers.{are_spaced, are_spaced_after, sample, transfer_by, with_fall};
 
 use arrayvec::ArrayVec;
-use board_terms::{Frame, Lines, byte_of};
-
-/// A byte that passed over the wires, and whether the host sent it or the keyboard.
-#[derive(Clone, Copy, Debug, PartialEq, Eq, Drop)]
-pub struct Transfer {
-    pub from_host: bool,
-    pub byte: u8,
-}
+use board_terms::{Frame, Lines, Transfer, byte_of};
 
 /// The wires, after so many cycles.
 #[derive(Clone, Copy, Drop)]

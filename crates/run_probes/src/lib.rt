@@ -15,7 +15,6 @@ mod resting;
 mod tally;
 
 pub use decoder::LineDecoder;
-pub use heard::Transfer;
 pub use kinds::{AddressProbe, CellProbe, RegisterProbe};
 pub use law::{looks_count, transfers_are_heard};
 pub use listening::LineProbe;

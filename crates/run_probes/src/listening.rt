@@ -4,9 +4,9 @@ ghost use Rattle.std.specs.Prelude.{◌≡◌};
 ghost use Rattle.run_probes.specs.Probes.{awaited_if, ear_after, heard_as, line_kind, looked, meets, sight_of, transfer_heard, unarmed};
 
 use crate::decoder::LineDecoder;
-use crate::heard::Transfer;
 use crate::probe::Probe;
 use crate::tally::{Arms, Counter, Tally};
+use board_terms::Transfer;
 use joint_run::Joint;
 
 /// A probe that is hit if a transfer of the byte `b` is completed on the wires: from the keyboard if `a` is 0, from

@@ -6,7 +6,7 @@ use Rattle.std.specs.declared.option.Option.{Option}
 use Rattle.board_terms.specs.declared.lines.Lines.{Lines}
 use Rattle.hex_text.specs.Digits.{hex_byte}
 use Rattle.run_probes.specs.declared.heard.Sample.{Sample}
-use Rattle.run_probes.specs.declared.heard.Transfer.{Transfer}
+use Rattle.board_terms.specs.declared.transfer.Transfer.{Transfer}
 use Rattle.run_probes.specs.Transfers.{Ear, completed, wires_at}
 use Rattle.io_edge.proofs.Pieces.{AreLines, lines_after}
 use Rattle.joint_feed.specs.Stories.{Story, state_at}

@@ -8,7 +8,7 @@ use Rattle.board_terms.specs.declared.lines.Lines.{Lines}
 use Rattle.run_probes.specs.Transfers.{Ear, completed, fall_at, heard, is_fall, transfer_by, wires_at, with_fall}
 use Rattle.run_probes.specs.declared.heard.Fall.{Fall}
 use Rattle.run_probes.specs.declared.heard.Sample.{Sample}
-use Rattle.run_probes.specs.declared.heard.Transfer.{Transfer}
+use Rattle.board_terms.specs.declared.transfer.Transfer.{Transfer}
 use Rattle.joint_feed.specs.Stories.{Story, state_at}
 use Rattle.joint_run.specs.Joint.{Beside}
 use Rattle.joint_run.specs.Run.{World}

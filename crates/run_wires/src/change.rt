@@ -5,9 +5,8 @@ ghost use Rattle.arrayvec.specs.ArrayVec.{array_vec_len};
 ghost use Rattle.run_wires.specs.Text.{change_text, comment, differ, level_text, seen_text, turns};
 
 use arrayvec::ArrayVec;
-use board_terms::Lines;
+use board_terms::{Lines, Transfer};
 use hex_text::{append, begun};
-use run_probes::Transfer;
 
 /// The lines of one sample. None has more.
 pub(crate) type ChangeText = ArrayVec<u8, 80>;

@@ -13,7 +13,7 @@ use Rattle.live_board.specs.Passing.{at_fall, passed_by}
 use Rattle.live_board.specs.Pasts.{acted, state_of}
 use Rattle.live_board.specs.Rising.{irq_in, irq_of}
 use Rattle.live_board.specs.States.{HasPast}
-use Rattle.joint_bytes.specs.declared.happened.Happened.{Happened}
+use Rattle.live_items.specs.declared.happened.Happened.{Happened}
 use Rattle.live_board.specs.declared.irq.Irq.{Irq}
 use Rattle.live_board.specs.declared.parts.Parts.{Parts as Keyboard}
 use Rattle.live_board.proofs.parts.Parts.act.Goals as goal

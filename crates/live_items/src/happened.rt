@@ -1,15 +1,7 @@
 //! What happens to a keyboard: something that the log says, or a byte that passes over the two wires.
 
+use board_terms::Transfer;
 use pc_tables::Item;
-
-/// A byte that passed over the two wires.
-#[derive(Clone, Copy, Debug, PartialEq, Eq)]
-pub struct Transfer {
-    /// Whether the controller sent it, and not the keyboard.
-    pub from_host: bool,
-    /// The byte. The keyboard's is that of bits 1 to 8 of its frame, as they were on the wires before any noise.
-    pub byte: u8,
-}
 
 /// What happened: something that the log says, or a byte that passed over the two wires.
 #[derive(Clone, Copy, Debug, PartialEq, Eq)]
