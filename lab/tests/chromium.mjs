@@ -1,9 +1,9 @@
 // A headless Chromium, driven by its own pipe: no package is needed. `firefox.mjs` has the same for Firefox.
 import { spawn } from 'node:child_process';
-import { mkdtempSync, rmSync, writeFileSync } from 'node:fs';
+import { mkdtempSync, writeFileSync } from 'node:fs';
 import { tmpdir } from 'node:os';
 import { join } from 'node:path';
-import { hands } from './hands.mjs';
+import { hands, quit } from './hands.mjs';
 
 const FLAGS = ['--headless=new', '--no-sandbox', '--disable-gpu', '--remote-debugging-pipe', '--no-first-run'];
 
@@ -91,12 +91,7 @@ export async function open(program, url, [width, height], media = {}) {
       await send('Page.navigate', { url: to });
     },
     async screenshot(path) { writeFileSync(path, Buffer.from((await send('Page.captureScreenshot')).data, 'base64')); },
-    async close() {
-      const gone = new Promise(yes => child.once('exit', yes));
-      child.kill();
-      await gone;
-      rmSync(profile, { recursive: true, force: true, maxRetries: 5 });
-    },
+    close: () => quit(child, profile),
   });
 }
 

@@ -1,9 +1,9 @@
 // A headless Firefox, driven by WebDriver BiDi: no package is needed.
 import { spawn } from 'node:child_process';
-import { mkdtempSync, rmSync, writeFileSync } from 'node:fs';
+import { mkdtempSync, writeFileSync } from 'node:fs';
 import { tmpdir } from 'node:os';
 import { join } from 'node:path';
-import { hands } from './hands.mjs';
+import { hands, quit } from './hands.mjs';
 import { webSocket } from './web_socket.mjs';
 
 /** Opens a page, as `open` of `chromium.mjs` does. */
@@ -92,12 +92,7 @@ export async function open(program, url, [width, height], media = {}) {
       await navigate(to);
     },
     async screenshot(path) { writeFileSync(path, Buffer.from((await send('browsingContext.captureScreenshot', { context })).data, 'base64')); },
-    async close() {
-      const gone = new Promise(yes => child.once('exit', yes));
-      child.kill();
-      await gone;
-      rmSync(profile, { recursive: true, force: true, maxRetries: 5 });
-    },
+    close: () => quit(child, profile),
   });
 }
 

@@ -1,5 +1,6 @@
 // What the tests do with a browser, whichever it is: wait, look, press, click.
 import { readFileSync, readdirSync } from 'node:fs';
+import { rm } from 'node:fs/promises';
 
 const PATIENCE = 30_000; // ms
 const TICKS_OF_A_SECOND = 100; // in /proc
@@ -12,6 +13,15 @@ export async function pacedAt(asked, measure, least = 0.5) {
   let was = 0;
   for (let tries = 0; tries < TRIES && was <= least * asked; tries++) was = await measure();
   if (!(was > least * asked && was < 1.5 * asked)) throw new Error(`at ${asked} it ran at ${was}`);
+}
+
+/** Ends a browser, and removes its profile. Its other processes may write there for a moment after it has ended. `rmSync` doesn't
+    try again when a folder isn't empty, `rm` does. */
+export async function quit(child, profile) {
+  const gone = new Promise(yes => child.once('exit', yes));
+  child.kill();
+  await gone;
+  await rm(profile, { recursive: true, force: true, maxRetries: 20, retryDelay: 100 });
 }
 
 /** A driver with what every driver has. */
