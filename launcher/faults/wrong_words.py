@@ -183,7 +183,7 @@ def wrong_operand(form, words, at, operand, every):
         return missing(form, words, at, operand)
     word = words[at]
     if operand == "COUNT":
-        return wrong_count(form, words, at)
+        return (wrong_option(form, words, at, every) if word.startswith("--") else None) or wrong_count(form, words, at)
     if word == "":
         return Wrong(at, f"the name of {WHAT[operand]} is empty: a variable of the shell may have no value")
     if word.startswith("-") and word != "-":
@@ -335,7 +335,8 @@ def wrong_option(form, words, at, every):
         given = [name, *([value] if form.options[name] else [])]
         return Wrong(at, "a blank is between an option and its value" if form.options[name] else f"{name} has no value", [*words[:at], *given, *words[at + 1 :]])
     if equals and name in leading(form, every):
-        return Wrong(at, f"a blank is between {name} and the layout", [*words[:at], name, value, *words[at + 1 :]])
+        after = every[f"{form.command} {name}"].operands[1].lower()
+        return Wrong(at, f"a blank is between {name} and the {after}", [*words[:at], name, value, *words[at + 1 :]])
     without = words[:at] + words[at + 1 + has_value(form, words, at) :]
     options = [*form.options, *(it for it in leading(form, every) if it not in words)]
     others = [it.command for it in every.values() if name in it.options or (name in it.operands and it.command != form.command)]

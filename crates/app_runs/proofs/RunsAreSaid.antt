@@ -11,7 +11,7 @@ use Rattle.joint_feed.specs.Stories.{Story, story}
 use Rattle.key_file.specs.Accepted.{IsAcceptedFor}
 use Rattle.key_file.specs.Histories.{KeyHistory}
 use Rattle.key_file.specs.KeyFile.{history_of}
-use Rattle.layout_reader.specs.Layouts.{IsKeyLayout, KeyLayout, us84}
+use Rattle.layout_reader.specs.Layouts.{IsKeyLayout, KeyLayout}
 use Rattle.run_loop.specs.declared.ending.Ending.TheVariants.{TickStart}
 use Rattle.run_loop.specs.Running.{IsOverAfter}
 use Rattle.subsystem.specs.Agreement.{RunsAsExpected}
@@ -27,7 +27,7 @@ use Rattle.app_answers.specs.Leaving.{Left, HaveLookedAtAll}
 use Rattle.app_runs.specs.RunAnswers.{MayAnswerRun, MayAnswerSample}
 use Rattle.app_answers.specs.FileAnswers.{Answer}
 use Rattle.app_runs.specs.RunTexts.{HaveLookedToCut, IsRunText, run_text}
-use Rattle.app_runs.specs.Sampling.{sample_history, sample_story, sample_text}
+use Rattle.app_runs.specs.Sampling.{sample_history, sample_layout, sample_story, sample_text}
 use Rattle.app_answers.specs.Spoken.{IsSpoken, May, still_to_say}
 use Rattle.app_answers.specs.Taking.{Taking, Whole, CutOff}
 use Rattle.app_runs.specs.RunOfText.{MaySayOfText, MaySayOfRun}
@@ -104,25 +104,26 @@ said_at_end may (Ok done) text x y h said broken = (text, [], h Whole, said)
 said_at_end may (Err fault) text x y h said broken = (Ok text, [], h (CutOff x y), broken)
 
 -- what `sample` puts is the text that it may answer, whole or broken off
-pub said_sample : (count : ℕ) (result : Result (Unit {0}) SinkFault) (text : List ℕ) (x y : Shown) (probes left : List Watch)
-    → MayAnswerSample count (Ok text) probes left
+pub said_sample : (count : ℕ) (debounced : Bool) (result : Result (Unit {0}) SinkFault) (text : List ℕ) (x y : Shown) (probes left : List Watch)
+    → MayAnswerSample count debounced (Ok text) probes left
     → OnOk result (IsSaid x y text) → OnErr result (IsBrokenOff x y text)
-    → IsSpoken (λ answer taking log. MayAnswerSample count answer probes left × (log ≡ [])) (Ok (Said result)) x y
-said_sample count result text x y probes left may said broken =
-    said_at_end (λ answer taking log. MayAnswerSample count answer probes left × (log ≡ []))
+    → IsSpoken (λ answer taking log. MayAnswerSample count debounced answer probes left × (log ≡ [])) (Ok (Said result)) x y
+said_sample count debounced result text x y probes left may said broken =
+    said_at_end (λ answer taking log. MayAnswerSample count debounced answer probes left × (log ≡ []))
     result text x y (λ taking. (may, refl)) said broken
 
 -- what `sample` says
-pub sampled : (count : ℕ)
-    → count ≤ 10000 → RunsAsExpected → IsKeyLayout us84 → (s : Story) → s ≡ sample_story count → (text : List ℕ) (probes left : List Watch)
+pub sampled : (count : ℕ) (debounced : Bool)
+    → count ≤ 10000 → RunsAsExpected → IsKeyLayout (sample_layout debounced)
+    → (s : Story) → s ≡ sample_story count debounced → (text : List ℕ) (probes left : List Watch)
     → ((run : Outcome) × IsOutcome s run × (text ≡ sample_text count run) × HaveLookedAtAll s run.steps probes left)
-    → MayAnswerSample count (Ok text) probes left
-sampled count few law sound s this text probes left h =
-    let made : IsOutcome (sample_story count) h.0 = subst (λ (t : Story). IsOutcome t h.0) this h.1 in
+    → MayAnswerSample count debounced (Ok text) probes left
+sampled count debounced few law sound s this text probes left h =
+    let made : IsOutcome (sample_story count debounced) h.0 = subst (λ (t : Story). IsOutcome t h.0) this h.1 in
     inr (
       text,
       h.0,
-      (made, law us84 (sample_history count) h.0 sound (lawful_for (sample_accepted count few)) made, h.2),
+      (made, law (sample_layout debounced) (sample_history count) h.0 sound (lawful_for (sample_accepted count few debounced)) made, h.2),
       refl,
       subst (λ (t : Story). HaveLookedAtAll t h.0.steps probes left) this h.3,
     )

@@ -1,4 +1,4 @@
--- The strokes of `sample` are a history that is accepted for the sample layout.
+-- The strokes of `sample` are a history that is accepted for the sample layout, with a debounce or without.
 use Rattle.std.proofs.Common.{◌≡◌, ◌≤◌, ◌<◌, ℕ, zero, suc, ◌+◌, ◌==◌, Bool, true, false, List, []}
 use Rattle.std.proofs.Common.{◌∷◌, ◌++◌, length, map, refl, ap, sym, subst, ◌∙◌, arith}
 use Rattle.std.specs.Prelude.{IsSome}
@@ -14,7 +14,7 @@ use Rattle.layout_reader.specs.Layouts.{entry_at, sample_entry, us84}
 use Rattle.law_typed_log.specs.Typing.{Stroke, Plain, edges_from, planned, stroke_start, takes_from}
 use Rattle.law_typed_log.proofs.Played.{playable}
 use Rattle.law_typed_log.proofs.Struck.{AllFit}
-use Rattle.app_runs.specs.Sampling.{sample_history, stroke_edges, stroke_key, stroke_take}
+use Rattle.app_runs.specs.Sampling.{sample_history, sample_layout, stroke_edges, stroke_key, stroke_take}
 use Rattle.law_typed_log.specs.Typing.{stroke_start}
 
 -- so many strokes, the first of which has this number
@@ -75,12 +75,13 @@ history_is count =
       end = stroke_start m;
     }) n
 
--- the strokes of `sample`, up to 10,000, are an accepted history for the sample layout
-pub sample_accepted : (count : ℕ) → count ≤ 10000 → IsAcceptedFor us84 (sample_history count)
-sample_accepted count few =
+-- the strokes of `sample`, up to 10,000, are an accepted history for the sample layout, with a debounce or without
+pub sample_accepted : (count : ℕ) → count ≤ 10000 → (debounced : Bool) → IsAcceptedFor (sample_layout debounced) (sample_history count)
+sample_accepted count few debounced =
+    let layout = sample_layout debounced in
     let n = many 0 count in
-    subst (λ (h : KeyHistory). IsAcceptedFor us84 h) (history_is count)
-    (playable us84 (strokes_from 0 count) (all_fit 0 count) (omega (arith, few, n))).accepted
+    subst (λ (h : KeyHistory). IsAcceptedFor layout h) (history_is count)
+    (playable layout (strokes_from 0 count) (all_fit 0 count) (omega (arith, few, n))).accepted
 
 -- one stroke more, whose edges are pushed one after the other
 edges_more : (a n j : ℕ) → a + n ≡ j → flat_map stroke_edges (range_with_len a (n + 1)) ≡ (flat_map stroke_edges (range_with_len a n)

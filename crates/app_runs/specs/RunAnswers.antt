@@ -1,5 +1,5 @@
 -- What may be answered of the run of a layout, and of a load on the sample layout.
-use Rattle.std.specs.Prelude.{◌≡◌, ◌⊎◌, ℕ, List, Ok, Err}
+use Rattle.std.specs.Prelude.{◌≡◌, ◌⊎◌, ℕ, Bool, List, Ok, Err}
 use Rattle.run_probes.specs.Probes.{Watch}
 use Rattle.key_file.specs.Histories.{KeyHistory}
 use Rattle.layout_reader.specs.Layouts.{KeyLayout}
@@ -18,9 +18,9 @@ MayAnswerRun command layout history answer probes left =
     ⊎ ((text : List ℕ) × (run : Outcome) × IsRunText command layout history text run × (answer ≡ Ok text)
     × AreLeft command layout history run left.taking probes left.probes)
 
--- what may be answered of the run of so many strokes; no memory runs out once it has begun
-abbrev pub MayAnswerSample : ℕ → Answer → List Watch → List Watch → Type 0
-MayAnswerSample count answer probes left =
+-- what may be answered of the run of so many strokes, with a debounce or without; no memory runs out once it has begun
+abbrev pub MayAnswerSample : ℕ → Bool → Answer → List Watch → List Watch → Type 0
+MayAnswerSample count debounced answer probes left =
     ((answer ≡ Err Memory) × (left ≡ probes))
-    ⊎ ((text : List ℕ) × (run : Outcome) × IsSampleText count text run × (answer ≡ Ok text)
-    × HaveLookedAtAll (sample_story count) run.steps probes left)
+    ⊎ ((text : List ℕ) × (run : Outcome) × IsSampleText count debounced text run × (answer ≡ Ok text)
+    × HaveLookedAtAll (sample_story count debounced) run.steps probes left)

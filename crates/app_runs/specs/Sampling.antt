@@ -1,12 +1,13 @@
--- `sample`: a load of so many strokes of keys on the sample layout, and the line that is printed of its run.
-use Rattle.std.specs.Prelude.{◌≡◌, ℕ, ◌+◌, ◌-◌, ◌*◌, ◌%◌, true, false, List, [], ◌∷◌, ◌++◌, length, map, codes, decimal}
+-- `sample`: a load of so many strokes of keys on the sample layout, with a debounce or without, and the line that is printed
+-- of its run.
+use Rattle.std.specs.Prelude.{◌≡◌, ℕ, ◌+◌, ◌-◌, ◌*◌, ◌%◌, Bool, true, false, List, [], ◌∷◌, ◌++◌, length, map, codes, decimal}
 use Rattle.std.specs.List.{flat_map, range_with_len}
 use Rattle.board_terms.specs.declared.event.Edge.{Edge}
 use Rattle.board_terms.specs.declared.event.HostEvent.{HostEvent}
 use Rattle.fw_compile.specs.Image.{image_of}
 use Rattle.joint_feed.specs.Stories.{Story, story}
 use Rattle.key_file.specs.Histories.{KeyHistory}
-use Rattle.layout_reader.specs.Layouts.{us84}
+use Rattle.layout_reader.specs.Layouts.{KeyLayout, us84, with_debounce}
 use Rattle.subsystem.specs.Agreement.{IsAsExpected}
 use Rattle.subsystem.specs.Counts.{none_counted, with_lines}
 use Rattle.subsystem.specs.LayoutOutcomes.{IsOutcome, Outcome}
@@ -36,8 +37,11 @@ sample_history count = record {
   end = stroke_start count;
 }
 
-abbrev pub sample_story : ℕ → Story
-sample_story count = story (image_of us84) (sample_history count)
+abbrev pub sample_layout : Bool → KeyLayout
+sample_layout debounced = with_debounce debounced us84
+
+abbrev pub sample_story : ℕ → Bool → Story
+sample_story count debounced = story (image_of (sample_layout debounced)) (sample_history count)
 
 -- how many events the history has, how many bytes, words and beeps the run's log, and the number of its last tick start
 abbrev pub counts_line : ℕ → Counts → ℕ → List ℕ
@@ -48,8 +52,8 @@ counts_line count counts tick =
 abbrev pub sample_text : ℕ → Outcome → List ℕ
 sample_text count run = counts_line count (with_lines none_counted run.log) (length run.starts - 1)
 
--- the text is that of the run of the sample layout's image under these strokes, whose log is the one that the model
--- expects
-abbrev pub IsSampleText : ℕ → List ℕ → Outcome → Type 0
-IsSampleText count text run =
-    IsOutcome (sample_story count) run × IsAsExpected us84 (sample_history count) run × (text ≡ sample_text count run)
+-- the text is that of the run of this layout's image under these strokes, whose log is the one that the model expects
+abbrev pub IsSampleText : ℕ → Bool → List ℕ → Outcome → Type 0
+IsSampleText count debounced text run =
+    IsOutcome (sample_story count debounced) run × IsAsExpected (sample_layout debounced) (sample_history count) run
+    × (text ≡ sample_text count run)

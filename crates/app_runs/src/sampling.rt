@@ -1,16 +1,15 @@
 //! `sample`: a run of the sample layout under so many strokes of keys, and what it counts.
 
-ghost use Rattle.std.specs.Prelude.{◌≡◌, ◌≤◌, [], map, Err, IfOk, MatchResult, Ok};
+ghost use Rattle.std.specs.Prelude.{◌≡◌, ◌≤◌, Bool, [], map, Err, IfOk, MatchResult, Ok};
 ghost use Rattle.subsystem.specs.Counts.{none_counted, with_lines};
 ghost use Rattle.key_file.specs.Accepted.{IsAccepted, IsAcceptedFor};
-ghost use Rattle.layout_reader.specs.Layouts.{us84};
 ghost use Rattle.subsystem.specs.Ending.{ending};
 ghost use Rattle.run_loop.specs.Gliding.{history_of};
 ghost use Rattle.subsystem.specs.LayoutOutcomes.{IsOutcome, Outcome};
 ghost use Rattle.law_typed_log.specs.Typing.{stroke_start};
 ghost use Rattle.app_runs.specs.RunAnswers.{MayAnswerSample};
 ghost use Rattle.app_answers.specs.Leaving.{HaveLookedAtAll};
-ghost use Rattle.app_runs.specs.Sampling.{counts_line, sample_history, sample_text, stroke_key};
+ghost use Rattle.app_runs.specs.Sampling.{counts_line, sample_history, sample_layout, sample_text, stroke_key};
 ghost use Rattle.app_answers.specs.Spoken.{IsSpoken};
 
 use app_answers::Spoken;
@@ -20,7 +19,7 @@ use board_terms::{Edge, HostAct, HostEvent, Place};
 use hex_text::{append, begun};
 use io_edge::{DropSink, Sink, say};
 use key_file::{Feed, History, ListFeed};
-use layout_reader::us84_layout;
+use layout_reader::{Layout, us84_layout};
 use run_probes::Probe;
 use std::alloc::{AllocError, Global};
 use subsystem::{Counts, Ended, Engine, runs_are_expected};
@@ -35,6 +34,13 @@ const HELD: u64 = 10_240;
 
 /// After how many cycles from its beginning its word is taken.
 const TAKEN: u64 = 14_336;
+
+/// The sample layout, with a debounce or without.
+fn sample_layout(alloc: Global, debounced: bool) -> Result<Layout, AllocError>
+    ensures layout { IfOk result (λ layout. layout ≡ sample_layout debounced) }
+{
+    Ok(us84_layout(alloc)?.with_debounce(debounced))
+}
 
 /// The stamp at which a stroke begins, counted from 0, in cycles.
 fn stroke_start(k: u32) -> u64
@@ -56,7 +62,7 @@ fn stroke_place(k: u32) -> Place
 fn sample_history(alloc: Global, count: u32) -> Result<History, AllocError>
     requires few { count ≤ 10000 }
     ensures history { IfOk result (λ history. history ≡ sample_history count) }
-    ensures accepted { IfOk result (IsAcceptedFor us84) }
+    ensures accepted { (debounced : Bool) → IfOk result (IsAcceptedFor (sample_layout debounced)) }
 {
     let mut edges = Vec::new(alloc);
     let mut host = Vec::new(alloc);
@@ -150,22 +156,23 @@ fn made<T>(answer: Result<T, AllocError>) -> Result<T, Refusal>
     }
 }
 
-/// `sample`, of 1 to 10,000 strokes. Memory is lacking only before a probe has looked and anything is put.
+/// `sample`, of 1 to 10,000 strokes, on the sample layout with a debounce or without. Memory is lacking only before a probe has looked and anything is put.
 pub fn sample<K: Sink>(
     alloc: Global,
     count: u32,
+    debounced: bool,
     out: &mut K,
     probes: &mut Vec<Box<dyn Probe>>,
 ) -> Result<Spoken, Refusal>
     requires few { count ≤ 10000 }
     ensures says { let before = map (λ b. watch b) probes.old.items in
         let after = map (λ b. watch b) probes.new.items in
-        IsSpoken (λ answer taking log. MayAnswerSample count answer before after × (log ≡ []))
+        IsSpoken (λ answer taking log. MayAnswerSample count debounced answer before after × (log ≡ []))
         result (K.shown out.old) (K.shown out.new) }
     ensures unread { result ≡ Err Refusal.Read → ⊥ }
 {
     runs_are_expected();
-    let layout = made(us84_layout(alloc))?;
+    let layout = made(sample_layout(alloc, debounced))?;
     let history = made(sample_history(alloc, count))?;
     let engine = made(Engine::new(alloc, &layout, ListFeed::new(&history)))?;
     let line = sample_line(engine, count, probes);

@@ -156,11 +156,16 @@ abbrev pub feed_of : List (List ℕ) → Option Command
 feed_of words =
     if nat_lt 0 (length words) && nat_le (length words) 4096 then option_map Feed (bytes_of words) else None
 
--- `sample` COUNT: 1 to 10,000 strokes
-abbrev pub sample_of : List (List ℕ) → Option Command
-sample_of (count ∷ []) =
-    option_and_then (λ strokes. if nat_lt 0 strokes && nat_le strokes 10000 then Some (Sample strokes) else None)
+-- a COUNT of 1 to 10,000 strokes, on a layout with a debounce or without
+abbrev pub strokes_of : Bool → List ℕ → Option Command
+strokes_of debounced count =
+    option_and_then (λ strokes. if nat_lt 0 strokes && nat_le strokes 10000 then Some (Sample strokes debounced) else None)
     (count_of count)
+
+-- `sample` COUNT, or `sample --debounced` COUNT
+abbrev pub sample_of : List (List ℕ) → Option Command
+sample_of (count ∷ []) = strokes_of false count
+sample_of (option ∷ count ∷ []) = if bytes_eq option (codes "--debounced") then strokes_of true count else None
 sample_of words = None
 
 -- `capture` NAME, or `capture` NAME CLOCK DATA
@@ -218,7 +223,7 @@ leaves_probes (Some (OverPair (OverRun command))) = is_trace command
 leaves_probes (Some Debug) = false
 leaves_probes (Some (Probe fill)) = false
 leaves_probes (Some (Board wanted)) = false
-leaves_probes (Some (Sample count)) = false
+leaves_probes (Some (Sample strokes debounced)) = false
 leaves_probes command = true
 
 -- commands that lack memory only before anything is put and before a probe has looked
@@ -226,7 +231,7 @@ abbrev pub takes_memory_first : Option Command → Bool
 takes_memory_first (Some (OverPair (OverRun (Log ticks steps)))) = true
 takes_memory_first (Some (OverPair (OverRun (Trace seen)))) = true
 takes_memory_first (Some (Board wanted)) = true
-takes_memory_first (Some (Sample count)) = true
+takes_memory_first (Some (Sample strokes debounced)) = true
 takes_memory_first (Some Capture) = true
 takes_memory_first (Some Typed) = true
 takes_memory_first command = false
@@ -277,6 +282,6 @@ files_in Debug = 3
 files_in (Probe fill) = 4
 files_in (Board wanted) = 3
 files_in (Feed bytes) = 0
-files_in (Sample count) = 0
+files_in (Sample strokes debounced) = 0
 files_in Capture = 1
 files_in Typed = 3

@@ -1,4 +1,4 @@
-//! The options that follow the names of a command, read by their places.
+//! The options of a command, read by their places.
 
 ghost use Rattle.std.specs.Prelude.{◌≡◌, codes, map, string_bytes};
 ghost use Rattle.std.specs.Str.{bytes_eq};
@@ -40,6 +40,13 @@ fn is_fill(word: &str) -> bool
     ensures { result ≡ bytes_eq word.now (codes "--fill") }
 {
     word == "--fill"
+}
+
+/// Whether the word is the option for a debounce.
+pub(crate) fn is_debounced(word: &str) -> bool
+    ensures { result ≡ bytes_eq word.now (codes "--debounced") }
+{
+    word == "--debounced"
 }
 
 /// Whether two words are both options of `run`, in either order.

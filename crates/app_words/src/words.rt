@@ -4,12 +4,14 @@ ghost use Rattle.std.specs.Prelude.{◌≡◌, ◌+◌, ◌<◌, ◌≤◌, leng
 ghost use Rattle.std.specs.Char.{is_ascii_digit};
 ghost use Rattle.std.specs.List.{list_all};
 ghost use Rattle.app_words.specs.Words.{is_name, is_short_number, count_of, step_of, named_of, pair_of, debug_of, probe_of};
-ghost use Rattle.app_words.specs.Words.{run_of, trace_of, board_of, feed_of, sample_of, capture_of, signals_of, typed_of, clock_in, command_of, data_in};
+ghost use Rattle.app_words.specs.Words.{run_of, trace_of, board_of, feed_of, sample_of, strokes_of, capture_of, signals_of, typed_of, clock_in, command_of, data_in};
 ghost use Rattle.app_words.specs.Words.{files_in, is_form, typed_clock_in, typed_data_in};
 
 use crate::bytes::KeyboardBytes;
 use crate::kind::Kind;
-use crate::options::{read_board_options, read_probe_option, read_run_options, read_trace_option};
+use crate::options::{
+    is_debounced, read_board_options, read_probe_option, read_run_options, read_trace_option,
+};
 use crate::strokes::Strokes;
 
 /// The greatest COUNT of steps.
@@ -84,8 +86,8 @@ pub enum Command {
     Board(BoardRun),
     /// `words` BYTE ..
     Feed(KeyboardBytes),
-    /// `sample` COUNT
-    Sample(Strokes),
+    /// `sample` COUNT, or `sample --debounced` COUNT
+    Sample { strokes: Strokes, debounced: bool },
     /// `capture` NAME, or `capture` NAME CLOCK DATA: a value change dump, and the names of its two signals, which `clock_in`
     /// and `data_in` read. The file's name is the word after the command.
     Capture,
@@ -262,13 +264,22 @@ fn read_feed(words: &[String]) -> Option<Command>
     KeyboardBytes::read(words).map(Command::Feed)
 }
 
-/// `sample` COUNT
+/// COUNT strokes, with a debounce or without.
+fn read_strokes(strokes: &str, debounced: bool) -> Option<Command>
+    ensures { result ≡ strokes_of debounced strokes.now }
+{
+    let strokes = Strokes::new(count(strokes)?)?;
+    Some(Command::Sample { strokes, debounced })
+}
+
+/// `sample` COUNT, or `sample --debounced` COUNT
 fn read_sample(words: &[String]) -> Option<Command>
     ensures command { result ≡ sample_of (map string_bytes words.now) }
     ensures named { IfSome result (λ command. files_in command ≤ length words.now) }
 {
     match words {
-        [strokes] => Strokes::new(count(strokes)?).map(Command::Sample),
+        [strokes] => read_strokes(strokes, false),
+        [option, strokes] if is_debounced(option) => read_strokes(strokes, true),
         _ => None,
     }
 }

@@ -1,5 +1,5 @@
 -- What a command comes to, said or still to be said.
-use Rattle.std.proofs.Common.{◌≡◌, ℕ, List, [], map, string_bytes, String, Global, Some, Ok, refl, ap, sym, subst}
+use Rattle.std.proofs.Common.{◌≡◌, ℕ, Bool, List, [], map, string_bytes, String, Global, Some, Ok, refl, ap, sym, subst}
 use Rattle.std.specs.Option.{option_map}
 use Rattle.std.specs.declared.option.Option.{Option}
 use Rattle.std.specs.declared.result.Result.{Result}
@@ -104,13 +104,13 @@ module _ (words : List (String Global)) (shelf after : Option Shelved) (command 
       spoken_as x x (unsaid_so (λ answer taking log. MayEnd plan shelf answer after probes (left_after left taking log)) said result x so h)
 
 -- `sample` fetches nothing
-pub sample_spoken : (words : List (String Global)) (shelf : Option Shelved) (count n : ℕ) (probes left : List Watch)
+pub sample_spoken : (words : List (String Global)) (shelf : Option Shelved) (count n : ℕ) (debounced : Bool) (probes left : List Watch)
     (result : Result Spoken Refusal) (x y : Shown)
-    → command_of (map string_bytes words) ≡ Some (Sample count)
-    → n ≡ count → IsSpoken (λ answer taking log. MayAnswerSample n answer probes left × (log ≡ [])) result x y
+    → command_of (map string_bytes words) ≡ Some (Sample count debounced)
+    → n ≡ count → IsSpoken (λ answer taking log. MayAnswerSample n debounced answer probes left × (log ≡ [])) result x y
     → IsSpoken (λ answer taking log. MayAnswer (map string_bytes words) shelf answer shelf probes (left_after left taking log)) result x y
-sample_spoken words shelf count n probes left result x y is same h =
-    spoken_as words shelf shelf (Sample count) (Samples n) probes left is (ap Samples same) result x y
-    (spoken_on (λ answer taking log. MayAnswerSample n answer probes left × (log ≡ []))
-    (λ answer taking log. MayEnd (Samples n) shelf answer shelf probes (left_after left taking log))
+sample_spoken words shelf count n debounced probes left result x y is same h =
+    spoken_as words shelf shelf (Sample count debounced) (Samples n debounced) probes left is (ap (λ k. Samples k debounced) same) result x y
+    (spoken_on (λ answer taking log. MayAnswerSample n debounced answer probes left × (log ≡ []))
+    (λ answer taking log. MayEnd (Samples n debounced) shelf answer shelf probes (left_after left taking log))
     (λ answer taking log k. (k.0, refl, k.1)) result x y h)

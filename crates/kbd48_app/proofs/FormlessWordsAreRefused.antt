@@ -90,7 +90,7 @@ refused refusal other n is = other is
 
 never_command : (command : Command) (words : List (List ℕ)) → Never (plan_of (Some command) words)
 never_command (Feed bytes) words = λ n is. cc
-never_command (Sample count) words = λ n is. cc
+never_command (Sample count debounced) words = λ n is. cc
 never_command (OverFile command) words = λ bytes n. never_file command bytes (file_said command bytes) (file_exits command bytes)
 never_command (OverPair Certify) words =
     λ bytes. images Together goes_on refused (cert_next (second_in words)) (cert_next (second_in words))

@@ -35,7 +35,7 @@ lines_by (Boards wanted image history) shelf answer after probes left h =
       | inl memory ↦ inl memory.1
       | inr reported ↦ subst AreLines (sym reported.2) (log_is_lines wanted.prints_what (board_story wanted image history) reported.0)
     ]
-lines_by (Samples count) shelf answer after probes left h = inl h.2
+lines_by (Samples count debounced) shelf answer after probes left h = inl h.2
 lines_by (Debugs s script) shelf answer after probes left h = inl h.2
 lines_by (Captures clk dat dump) shelf answer after probes left h =
     elim h.0 [

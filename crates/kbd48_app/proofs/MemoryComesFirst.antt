@@ -1,6 +1,6 @@
 -- Commands that take all their memory before the first step: where it is lacking, no probe has looked, and nothing was
 -- said.
-use Rattle.std.proofs.Common.{◌≡◌, ℕ, true, List, [], ◌++◌, None, Some, Err, inl, inr, sym, subst, ◌∙◌}
+use Rattle.std.proofs.Common.{◌≡◌, ℕ, Bool, true, List, [], ◌++◌, None, Some, Err, inl, inr, sym, subst, ◌∙◌}
 use Rattle.std.specs.Option.{option_map}
 use Rattle.std.specs.declared.option.Option.{Option}
 use Rattle.run_program.specs.BoardOutcomes.{Outcome}
@@ -78,8 +78,8 @@ run_keeps command first layout history shelf answer after probes left h is =
       | inr said ↦ absurd (no_refusal said.0 Memory (sym said.3 ∙ is))
     ]
 
-sample_keeps : (count : ℕ) → KeepsFirst (Samples count)
-sample_keeps count shelf answer after probes left h is =
+sample_keeps : (count : ℕ) (debounced : Bool) → KeepsFirst (Samples count debounced)
+sample_keeps count debounced shelf answer after probes left h is =
     elim h.0 [ inl memory ↦ (memory.1, h.2) | inr said ↦ absurd (no_refusal said.0 Memory (sym said.3 ∙ is)) ]
 
 not_memory : (wanted : BoardCommand) (run : Outcome) (end : End) → board_said wanted run end ≡ Err Memory → ⊥
@@ -110,7 +110,7 @@ typed_keeps clk dat name layout =
     fetch_keeps Vcd name (Follows layout clk dat) (λ dump shelf answer after probes left h is. (h.1.1, h.1.2))
 
 keeps_as : (command : Option Command) (words : List (List ℕ)) → takes_memory_first command ≡ true → KeepsFirst (plan_of command words)
-keeps_as (Some (Sample count)) words first = sample_keeps count
+keeps_as (Some (Sample count debounced)) words first = sample_keeps count debounced
 keeps_as (Some (OverPair (OverRun command))) words first =
     histories (λ p q. KeepsFirst p) (λ kind name next other. fetch_keeps kind name next) (λ refusal other. refused_keeps refusal)
     (Runs command) (Runs command) (run_keeps command first) (name_in words) (second_in words)

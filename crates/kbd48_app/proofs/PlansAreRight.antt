@@ -442,8 +442,8 @@ right n None words shelf =
 right n (Some (Feed bytes)) words shelf =
     done_right n (Some (Feed bytes)) (plan_of (Some (Feed bytes)) words) shelf
     (start n (Some (Feed bytes)) (plan_of (Some (Feed bytes)) words) shelf)
-right n (Some (Sample count)) words shelf =
-    done_right n (Some (Sample count)) (Samples count) shelf (start n (Some (Sample count)) (Samples count) shelf)
+right n (Some (Sample count debounced)) words shelf =
+    done_right n (Some (Sample count debounced)) (Samples count debounced) shelf (start n (Some (Sample count debounced)) (Samples count debounced) shelf)
 right n (Some (OverFile over)) words shelf =
     let plan = plan_of (Some (OverFile over)) words in
     fetched_right n (Some (OverFile over)) plan shelf (kind_of over) (name_in words) (λ bytes. Gives (file_said over bytes)) [] shelf

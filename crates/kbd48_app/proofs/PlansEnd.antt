@@ -69,7 +69,7 @@ leads n (Certifies image text) shelf = exit_said (cert_said image text)
 leads n (Spells layout text) shelf = exit_by (first_without layout text)
 leads n (Runs command layout history) shelf = exits.Done
 leads n (Boards wanted image history) shelf = board_exit (end_of (board_story wanted image history))
-leads n (Samples count) shelf = exits.Done
+leads n (Samples count debounced) shelf = exits.Done
 leads n (Debugs s script) shelf = exit_by (script_fault n script)
 leads n (Captures clk dat dump) shelf = capture_exit (reads_of clk dat dump).fault
 leads n (Follows layout clk dat dump) shelf = capture_exit (reads_of clk dat dump).fault
@@ -168,7 +168,7 @@ leaf_ends (Boards wanted image history) some shelf answer after probes left leaf
           let led = ap board_exit (end_found (board_story wanted image history) reported.0 reported.1) in
           inl (ap exit_said reported.3 ∙ board_led wanted.prints_what reported.0 reported.0.end ∙ sym led)
     ]
-leaf_ends (Samples count) some shelf answer after probes left leaf h =
+leaf_ends (Samples count debounced) some shelf answer after probes left leaf h =
     elim h.0 [ inl memory ↦ inr (memory.0, refl) | inr said ↦ inl (ap exit_said said.3) ]
 leaf_ends (Debugs s script) some shelf answer after probes left leaf h =
     session_led (script_fault (length probes) script) s script answer probes left h.0

@@ -52,7 +52,7 @@ served_past n (Certifies image text) shelf h = inl (right_exit number_of (certif
 served_past n (Spells layout text) shelf h = inl (ap exit_by h)
 served_past n (Runs command layout history) shelf h = inl refl
 served_past n (Boards wanted image history) shelf h = board_past (end_of (board_story wanted image history))
-served_past n (Samples count) shelf h = inl refl
+served_past n (Samples count debounced) shelf h = inl refl
 served_past n (Debugs s script) shelf h = inl (ap exit_by h)
 served_past n (Captures clk dat dump) shelf h = inl (ap capture_exit h)
 served_past n (Follows layout clk dat dump) shelf h = inl (ap capture_exit h)
@@ -85,7 +85,7 @@ fileless_left : (n : ℕ) (words : List (List ℕ)) (command : Option Command) (
 fileless_left n words None after answer probes left served may = absurd served
 fileless_left n words (Some (Feed bytes)) after answer probes left served may =
     elim may.0 [ inl memory ↦ inr (ap exit_said memory) | inr same ↦ inl (ap exit_said same) ]
-fileless_left n words (Some (Sample count)) after answer probes left served may =
+fileless_left n words (Some (Sample count debounced)) after answer probes left served may =
     elim may.0 [ inl memory ↦ inr (ap exit_said memory.0) | inr said ↦ inl (ap exit_said said.3) ]
 fileless_left n words (Some (OverPair Certify)) after answer probes left served may = absurd served
 fileless_left n words (Some (OverPair Spell)) after answer probes left served may = absurd served

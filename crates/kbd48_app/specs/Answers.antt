@@ -42,8 +42,8 @@ MayEnd (Runs command layout history) shelf answer after probes left =
     MayAnswerRun command layout history answer probes left × (after ≡ shelf) × (left.log ≡ [])
 MayEnd (Boards wanted image history) shelf answer after probes left =
     MayAnswerBoard wanted image history answer probes left × (after ≡ shelf)
-MayEnd (Samples count) shelf answer after probes left =
-    MayAnswerSample count answer probes left.probes × (after ≡ shelf) × (left.log ≡ [])
+MayEnd (Samples count debounced) shelf answer after probes left =
+    MayAnswerSample count debounced answer probes left.probes × (after ≡ shelf) × (left.log ≡ [])
 MayEnd (Debugs s script) shelf answer after probes left =
     MayAnswerDebug s script answer probes left × (after ≡ shelf) × (left.log ≡ [])
 MayEnd (Captures clk dat dump) shelf answer after probes left =

@@ -1,5 +1,5 @@
 -- What a command does with files: which it asks for, in what order, and what it says of their bytes.
-use Rattle.std.specs.Prelude.{ℕ, List, Ok, Err, None, Some}
+use Rattle.std.specs.Prelude.{ℕ, Bool, List, Ok, Err, None, Some}
 use Rattle.std.specs.declared.option.Option.{Option}
 use Rattle.std.specs.declared.result.Result.{Result}
 use Rattle.hexfile.specs.Hex.{HexOutcome, hex_of}
@@ -37,7 +37,7 @@ pub data Plan : Type 0 where
   Spells : KeyLayout → List ℕ → Plan
   Runs : RunCommand → KeyLayout → KeyHistory → Plan
   Boards : BoardRun → List ℕ → KeyHistory → Plan
-  Samples : ℕ → Plan
+  Samples : ℕ → Bool → Plan
   Debugs : Debuggee → List ℕ → Plan
   Captures : List ℕ → List ℕ → List ℕ → Plan
   Follows : KeyLayout → List ℕ → List ℕ → List ℕ → Plan
@@ -125,7 +125,7 @@ pair_plan (OverRun command) first second = history_plan (Runs command) first sec
 abbrev pub plan_of : Option Command → List (List ℕ) → Plan
 plan_of None words = Gives (Err Words)
 plan_of (Some (Feed bytes)) words = Gives (Ok (fed_text bytes))
-plan_of (Some (Sample count)) words = Samples count
+plan_of (Some (Sample count debounced)) words = Samples count debounced
 plan_of (Some (OverFile command)) words =
     Fetches (kind_of command) (name_in words) (λ bytes. Gives (file_said command bytes))
 plan_of (Some (OverPair command)) words = pair_plan command (name_in words) (second_in words)

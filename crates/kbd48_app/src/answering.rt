@@ -172,7 +172,9 @@ pub fn answer<F: Shelf, K: Sink>(
         Some(Command::Board(wanted)) => over_board(
             alloc, wanted, &words[1], &words[2], &words[3], shelf, out, probes,
         ),
-        Some(Command::Sample(strokes)) => sample(alloc, strokes.count(), out, probes),
+        Some(Command::Sample { strokes, debounced }) => {
+            sample(alloc, strokes.count(), debounced, out, probes)
+        }
         Some(Command::Capture) => over_capture(
             alloc,
             &words[1],

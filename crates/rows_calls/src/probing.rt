@@ -1,9 +1,10 @@
-//! Probes that ride on the runs of `run` and `expect`, and are left alone by the other commands.
+//! Probes that ride on the runs of `run`, `expect` and `sample`, and are left alone by the commands without a run.
 
 use crate::calls::call;
 use app_words::Exit;
 use io_edge::MemSink;
 use run_probes::{CellProbe, Probe, Tally};
+use std::alloc::{AllocError, Global};
 use std::test::Fail;
 
 /// A probe of one cell, armed with a place and a value.
@@ -98,5 +99,29 @@ fn probes_ride_on_run_and_expect_alone(rt: HostRuntime) -> Result<(), Fail> {
             assert!(rt; case.has(&probe.tell()));
         }
     }
+    Ok(())
+}
+
+/// How many steps of a call's run find this value in a cell of data memory.
+fn steps_with(alloc: Global, words: &[&str], cell: u16, value: u8) -> Result<u64, AllocError> {
+    let mut probe = CellProbe::new();
+    probe.arm(cell, value);
+    let mut probes: Vec<Box<dyn Probe>> = Vec::new(alloc);
+    probes.push(Box::new(alloc, probe)?)?;
+    let sink = MemSink::new(alloc, 8192, Vec::new(alloc))?;
+    call(alloc, words, &[], sink, &mut probes)?;
+    match probes.first() {
+        Some(probe) => Ok(probe.tell().count),
+        None => Ok(0),
+    }
+}
+
+/// The first stroke is that of the key in column 3 and row 5. The counts that are printed are the same; cell 63 has the keys of
+/// column 3 that one reading alone has shown otherwise.
+#[test]
+fn a_key_is_pending_in_the_debounced_load_alone(rt: HostRuntime) -> Result<(), Fail> {
+    let alloc = rt.alloc();
+    assert_eq!(rt; steps_with(alloc, &["sample", "1"], 0x063, 0x20)?, 0);
+    assert!(rt; steps_with(alloc, &["sample", "--debounced", "1"], 0x063, 0x20)? > 0);
     Ok(())
 }

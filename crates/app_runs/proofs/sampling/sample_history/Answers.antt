@@ -1,4 +1,4 @@
-use Rattle.std.proofs.Common.{◌≡◌, refl, ◌∙◌, arith}
+use Rattle.std.proofs.Common.{◌≡◌, false, refl, ◌∙◌, arith}
 use Rattle.app_runs.specs.Sampling.{sample_history}
 use Rattle.app_runs.proofs.StrokesAreAccepted.{edges_pushed, sample_accepted, takes_pushed}
 use Rattle.app_runs.proofs.sampling.sample_history.Goals as goal
@@ -17,7 +17,7 @@ pub new-requires : goal.new-requires
 new-requires c =
     let inv = c.loop-k.invariant in
     let all : c.loop-k.k ≡ c.args.count = omega arith in
-    record { accepted = rw (inv.edges, inv.host, c.stroke_start.ensures, all) (sample_accepted c.args.count c.requires.few).accepted }
+    record { accepted = rw (inv.edges, inv.host, c.stroke_start.ensures, all) (sample_accepted c.args.count c.requires.few false).accepted }
 
 pub returns : goal.returns
 returns c =
@@ -25,4 +25,4 @@ returns c =
     let all : c.loop-k.k ≡ c.args.count = omega arith in
     let same : c.new.result ≡ sample_history c.args.count =
     c.new.ensures.history ∙ rw (inv.edges, inv.host, c.stroke_start.ensures, all) refl in
-    record { history = same; accepted = rw same (sample_accepted c.args.count c.requires.few) }
+    record { history = same; accepted = λ debounced. rw same (sample_accepted c.args.count c.requires.few debounced) }

@@ -57,7 +57,7 @@ returns-in-Some-Probe-clause-ends g c =
 
 pub returns-in-Some-Sample-clause-ends : goal.returns-in-Some-Sample-clause-ends
 returns-in-Some-Sample-clause-ends g c =
-    sample_spoken c.args.words.now (g.F.Shelf.in_memory c.args.shelf.now) c.in-Some-Sample.strokes _ _ _ c.sample.result
+    sample_spoken c.args.words.now (g.F.Shelf.in_memory c.args.shelf.now) c.in-Some-Sample.strokes _ c.in-Some-Sample.debounced _ _ c.sample.result
     (g.K.Sink.shown c.args.out.now)
     (g.K.Sink.shown c.sample.new.out)
     (sym c.read_command.ensures.command ∙ (c.in-Some-Sample.is ∙ ap (λ f. Some f) c.in-Some-Sample.field-0-is))
