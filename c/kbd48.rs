@@ -134,14 +134,16 @@ pub struct Keys {
 const NO_KEYS: Keys =
     Keys { ready: 0, edges: [Pushed { stamp: 0, place: 0, down: false }; 160], down: [false; 96], count: 0 };
 
-/// Help for two BIOSes. What the guest sees with it isn't the machine's. Copy it beside a save.
+/// Help for two BIOSes. What the guest sees with it isn't the machine's. `parameter` is whether the controller awaits a
+/// parameter at port 60h, and `last` the last byte that the keyboard was given, or 0. Keep one for each keyboard, and all
+/// four beside a save.
 #[repr(C)]
 #[derive(Clone, Copy, Debug, Default, PartialEq, Eq)]
 pub struct Help {
-    seabios: bool,
-    bochs: bool,
-    parameter: bool,
-    last: u8,
+    pub seabios: bool,
+    pub bochs: bool,
+    pub parameter: bool,
+    pub last: u8,
 }
 
 impl Help {

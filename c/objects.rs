@@ -57,6 +57,7 @@ fn main() -> Result<(), Box<dyn std::error::Error>> {
     assert_eq!((sample.queued(), sample.run_keys(4000, false)?.rises), (0, 0));
     let mut help = kbd48::Help::new(true, true);
     assert_eq!([help.write(0x60, 0xf0), help.write(0x60, 0x02), help.write(0x60, 0xff)], [0xf0, 0xef, 0xff]);
+    assert_eq!(help, kbd48::Help { seabios: true, bochs: true, parameter: false, last: 0xff });
     assert!(help.read(0xfa) && !help.read(0xfa));
 
     let mut ready = Keyboard::ready_of_layout(&std::fs::read("examples/us84.toml")?)?;

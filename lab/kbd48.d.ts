@@ -143,6 +143,25 @@ export declare class Keyboard {
   cell(number: number): number;
 }
 
+/** What a `Help` has: the two options, and what is remembered. */
+export interface HelpState {
+  seabios: boolean;
+  bochs: boolean;
+  parameter: boolean;
+  last: number;
+}
+
+/** Help for two BIOSes. What the guest sees with it isn't the machine's. Keep one for each keyboard, and its state beside a save. */
+export declare class Help implements HelpState {
+  constructor(keyboard: Keyboard, state?: Partial<HelpState>);
+  seabios: boolean;
+  bochs: boolean;
+  parameter: boolean;
+  last: number;
+  write(port: 0x60 | 0x64, byte: number): number;
+  read(byte: number): boolean;
+}
+
 /** What a command answered: its exit status, and its text. */
 export interface Answer {
   readonly exit: number;

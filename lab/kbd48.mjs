@@ -463,6 +463,38 @@ export class Keyboard {
   }
 }
 
+const HELP_SIZE = 4;
+
+/** Help for two BIOSes. What the guest sees with it isn't the machine's. With `seabios` the byte after F0 is replaced by EF; with
+    `bochs` the self-test after FF takes the guest no time. `parameter` is whether the controller awaits a parameter at port 60h,
+    and `last` the last byte that the keyboard was given, or 0. Keep one for each keyboard, and all four beside a save. */
+export class Help {
+  #machine;
+
+  /** Its calls are those of the keyboard's module. The keyboard needn't be open. */
+  constructor(keyboard, { seabios = false, bochs = false, parameter = false, last = 0 } = {}) {
+    this.#machine = keyboard.machine;
+    Object.assign(this, { seabios, bochs, parameter, last });
+  }
+
+  /** The byte to write in place of the guest's. Call it before each write for the guest. If that write returns FULL and you drop
+      the byte, assign what this had before. */
+  write(port, byte) { return this.#said('kbd48_help_write', port, byte); }
+
+  /** Whether to run the keyboard on, watched, until the line rises. Call it after the guest has read this byte from port 60h. */
+  read(byte) { return this.#said('kbd48_help_read', byte) !== 0; }
+
+  // The struct is in the module's memory for this call alone.
+  #said(name, ...words) {
+    const machine = this.#machine, at = machine.take(HELP_SIZE);
+    machine.put([this.seabios, this.bochs, this.parameter, this.last], Number(at));
+    const said = machine.call(name, at, ...words), inside = new Uint8Array(machine.view.buffer, Number(at), HELP_SIZE);
+    Object.assign(this, { parameter: inside[2] !== 0, last: inside[3] });
+    machine.give(at);
+    return said;
+  }
+}
+
 // The statuses of kbd48_call, and the room for a text: it grows while the program says that its sink is full.
 const CALL_DONE = 0, CALL_NO_MEMORY = 2;
 const EXIT_WRITE = 6;

@@ -1,11 +1,12 @@
 """Tries the module kbd48 as it is installed: try.py LAYOUT STUCK. Somebody types H, i and Enter at the times of
 typing_hi.keys; it prints what `kbd48 run` prints for that file. Before that, what must be refused is refused: STUCK is a
 program that runs into a byte without an instruction."""
+import copy
 import inspect
 import sys
 
 import kbd48
-from kbd48 import Error, ItemKind, Keyboard, Status, Stop, Stuck, TextFault
+from kbd48 import Error, Help, ItemKind, Keyboard, Status, Stop, Stuck, TextFault
 
 FIRST_TICK, CYCLES_OF_A_TICK, CYCLES_OF_A_MS = 4096, 2048, 400
 LSHIFT, H, I, ENTER = 41, 34, 23, 40
@@ -78,14 +79,44 @@ def check_queue(layout):
         assert twin.queued == 4
 
 
+def answer(keyboard, byte):
+    """What the keyboard answers to a byte."""
+    assert keyboard.write(0x60, byte) and keyboard.run(40_000, watched=True).rose
+    return keyboard.read60()
+
+
+def check_help():
+    """Help for two BIOSes: without it SeaBIOS's F0 and 02 leave the keyboard disabled, and the test after FF takes 332 ms."""
+    none, seabios, bochs = Help(), Help(seabios=True), Help(bochs=True)
+    with Keyboard.of_sample(ready=True) as keyboard:
+        keyboard.read60()
+        for given in (none, seabios, bochs):
+            written = [given.write(0x60, byte) for byte in (0xF0, 0x02)]
+            assert written == [0xF0, 0xEF if given is seabios else 0x02], written
+            answers = [answer(keyboard, byte) for byte in written]
+            assert answers == [0xFA, 0xFA if given is seabios else 0xFE], answers
+            assert answer(keyboard, given.write(0x60, 0xFF)) == 0xFA
+            assert [given.read(0xFA), given.read(0xFA)] == [given is bochs, False], given
+            assert keyboard.run(160_000, watched=True).rose and keyboard.read60() == 0xAA
+    # A parameter is no byte for the keyboard, and a copy goes its own way.
+    assert [seabios.write(*it) for it in ((0x60, 0xF0), (0x64, 0x60), (0x60, 0x45), (0x64, 0xD1))] == [0xF0, 0x60, 0x45, 0xD1]
+    before = copy.copy(seabios)
+    assert before == Help(True, False, True, 0xF0), before
+    for given in (seabios, before):
+        assert [given.write(0x60, byte) for byte in (0xCF, 0x02, 0x02)] == [0xCF, 0xEF, 0x02]
+    for call, words in ((none.write, (0x60, 256)), (none.write, (-1, 0)), (none.read, (256,)), (Help(last=256).read, (0,))):
+        assert isinstance(refusal(call, *words), ValueError)
+
+
 def check_docs():
     """Each public name has a docstring, and each method says what it answers."""
     for name in kbd48.__all__:
         assert name == "VERSION" or inspect.getdoc(getattr(kbd48, name)), name
-    for name, it in vars(Keyboard).items():
-        if not name.startswith("_"):
-            function = it.fget if isinstance(it, property) else getattr(it, "__func__", it)
-            assert function.__doc__ and "return" in function.__annotations__, name
+    for kind, fields in ((Keyboard, ()), (Help, Help.__dataclass_fields__)):
+        for name, it in vars(kind).items():
+            if not name.startswith("_") and name not in fields:
+                function = it.fget if isinstance(it, property) else getattr(it, "__func__", it)
+                assert function.__doc__ and "return" in function.__annotations__, name
 
 
 def type_hi(layout):
@@ -121,6 +152,7 @@ def main(layout, stuck):
     with open(stuck, "rb") as file:
         check_refusals(layout, file.read())
     check_queue(layout)
+    check_help()
     check_docs()
     for item in type_hi(layout):
         print(text(item))

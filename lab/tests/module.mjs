@@ -1,10 +1,10 @@
 // usage: node module.mjs LAB.html EXAMPLES [CHECKSUM]: the two modules of the page, in Node. Each line of examples/commands
 // gives its text and status byte for byte; typing gives the log of `run`; a broken text is an error; what is typed at once
-// arrives; a run ends at what it was asked for; noise is asked away; random calls have the checksum of the native library, when that is given.
+// arrives; a run ends at what it was asked for; noise is asked away; two BIOSes are helped; random calls have the checksum of the native library, when that is given.
 import assert from 'node:assert/strict';
 import { existsSync, readFileSync } from 'node:fs';
 import { gunzipSync } from 'node:zlib';
-import { Item, Kbd48Error, Keyboard, Program, Status, Stop, TICK } from '../kbd48.mjs';
+import { Help, Item, Kbd48Error, Keyboard, Program, Status, Stop, TICK } from '../kbd48.mjs';
 
 const [, , page, examples, native] = process.argv;
 const CALLS = 10_000, SEED = 7;
@@ -19,7 +19,7 @@ const refused = (call, status) => assert.throws(call, error => error instanceof 
 /** kbd48.mjs has each call and each number of the header, and kbd48.d.ts each of its methods. */
 function everyCall() {
   const header = besides('../../c/kbd48.h'), source = besides('../kbd48.mjs');
-  const calls = [...header.matchAll(/^int32_t (kbd48_\w+)\(/gm)].map(([, name]) => name);
+  const calls = [...header.matchAll(/^(?:int32_t|uint8_t|bool) (kbd48_\w+)\(/gm)].map(([, name]) => name);
   const exported = WebAssembly.Module.exports(new WebAssembly.Module(keyboardModule));
   assert.deepEqual(calls.filter(name => !source.includes(`'${name}'`)), [], 'calls that kbd48.mjs lacks');
   assert.deepEqual(calls.filter(name => !exported.some(it => it.name === name)), [], 'calls that the module lacks');
@@ -27,7 +27,7 @@ function everyCall() {
   for (const [, kind, name, number] of header.matchAll(/KBD48_(ITEM_|STOP_|)(\w+) = (\d+)/g)) numbers[kinds[kind] ?? 'Status'][name] = Number(number);
   assert.deepEqual({ Status: { ...Status }, Item: { ...Item }, Stop: { ...Stop } }, numbers);
   assert.equal(TICK, Number(/KBD48_TICK (\w+)/.exec(header)[1]));
-  const types = besides('../kbd48.d.ts'), methods = Object.getOwnPropertyNames(Keyboard.prototype).filter(name => name !== 'constructor');
+  const types = besides('../kbd48.d.ts'), methods = [Keyboard, Help].flatMap(it => Object.getOwnPropertyNames(it.prototype)).filter(name => name !== 'constructor');
   assert.deepEqual(methods.filter(name => !new RegExp(`^  (readonly )?${name}[(:]`, 'm').test(types)), [], 'what kbd48.d.ts lacks');
   return calls.length;
 }
@@ -334,6 +334,36 @@ async function noise() {
   refused(() => { keyboard.close(); keyboard.flip(1); }, Status.NOT_OPEN);
 }
 
+/** Help for two BIOSes: without it SeaBIOS's F0 and 02 leave the keyboard disabled, and the test after FF takes 332 ms. */
+async function helps() {
+  const keyboard = await Keyboard.load(keyboardModule), [none, seabios, bochs] = [{}, { seabios: true }, { bochs: true }].map(it => new Help(keyboard, it));
+  const answer = byte => {
+    assert.equal(keyboard.write(0x60, byte), Status.DONE);
+    return keyboard.run(40_000, true) === Status.ROSE ? keyboard.read60() : null;
+  };
+  keyboard.openReadyLayout(layout);
+  keyboard.read60();
+  for (const help of [none, seabios, bochs]) {
+    const bytes = [0xF0, 0x02].map(byte => help.write(0x60, byte));
+    assert.deepEqual([bytes, bytes.map(answer)], help === seabios ? [[0xF0, 0xEF], [0xFA, 0xFA]] : [[0xF0, 0x02], [0xFA, 0xFE]]);
+    assert.equal(answer(help.write(0x60, 0xFF)), 0xFA);
+    const begins = help.read(0xFA);
+    assert.deepEqual([begins, help.read(0xFA)], [help === bochs, false], 'it is said once');
+    assert.equal(keyboard.run(160_000, true), Status.ROSE);
+    assert.equal(keyboard.read60(), 0xAA);
+  }
+  // A parameter is no byte for the keyboard. What was before is had again, and a copy goes its own way.
+  assert.deepEqual([[0x60, 0xF0], [0x64, 0x60], [0x60, 0x45], [0x64, 0xD1]].map(it => seabios.write(...it)), [0xF0, 0x60, 0x45, 0xD1]);
+  const before = { ...seabios }, copy = new Help(keyboard, before);
+  assert.deepEqual(before, { seabios: true, bochs: false, parameter: true, last: 0xF0 });
+  const rest = help => [[0x60, 0xCF], [0x60, 0x02], [0x60, 0x02]].map(it => help.write(...it));
+  assert.deepEqual(rest(seabios), [0xCF, 0xEF, 0x02]);
+  assert.deepEqual({ ...copy }, before);
+  Object.assign(seabios, before);
+  assert.deepEqual([rest(seabios), rest(copy)], [[0xCF, 0xEF, 0x02], [0xCF, 0xEF, 0x02]]);
+  keyboard.free();
+}
+
 /** The calls of calls.c, and the checksum of their answers. */
 async function checksum() {
   const keyboard = await Keyboard.load(keyboardModule), all = (1n << 64n) - 1n;
@@ -398,6 +428,7 @@ await looks();
 await queue();
 await runs();
 await noise();
+await helps();
 const sum = await checksum();
 if (native) assert.equal(sum, native.trim(), 'the native library answers otherwise');
-console.log(`${calls} calls, ${commands} commands, typing, refusals, looks and copies, the queue, runs to something, noise${native ? ', and the checksum of the native library' : ''}`);
+console.log(`${calls} calls, ${commands} commands, typing, refusals, looks and copies, the queue, runs to something, noise, help for two BIOSes${native ? ', and the checksum of the native library' : ''}`);

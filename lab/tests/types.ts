@@ -1,7 +1,7 @@
 // Every call of kbd48.d.ts as a strict TypeScript program makes it. It is compiled, and not run; what must be refused has a
 // line above it that says so, and a compiler that takes it fails.
-import { Item, Kbd48Error, Keyboard, Program, Status, Stop, TICK, Trapped } from 'kbd48';
-import type { Answer, KeysRan, Processor, Pulls, Registers, Said, StatusNumber, Stopped } from '../kbd48.mjs';
+import { Help, Item, Kbd48Error, Keyboard, Program, Status, Stop, TICK, Trapped } from 'kbd48';
+import type { Answer, HelpState, KeysRan, Processor, Pulls, Registers, Said, StatusNumber, Stopped } from '../kbd48.mjs';
 
 export async function everyCall(keyboardModule: Uint8Array, layout: Uint8Array, hex: Uint8Array): Promise<string[]> {
   const keyboard: Keyboard = await Keyboard.load(keyboardModule), lines: string[] = [];
@@ -44,6 +44,15 @@ export async function everyCall(keyboardModule: Uint8Array, layout: Uint8Array, 
   return lines;
 }
 
+export function helped(keyboard: Keyboard, byte: number): void {
+  const help: Help = new Help(keyboard, { seabios: true, bochs: true }), before: HelpState = { ...help };
+  const written: StatusNumber = keyboard.write(0x60, help.write(0x60, byte));
+  if (written === Status.FULL) Object.assign(help, before);
+  const begins: boolean = help.read(keyboard.read60());
+  if (begins) keyboard.run(400_000, true);
+  new Help(keyboard, before).read(byte);
+}
+
 export async function wholeProgram(programModule: Uint8Array): Promise<Answer> {
   const program: Program = await Program.load(programModule);
   const answer: Answer = program.run(['asm', 'a.asm'], { 'a.asm': 'NOP\n', 'b.hex': new Uint8Array() });
@@ -58,6 +67,8 @@ export function faults(error: unknown): string {
 export function refused(keyboard: Keyboard, program: Program): void {
   // @ts-expect-error there is no such port
   keyboard.write(0x61, 0);
+  // @ts-expect-error no such BIOS is helped
+  new Help(keyboard, { award: true });
   // @ts-expect-error a place is a number
   keyboard.key('a', true);
   // @ts-expect-error what a look shows can't be changed

@@ -76,6 +76,10 @@ class Build:
         """The first of these files that the library has, or None."""
         return next((self.library / name for name in names if (self.library / name).exists()), None)
 
+    def kinds(self):
+        """The QEMUs whose parts the library has."""
+        return [kind for kind, (_, parts) in KINDS.items() if all(map(self.has, parts))]
+
     def object(self, file):
         """The object of a source or of an archive."""
         made, how = self.cache / f"{file.stem}.o", ["gcc", "-O2", "-c"] if file.suffix == ".c" else ["ld", "-r", "--whole-archive"]

@@ -14,6 +14,7 @@ hands numbers to the library, whose functions are. One thread at a time may call
 from .keyboard import (
     VERSION,
     Error,
+    Help,
     Item,
     ItemKind,
     Keyboard,
@@ -34,6 +35,7 @@ from .keyboard import (
 __version__ = VERSION
 __all__ = [
     "Error",
+    "Help",
     "Item",
     "ItemKind",
     "Keyboard",

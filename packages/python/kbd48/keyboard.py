@@ -2,6 +2,7 @@
 from __future__ import annotations
 
 import ctypes as c
+from dataclasses import dataclass
 from enum import IntEnum, IntFlag
 from typing import Any, Callable, Iterator, NamedTuple, Optional, Tuple, Type, Union
 
@@ -226,6 +227,34 @@ def _unsigned(value: int, bits: int, what: str) -> int:
     if not 0 <= value < 1 << bits:
         raise ValueError(f"{what} is from 0 to {(1 << bits) - 1}, and not {value}")
     return value
+
+
+@dataclass
+class Help:
+    """Help for two BIOSes. What the guest sees with it isn't the machine's. With `seabios` the byte after F0 is replaced by EF;
+    with `bochs` the self-test after FF takes the guest no time. `parameter` is whether the controller awaits a parameter at
+    port 0x60, and `last` the last byte that the keyboard was given, or 0. Keep one for each keyboard, and all four beside a save."""
+
+    seabios: bool = False
+    bochs: bool = False
+    parameter: bool = False
+    last: int = 0
+
+    def write(self, port: int, byte: int) -> int:
+        """The byte to write in place of the guest's. Call it before each write for the guest. If that write finds no room and you
+        drop the byte, go on with a copy of what this was before (copy.copy)."""
+        return self._said("help_write", _unsigned(port, 8, "a port"), _unsigned(byte, 8, "a byte"))
+
+    def read(self, byte: int) -> bool:
+        """Whether to run the keyboard on, watched, until the line rises. Call it after the guest has read this byte from port
+        0x60."""
+        return self._said("help_read", _unsigned(byte, 8, "a byte"))
+
+    def _said(self, name: str, *words: int) -> Any:
+        inside = library.Help(self.seabios, self.bochs, self.parameter, _unsigned(self.last, 8, "a byte"))
+        said = getattr(LIBRARY, f"kbd48_{name}")(inside, *words)
+        self.parameter, self.last = inside.parameter, inside.last
+        return said
 
 
 class Keyboard:

@@ -25,6 +25,10 @@ class Keys(c.Structure):
     _fields_ = [("ready", c.c_uint64), ("edges", Pushed * 160), ("down", c.c_bool * 96), ("count", c.c_uint8)]
 
 
+class Help(c.Structure):
+    _fields_ = [("seabios", c.c_bool), ("bochs", c.c_bool), ("parameter", c.c_bool), ("last", c.c_uint8)]
+
+
 class Item(c.Structure):
     _fields_ = [("cycle", c.c_uint64), ("kind", c.c_uint8), ("value", c.c_uint16)]
 
@@ -100,6 +104,13 @@ OTHERS = {
 }
 
 
+# The calls that return no status: what each returns, and its parameters.
+HELPS = {
+    "help_write": (c.c_uint8, [_to(Help), c.c_uint8, c.c_uint8]),
+    "help_read": (c.c_bool, [_to(Help), c.c_uint8]),
+}
+
+
 def opened(path: str) -> c.CDLL:
     """The library at a path, its functions with their types."""
     library = c.CDLL(path)
@@ -109,6 +120,9 @@ def opened(path: str) -> c.CDLL:
     for name, parameters in OTHERS.items():
         function = getattr(library, f"kbd48_{name}")
         function.argtypes, function.restype = parameters, c.c_int32
+    for name, (returned, parameters) in HELPS.items():
+        function = getattr(library, f"kbd48_{name}")
+        function.argtypes, function.restype = parameters, returned
     return library
 
 
