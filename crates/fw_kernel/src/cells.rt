@@ -1,7 +1,34 @@
 //! The cells of data memory that the layers above name, as `SOURCE` has them.
 
+/// R0 of a tick, which works in register bank 1.
+pub const R0: u8 = 0x18;
+
+/// R1 of a tick.
+pub const R1: u8 = 0x19;
+
+/// R2 of a tick.
+pub const R2: u8 = 0x1a;
+
+/// R3 of a tick.
+pub const R3: u8 = 0x1b;
+
+/// R4 of a tick: mostly the byte that is sent or was received.
+pub const R4: u8 = 0x1c;
+
+/// R5 of a tick.
+pub const R5: u8 = 0x1d;
+
+/// R6 of a tick.
+pub const R6: u8 = 0x1e;
+
+/// R7 of a tick.
+pub const R7: u8 = 0x1f;
+
 /// The keys that are down: a byte a column.
 pub const HELD: u8 = 0x20;
+
+/// The keys whose state changed in this tick: a byte a column.
+pub const CHANGED: u8 = 0x30;
 
 /// 0 no reply, 1 a reply is due, 3 the reply to a reset is due.
 pub const REPLYDUE: u8 = 0x40;

@@ -45,14 +45,26 @@ pub const O_DUE: u16 = 0x0a8;
 /// The clock was low: the controller holds it.
 pub const PULLED: u16 = 0x0c4;
 
+/// Data was looked at, without an effect.
+pub const P_SEEN: u16 = 0x0c6;
+
 /// The power-on test runs: both looks, and one of its ticks.
 pub const TESTING: u16 = 0x0c8;
+
+/// The clock was looked at, without an effect.
+pub const E_CLOCK: u16 = 0x0ce;
+
+/// Data was looked at, without an effect.
+pub const E_DATA: u16 = 0x0d0;
 
 /// Power-on.
 pub const START: u16 = 0x0f2;
 
 /// Power-on, once what isn't 00 is set: the timer.
 pub const BEGIN: u16 = 0x0f5;
+
+/// The delay before the timer starts.
+pub const PAUSE: u16 = 0x0f8;
 
 /// The main program: the loop in which the processor waits for the next tick.
 pub const WAIT: u16 = 0x0fc;
@@ -63,11 +75,23 @@ pub const RECEIVE: u16 = 0x0fe;
 /// One cell of a data bit.
 pub const R_CELL: u16 = 0x106;
 
+/// The data bit is in A.
+pub const R_BIT: u16 = 0x116;
+
+/// The delay after it.
+pub const R_HIGH: u16 = 0x118;
+
 /// The cell of the parity bit.
 pub const R_PARITY: u16 = 0x11c;
 
+/// A says whether the parity is right.
+pub const P_BIT: u16 = 0x134;
+
 /// The cell of the stop bit.
 pub const R_STOP: u16 = 0x13a;
+
+/// The stop bit was looked at, without an effect.
+pub const T_ON: u16 = 0x144;
 
 /// The last cell of a received frame, in which data is pulled.
 pub const R_ACK: u16 = 0x14a;
@@ -170,6 +194,9 @@ pub const FN_UP: u16 = 0x480;
 
 /// The key went up.
 pub const RELEASE: u16 = 0x486;
+
+/// A release's layer is known.
+pub const LOWER: u16 = 0x48e;
 
 /// The key's own repeating ends.
 pub const ENDS: u16 = 0x497;

@@ -12,6 +12,7 @@ use Rattle.joint_run.specs.Joint.{Beside, joint_board, joint_pins}
 use Rattle.joint_run.specs.Run.{Board, World}
 use Rattle.mcs48_core.specs.declared.levels.Pins.{Pins}
 use Rattle.law_agreement.proofs.Columns.{bus_low}
+use Rattle.fw_kernel.specs.declared.cells.TheConstants.{HELD, PENDING}
 
 module _ (edges : List Edge) (events : List HostEvent) (d : Board) (to : d.State → Beside)
     (over : IsOver edges events d to) where
@@ -40,5 +41,6 @@ module _ (edges : List Edge) (events : List HostEvent) (d : Board) (to : d.State
     pub edges_over : (bytes : List ℕ) → edges_now bytes d w ≡ edges_now bytes joint u
     edges_over bytes =
         columns_same (changed_now bytes d w) (changed_now bytes joint u) (column_read d w) (column_read joint u) 0 12 refl
-        (λ c l. ap (λ v. changed_by (debounces bytes) (slice_index w.cpu.ram (96 + c)) (bit_xor (slice_index w.cpu.ram (32 + c)) v))
+        (λ c l. ap (λ v. changed_by (debounces bytes) (slice_index w.cpu.ram (PENDING + c))
+        (bit_xor (slice_index w.cpu.ram (HELD + c)) v))
         (down_over c)) (λ c l. down_over c)

@@ -4,7 +4,7 @@ use Rattle.std.proofs.Common.{◌≡◌, ◌≤◌, ◌<◌, ℕ, ◌+◌, ◌-�
 use Rattle.std.proofs.Common.{refl, ap, sym, ◌∙◌, subst, arith}
 use Rattle.mcs48_core.specs.Cpu.{Cpu}
 use Rattle.mcs48_core.specs.Status.{digit}
-use Rattle.fw_kernel.specs.declared.cells.TheConstants.{LIGHTS}
+use Rattle.fw_kernel.specs.declared.cells.TheConstants.{LIGHTS, R4, TEST}
 use Rattle.fw_kernel.specs.Places.{HasKernel}
 use Rattle.fw_kernel.specs.declared.labels.TheConstants.{TESTED, SEND, GOT, SENT, SCAN, COMMAND}
 use Rattle.law_fw_keys.proofs.Blocks.{bytes_of}
@@ -114,11 +114,11 @@ module _ (d : Board) (bytes : List ℕ) (hk : HasKernel bytes) (alike : IsSilent
       → Goes (y + 231) (begin_at d TESTED (cells r4 r5) ring (at_tested r4 r5 c) shine)
       (Looked d bytes hk (y + 231) (at_tested r4 r5 c) shine (cells r4 r5) ring pc)
 
-  free_looks : (f 69 == 0) ≡ true → clock ≡ true → data_wire ≡ true → Looks SEND
+  free_looks : (f TEST == 0) ≡ true → clock ≡ true → data_wire ≡ true → Looks SEND
   free_looks no_test high high' r4 r5 c ok =
       to_send d bytes hk (y + 231) (at_tested r4 r5 c) shine (cells r4 r5) ring ok no_test high high'
 
-  asked_looks : (f 69 == 0) ≡ true → clock ≡ true → data_wire ≡ false → Looks GOT
+  asked_looks : (f TEST == 0) ≡ true → clock ≡ true → data_wire ≡ false → Looks GOT
   asked_looks no_test high pulled r4 r5 c ok =
       to_got d bytes hk (y + 231) (at_tested r4 r5 c) shine (cells r4 r5) ring ok no_test high pulled
 
@@ -150,7 +150,7 @@ module _ (d : Board) (bytes : List ℕ) (hk : HasKernel bytes) (alike : IsSilent
       let begin : Cpu → d.State → Stage d.State = λ u q. begin_at d TESTED g ring u q in
       let free : IsFree c = subst IsFree is safe.0 in
       let fine : IsFine (begin c shine).cpu = subst (λ u. IsFine (scratched u TESTED (memory g ring) u)) is safe.1 in
-      let byte : r4 < 256 = (bytes_of m' TESTED g ring safe).cell 28 (omega arith) in
+      let byte : r4 < 256 = (bytes_of m' TESTED g ring safe).cell R4 (omega arith) in
       let at : 260 + start ≡ y + 231 + 26 = omega (arith, here) in
       let P : Stage d.State → Type 0 = At d (record c { f1 = false }) end now ring (26 + n) (passed latch n) in
       let From : Cpu → ℕ → Type 0 =
@@ -178,7 +178,7 @@ module _ (d : Board) (bytes : List ℕ) (hk : HasKernel bytes) (alike : IsSilent
       })
       whole))
 
-  module _ (no_test : (f 69 == 0) ≡ true) (high : clock ≡ true) where
+  module _ (no_test : (f TEST == 0) ≡ true) (high : clock ≡ true) where
     module _ (byte : ℕ) (is : offer (kbd_of held f ring) ≡ Some byte) (free : data_wire ≡ true) where
       -- what is offered is sent whole where the clock is high at all looks
       pub sends_frame : ((look : ℕ) → IsLook look → clock_look byte look ≡ true)

@@ -8,7 +8,7 @@ use Rattle.law_fw_link.proofs.Ends.{in_quarters}
 use Rattle.law_fw_link.proofs.Received.{got_cells}
 use Rattle.law_fw_link.proofs.Sending.{sending, left_at}
 use Rattle.law_fw_link.specs.Latch.{IsLook, wired, frame_bit}
-use Rattle.fw_kernel.specs.declared.cells.TheConstants.{LIGHTS}
+use Rattle.fw_kernel.specs.declared.cells.TheConstants.{LIGHTS, R0, R1, R2, R3, R4, R5, R6, HELD}
 use Rattle.law_fw_link.proofs.Cut.{left_at_cut}
 use Rattle.law_fw_logic.proofs.Block.{put}
 use Rattle.law_fw_logic.proofs.Cells.{put_other}
@@ -16,33 +16,33 @@ use Rattle.law_agreement.proofs.Looking.{looked_in}
 
 -- the cells after a frame, by those after the looks
 pub record Leaves (leaves : (ℕ → ℕ) → ℕ → ℕ) : Type 0 where
-  pub kept : (g : ℕ → ℕ) (i : ℕ) → 32 ≤ i → leaves (looked_in g) i ≡ g i
+  pub kept : (g : ℕ → ℕ) (i : ℕ) → HELD ≤ i → leaves (looked_in g) i ≡ g i
   pub stack : (g : ℕ → ℕ) → (leaves (looked_in g) 8 ≡ g 8) × (leaves (looked_in g) 9 ≡ g 9)
 
 -- a cell above the registers stays where a register is written
-above : (f : ℕ → ℕ) (k v i : ℕ) → k < 32 → 32 ≤ i → put f k v i ≡ f i
+above : (f : ℕ → ℕ) (k v i : ℕ) → k < HELD → HELD ≤ i → put f k v i ≡ f i
 above f k v i l u = put_other f k v i (grind (arith, nat_tests, l, u))
 
 -- also where the looks write R1, R2, R6 and R0
-above_looked : (g : ℕ → ℕ) (i : ℕ) → 32 ≤ i → looked_in g i ≡ g i
+above_looked : (g : ℕ → ℕ) (i : ℕ) → HELD ≤ i → looked_in g i ≡ g i
 above_looked g i l =
     let low : ℕ = bit_and (255 - g LIGHTS) 253 in
-    let g1 : ℕ → ℕ = put g 25 LIGHTS in
-    let g2 : ℕ → ℕ = put g1 26 low in
-    let g3 : ℕ → ℕ = put g2 30 (g 28) in
-    above g3 24 0 i (omega arith) l ∙ above g2 30 (g 28) i (omega arith) l ∙ above g1 26 low i (omega arith) l
-    ∙ above g 25 LIGHTS i (omega arith) l
+    let g1 : ℕ → ℕ = put g R1 LIGHTS in
+    let g2 : ℕ → ℕ = put g1 R2 low in
+    let g3 : ℕ → ℕ = put g2 R6 (g R4) in
+    above g3 R0 0 i (omega arith) l ∙ above g2 R6 (g R4) i (omega arith) l ∙ above g1 R2 low i (omega arith) l
+    ∙ above g R1 LIGHTS i (omega arith) l
 
 -- a sent frame writes R0 to R3 and R6
-sent_kept : (h : ℕ → ℕ) (v byte k n r0 i : ℕ) → 32 ≤ i → sending h v byte k n r0 i ≡ h i
+sent_kept : (h : ℕ → ℕ) (v byte k n r0 i : ℕ) → HELD ≤ i → sending h v byte k n r0 i ≡ h i
 sent_kept h v byte k n r0 i l =
     let r1 = wired v true (frame_bit byte k) in
-    let h1 : ℕ → ℕ = put h 25 r1 in
-    let h2 : ℕ → ℕ = put h1 26 (bit_and v 253) in
-    let h3 : ℕ → ℕ = put h2 27 n in
-    let h4 : ℕ → ℕ = put h3 30 (left_at byte k) in
-    above h4 24 r0 i (omega arith) l ∙ above h3 30 (left_at byte k) i (omega arith) l ∙ above h2 27 n i (omega arith) l
-    ∙ above h1 26 (bit_and v 253) i (omega arith) l ∙ above h 25 r1 i (omega arith) l
+    let h1 : ℕ → ℕ = put h R1 r1 in
+    let h2 : ℕ → ℕ = put h1 R2 (bit_and v 253) in
+    let h3 : ℕ → ℕ = put h2 R3 n in
+    let h4 : ℕ → ℕ = put h3 R6 (left_at byte k) in
+    above h4 R0 r0 i (omega arith) l ∙ above h3 R6 (left_at byte k) i (omega arith) l ∙ above h2 R3 n i (omega arith) l
+    ∙ above h1 R2 (bit_and v 253) i (omega arith) l ∙ above h R1 r1 i (omega arith) l
 
 -- a sent frame leaves the cells above the registers, and the way back on the stack
 pub sent_leaves : (v byte k n r0 : ℕ) → Leaves (λ h. sending h v byte k n r0)
@@ -62,14 +62,14 @@ cut_leaves v byte look is = record {
 }
 
 -- a received one R0, R1 and R3 to R5
-got_kept : (h : ℕ → ℕ) (byte : ℕ) (right : Bool) (i : ℕ) → 32 ≤ i → got_cells h byte right i ≡ h i
+got_kept : (h : ℕ → ℕ) (byte : ℕ) (right : Bool) (i : ℕ) → HELD ≤ i → got_cells h byte right i ≡ h i
 got_kept h byte right i l =
-    let h1 : ℕ → ℕ = put h 24 0 in
-    let h2 : ℕ → ℕ = put h1 27 0 in
-    let h3 : ℕ → ℕ = put h2 28 byte in
-    let h4 : ℕ → ℕ = put h3 25 (in_quarters byte) in
-    above h4 29 (255 * digit right) i (omega arith) l ∙ above h3 25 (in_quarters byte) i (omega arith) l
-    ∙ above h2 28 byte i (omega arith) l ∙ above h1 27 0 i (omega arith) l ∙ above h 24 0 i (omega arith) l
+    let h1 : ℕ → ℕ = put h R0 0 in
+    let h2 : ℕ → ℕ = put h1 R3 0 in
+    let h3 : ℕ → ℕ = put h2 R4 byte in
+    let h4 : ℕ → ℕ = put h3 R1 (in_quarters byte) in
+    above h4 R5 (255 * digit right) i (omega arith) l ∙ above h3 R1 (in_quarters byte) i (omega arith) l
+    ∙ above h2 R4 byte i (omega arith) l ∙ above h1 R3 0 i (omega arith) l ∙ above h R0 0 i (omega arith) l
 
 -- a received frame leaves the cells above the registers, and the way back on the stack
 pub got_leaves : (byte : ℕ) (right : Bool) → Leaves (λ h. got_cells h byte right)

@@ -2,6 +2,7 @@
 use Rattle.std.proofs.Common.{◌≡◌, ◌<◌, ℕ, ◌+◌, ◌==◌, List, [], ◌∷◌, All, Bool, true, false, not}
 use Rattle.std.proofs.Common.{refl, ap, sym, ◌∙◌, subst, arith}
 use Rattle.mcs48_core.specs.Cpu.{Cpu}
+use Rattle.fw_kernel.specs.declared.cells.TheConstants.{TEST}
 use Rattle.fw_kernel.specs.Places.{HasKernel}
 use Rattle.fw_kernel.specs.declared.labels.TheConstants.{TESTED, SEND, GOT}
 use Rattle.law_fw_keys.proofs.Blocks.{fine_end}
@@ -12,7 +13,7 @@ use Rattle.law_fw_logic.proofs.TimerParts.{IsFree}
 use Rattle.law_fw_logic.proofs.Kernel.{kernel_in}
 use Rattle.law_fw_logic.proofs.Leads.{Leads}
 use Rattle.law_fw_logic.proofs.Looks.{readied}
-use Rattle.law_fw_logic.proofs.Path.{Stage, Code, Until, Go}
+use Rattle.law_fw_logic.proofs.Path.{Stage, Code, Go}
 use Rattle.law_fw_logic.proofs.Short.{has_rows}
 use Rattle.law_fw_logic.proofs.Sound.{chain}
 use Rattle.joint_run.specs.Run.{Board, after_cycles}
@@ -48,10 +49,10 @@ module _ (d : Board) (bytes : List ℕ) (has : HasKernel bytes) (z : ℕ) (m : C
   data_is = ap (λ b. (d.pins m.p1 m.p2 (z + 24) b).t1) (absolute 24 z (d.cycle m.p2) board)
 
   -- both wires are high
-  pub to_send : IsFree m → (g 69 == 0) ≡ true → clock ≡ true → data_wire ≡ true
+  pub to_send : IsFree m → (g TEST == 0) ≡ true → clock ≡ true → data_wire ≡ true
       → Leads d code z (begin_at d TESTED g ring m board) (Looked SEND)
   to_send free no_test high high' =
-      straight d code (has_rows true bytes has) (Until 65 ∷ Go false ∷ Until 81 ∷ Go false ∷ Go false ∷ []) z m
+      straight d code (has_rows true bytes has) (Go false ∷ Go false ∷ Go false ∷ []) z m
       TESTED SEND 26 g (looked_in g) ring (record m { f1 = false }) board (board_at 26) free (
         ap not no_test,
         (
@@ -64,10 +65,10 @@ module _ (d : Board) (bytes : List ℕ) (has : HasKernel bytes) (z : ℕ) (m : C
       )
 
   -- the clock is high, and data low
-  pub to_got : IsFree m → (g 69 == 0) ≡ true → clock ≡ true → data_wire ≡ false
+  pub to_got : IsFree m → (g TEST == 0) ≡ true → clock ≡ true → data_wire ≡ false
       → Leads d code z (begin_at d TESTED g ring m board) (Looked GOT)
   to_got free no_test high low =
-      straight d code (has_rows true bytes has) (Until 65 ∷ Go false ∷ Until 81 ∷ Go false ∷ Go true ∷ []) z m
+      straight d code (has_rows true bytes has) (Go false ∷ Go false ∷ Go true ∷ []) z m
       TESTED GOT 26 g (looked_in g) ring (record m { f1 = false }) board (board_at 26) free (
         ap not no_test,
         (

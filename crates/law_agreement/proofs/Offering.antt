@@ -5,7 +5,7 @@ use Rattle.std.specs.declared.option.Option.{Option}
 use Rattle.std.proofs.lemmas.List.Elements.{All-get_or}
 use Rattle.board_terms.specs.declared.event.Edge.{Edge}
 use Rattle.board_terms.specs.declared.event.HostEvent.{HostEvent}
-use Rattle.fw_kernel.specs.declared.cells.TheConstants.{LIGHTS}
+use Rattle.fw_kernel.specs.declared.cells.TheConstants.{LIGHTS, REPLYDUE, AADUE, COUNT, HEAD, REPLY}
 use Rattle.law_fw_keys.proofs.Blocks.{ring-get}
 use Rattle.law_fw_keys.proofs.Begun.{IsAnyStart}
 use Rattle.law_fw_keys.specs.Frameless.{cells_in, shown_by}
@@ -46,31 +46,31 @@ module _ (m : Cpu) (fine : IsFine m) where
       subst (λ v. v < 256) at (cell (112 + i) (omega (arith, l)))
 
   abbrev queued : ℕ → ℕ
-  queued i = slice_index ring ((f 67 + i) % 16)
+  queued i = slice_index ring ((f HEAD + i) % 16)
 
   by_mark : (b : Bool) (byte : ℕ) → first_of (made queued 0) b ≡ Some byte → byte < 256
   by_mark true byte is = same_byte 0 byte (omega arith) is
   by_mark false byte is = absurd cc
 
-  by_state : (reply aa : Bool) → (f 64 == 0) ≡ reply → (f 65 == 0) ≡ aa → (n : ℕ) → f 66 % 128 ≡ n → (byte : ℕ)
+  by_state : (reply aa : Bool) → (f REPLYDUE == 0) ≡ reply → (f AADUE == 0) ≡ aa → (n : ℕ) → f COUNT % 128 ≡ n → (byte : ℕ)
       → offer (shown_by m.ram) ≡ Some byte → byte < 256
-  by_state false aa e64 e65 n en byte is =
-      let replied : offer (shown_by m.ram) ≡ Some (f 75) = rw e64 refl in
-      same_byte (f 75) byte (cell 75 (omega arith)) (sym replied ∙ is)
-  by_state true false e64 e65 n en byte is =
-      let due : offer (shown_by m.ram) ≡ Some 170 = rw (e64, e65) refl in
+  by_state false aa e_due e_aa n en byte is =
+      let replied : offer (shown_by m.ram) ≡ Some (f REPLY) = rw e_due refl in
+      same_byte (f REPLY) byte (cell REPLY (omega arith)) (sym replied ∙ is)
+  by_state true false e_due e_aa n en byte is =
+      let due : offer (shown_by m.ram) ≡ Some 170 = rw (e_due, e_aa) refl in
       same_byte 170 byte (omega arith) (sym due ∙ is)
-  by_state true true e64 e65 n en byte is =
-      let left : offer (shown_by m.ram) ≡ first_of (made queued (f 66 % 128)) (bit 7 (f 66)) = rw (e64, e65) refl in
-      by_count n (ap (λ c. first_of (made queued c) (bit 7 (f 66))) (sym en) ∙ sym left ∙ is)
+  by_state true true e_due e_aa n en byte is =
+      let left : offer (shown_by m.ram) ≡ first_of (made queued (f COUNT % 128)) (bit 7 (f COUNT)) = rw (e_due, e_aa) refl in
+      by_count n (ap (λ c. first_of (made queued c) (bit 7 (f COUNT))) (sym en) ∙ sym left ∙ is)
     where
-      by_count : (n : ℕ) → first_of (made queued n) (bit 7 (f 66)) ≡ Some byte → byte < 256
-      by_count zero h = by_mark (bit 7 (f 66)) byte h
-      by_count (suc n) h = same_byte (queued 0) byte (place ((f 67 + 0) % 16) (omega arith)) h
+      by_count : (n : ℕ) → first_of (made queued n) (bit 7 (f COUNT)) ≡ Some byte → byte < 256
+      by_count zero h = by_mark (bit 7 (f COUNT)) byte h
+      by_count (suc n) h = same_byte (queued 0) byte (place ((f HEAD + 0) % 16) (omega arith)) h
 
   -- what is offered is a byte
   pub offers_byte : (byte : ℕ) → offer (shown_by m.ram) ≡ Some byte → byte < 256
-  offers_byte byte is = by_state (f 64 == 0) (f 65 == 0) refl refl (f 66 % 128) refl byte is
+  offers_byte byte is = by_state (f REPLYDUE == 0) (f AADUE == 0) refl refl (f COUNT % 128) refl byte is
 
 module _ (edges : List Edge) (events : List HostEvent) (w : World Beside) (s : IsAnyStart w.cpu) where
   abbrev lamps : ℕ

@@ -4,7 +4,7 @@ use Rattle.std.proofs.Common.{◌≡◌, ◌≤◌, ◌<◌, ℕ, suc, ◌+◌, 
 use Rattle.std.proofs.Common.{slice_index, if◌then◌else◌, All, List, length, refl, ap, sym, ◌∙◌, subst, arith}
 use Rattle.std.proofs.lemmas.Bool.Decides.{nat_tests}
 use Rattle.fw_compile.specs.Image.{image_of}
-use Rattle.fw_kernel.specs.declared.cells.TheConstants.{LIGHTS}
+use Rattle.fw_kernel.specs.declared.cells.TheConstants.{LIGHTS, HELD}
 use Rattle.fw_kernel.specs.declared.labels.TheConstants.{TICK}
 use Rattle.law_fw_keys.proofs.Held.{held_same}
 use Rattle.law_fw_keys.proofs.Keyboard.{flags_long}
@@ -91,7 +91,7 @@ module _ (layout : KeyLayout) (history : KeyHistory) (fine : IsKeyLayout layout)
     read = ap length (sym t.ties.read) ∙ flags_long (down_at (read_cell (debounces bytes) (cells_in w.cpu.ram))) 96;
     settled =
         ap length (sym t.ties.settled) ∙ ap (λ (k : Keyboard). length k.held) (sym t.ties.keyboard)
-        ∙ flags_long (down_at (λ c. slice_index w.cpu.ram (32 + c))) 96;
+        ∙ flags_long (down_at (λ c. slice_index w.cpu.ram (HELD + c))) 96;
   }
 
   -- what is tied to the model in time has a place for each key

@@ -14,6 +14,7 @@ use Rattle.model_keyboard.specs.declared.meeting.Meeting.{Meeting}
 use Rattle.model_keyboard.specs.declared.meeting.Meeting.TheVariants.{Got, Idle, Inhibited, Sent, Cut}
 use Rattle.law_agreement.proofs.AtLook.{one_byte}
 use Rattle.law_agreement.specs.Firmware.{Finds, IsOpen, Offers, board_at, clock_in, data_in, latch_at}
+use Rattle.fw_kernel.specs.declared.cells.TheConstants.{HELD, PENDING}
 
 module _ (d : Board) (latch : ℕ → ℕ) where
   abbrev W : Board
@@ -40,7 +41,8 @@ module _ (d : Board) (latch : ℕ → ℕ) where
     pub edges_same : (bytes : List ℕ) → edges_now bytes W u ≡ edges_now bytes d w
     edges_same bytes =
         columns_same (changed_now bytes W u) (changed_now bytes d w) (column_read W u) (column_read d w) 0 12 refl
-        (λ c l. ap (λ v. changed_by (debounces bytes) (slice_index w.cpu.ram (96 + c)) (bit_xor (slice_index w.cpu.ram (32 + c)) v))
+        (λ c l. ap (λ v. changed_by (debounces bytes) (slice_index w.cpu.ram (PENDING + c))
+        (bit_xor (slice_index w.cpu.ram (HELD + c)) v))
         (down_same c)) (λ c l. down_same c)
 
     abbrev v : ℕ

@@ -9,6 +9,7 @@ use Rattle.law_fw_keys.proofs.ColumnCells.{spread, kept_helds, kept_pendings}
 use Rattle.law_fw_keys.proofs.Held.{layers_same}
 use Rattle.law_fw_keys.proofs.Scan.{Scanned, scan_law, edges_most, changes_same, holds_same, pends_same}
 use Rattle.law_fw_keys.proofs.Settle.{changes_by, holds_by, pends_by}
+use Rattle.fw_kernel.specs.declared.cells.TheConstants.{COUNT, STARTED, HELD, CHANGED, PENDING}
 use Rattle.fw_kernel.specs.Places.{HasKernel}
 use Rattle.fw_kernel.specs.declared.labels.TheConstants.{DONE, SCAN}
 use Rattle.law_fw_keys.proofs.Block.{Ends, Safe}
@@ -30,17 +31,17 @@ module _ (d : Board) (bytes : List ℕ) (hk : HasKernel bytes) (alike : IsSilent
       (g : ℕ → ℕ) (last : List ℕ) : Type 0 where
     pub kbd : kbd_of held g last ≡ keyed (image_keys bytes) inhibited ch hd (layers_of f) (step (kbd_of held f ring))
     pub layers : layers_of g ≡ after (image_keys bytes) ch hd (layers_of f)
-    pub downs : (i : ℕ) → i < 12 → g (32 + i) ≡ hd i
-    pub pendings : (i : ℕ) → i < 12 → g (96 + i) ≡ pd i
+    pub downs : (i : ℕ) → i < 12 → g (HELD + i) ≡ hd i
+    pub pendings : (i : ℕ) → i < 12 → g (PENDING + i) ≡ pd i
     pub inv : Inv g
     pub stack : (g 8 ≡ f 8) × (g 9 ≡ f 9)
 
   -- a step of the model up to scan from cells h, then the rest of the tick
   pub tail_law : (step : Keyboard → Keyboard) (ch hd pd : ℕ → ℕ) (from max x : ℕ) (m : Cpu) (board : d.State) (h f : ℕ → ℕ)
       (ring : List ℕ) → Safe m from h ring
-      → ((i : ℕ) → i < 12 → changes_by (debounces bytes) (f (96 + i)) (f (48 + i)) ≡ ch i)
-      → ((i : ℕ) → i < 12 → holds_by (debounces bytes) (f (96 + i)) (f (48 + i)) (f (32 + i)) ≡ hd i)
-      → ((i : ℕ) → i < 12 → pends_by (debounces bytes) (f (96 + i)) (f (48 + i)) ≡ pd i)
+      → ((i : ℕ) → i < 12 → changes_by (debounces bytes) (f (PENDING + i)) (f (CHANGED + i)) ≡ ch i)
+      → ((i : ℕ) → i < 12 → holds_by (debounces bytes) (f (PENDING + i)) (f (CHANGED + i)) (f (HELD + i)) ≡ hd i)
+      → ((i : ℕ) → i < 12 → pends_by (debounces bytes) (f (PENDING + i)) (f (CHANGED + i)) ≡ pd i)
       → Leads d (kernel_in true bytes) x (begin_at d from h ring m board)
       (Ends d x m board SCAN max (Keeps held step f ring))
       → Leads d (kernel_in true bytes) x (begin_at d from h ring m board)
@@ -74,8 +75,8 @@ module _ (d : Board) (bytes : List ℕ) (hk : HasKernel bytes) (alike : IsSilent
           inv = record {
             most = s.most;
             started = rw s.others.0 q.inv.started;
-            some = (let u : g 68 ≤ g 66 % 128 = q.inv.some in let v : g 66 % 128 ≤ s.w.p.count % 128 = s.more in
-                let e : s.h 68 ≡ g 68 = s.others.0 in omega (arith, u, v, e));
+            some = (let u : g STARTED ≤ g COUNT % 128 = q.inv.some in let v : g COUNT % 128 ≤ s.w.p.count % 128 = s.more in
+                let e : s.h STARTED ≡ g STARTED = s.others.0 in omega (arith, u, v, e));
             mode = rw s.others.1 q.inv.mode;
             lamps = rw s.others.2 q.inv.lamps;
             fn = s.cell;
@@ -84,10 +85,12 @@ module _ (d : Board) (bytes : List ℕ) (hk : HasKernel bytes) (alike : IsSilent
         };
       })
       (scan_law d bytes hk alike small low held ch hd pd x1 m1 board1 g r q.inv.most q.inv.fn safe1
-      (λ i l. changes_same b (g (96 + i)) (f (96 + i)) (g (48 + i)) (f (48 + i)) (q.layers (96 + i) (omega arith) (omega (arith, l)))
-      (q.cells (48 + i) (omega arith) (omega (arith, l))) ∙ changes i l)
-      (λ i l. holds_same b (g (96 + i)) (f (96 + i)) (g (48 + i)) (f (48 + i)) (g (32 + i)) (f (32 + i))
-      (q.layers (96 + i) (omega arith) (omega (arith, l))) (q.cells (48 + i) (omega arith) (omega (arith, l)))
-      (q.cells (32 + i) (omega arith) (omega (arith, l))) ∙ helds i l)
-      (λ i l. pends_same b (g (96 + i)) (f (96 + i)) (g (48 + i)) (f (48 + i)) (q.layers (96 + i) (omega arith) (omega (arith, l)))
-      (q.cells (48 + i) (omega arith) (omega (arith, l))) ∙ pendings i l))))
+      (λ i l. changes_same b (g (PENDING + i)) (f (PENDING + i)) (g (CHANGED + i)) (f (CHANGED + i))
+      (q.layers (PENDING + i) (omega arith) (omega (arith, l)))
+      (q.cells (CHANGED + i) (omega arith) (omega (arith, l))) ∙ changes i l)
+      (λ i l. holds_same b (g (PENDING + i)) (f (PENDING + i)) (g (CHANGED + i)) (f (CHANGED + i)) (g (HELD + i)) (f (HELD + i))
+      (q.layers (PENDING + i) (omega arith) (omega (arith, l))) (q.cells (CHANGED + i) (omega arith) (omega (arith, l)))
+      (q.cells (HELD + i) (omega arith) (omega (arith, l))) ∙ helds i l)
+      (λ i l. pends_same b (g (PENDING + i)) (f (PENDING + i)) (g (CHANGED + i)) (f (CHANGED + i))
+      (q.layers (PENDING + i) (omega arith) (omega (arith, l)))
+      (q.cells (CHANGED + i) (omega arith) (omega (arith, l))) ∙ pendings i l))))

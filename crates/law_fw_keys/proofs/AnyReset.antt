@@ -5,7 +5,7 @@ use Rattle.std.proofs.lemmas.Bool.Decides.{nat_tests}
 use Rattle.bits.specs.Bits.{bit}
 use Rattle.fw_kernel.specs.Places.{HasKernel}
 use Rattle.fw_kernel.specs.Tables.{fn_place_at}
-use Rattle.fw_kernel.specs.declared.cells.TheConstants.{REPLYDUE}
+use Rattle.fw_kernel.specs.declared.cells.TheConstants.{REPLYDUE, HELD, LAYER}
 use Rattle.fw_kernel.specs.declared.labels.TheConstants.{TICK, DROP, SCAN}
 use Rattle.law_fw_logic.proofs.Block.{begin_at, memory, scratched}
 use Rattle.law_fw_logic.proofs.Kernel.{kernel_in}
@@ -42,7 +42,7 @@ module _ (d : Board) (bytes : List ℕ) (hk : HasKernel bytes) (small : All IsBy
   ring = drop 112 m.ram
 
   abbrev held : List Bool
-  held = held_by (λ c. f (32 + c))
+  held = held_by (λ c. f (HELD + c))
 
   same : scratched m DROP (memory f ring) m ≡ m
   same =
@@ -55,9 +55,9 @@ module _ (d : Board) (bytes : List ℕ) (hk : HasKernel bytes) (small : All IsBy
   says : (e : Cpu) (now : ℕ → ℕ) (r : List ℕ) → e ≡ scratched m SCAN (memory now r) e → IsFine e
       → Renewed bytes held f ring e.a now r → Resets bytes m e
   says e now r cpu good h =
-      let held_same : held_by (λ c. now (32 + c)) ≡ held =
-      flags_same (down_at (λ c. now (32 + c))) (down_at (λ c. f (32 + c))) 96
-      (λ i l. ap (λ v. bit (i % 8) v) (h.cells (32 + i / 8) (omega arith) (omega (arith, l)))) in
+      let held_same : held_by (λ c. now (HELD + c)) ≡ held =
+      flags_same (down_at (λ c. now (HELD + c))) (down_at (λ c. f (HELD + c))) 96
+      (λ i l. ap (λ v. bit (i % 8) v) (h.cells (HELD + i / 8) (omega arith) (omega (arith, l)))) in
       record {
         to = record {
           pc = ap (λ (c : Cpu). c.pc) cpu;
@@ -73,9 +73,9 @@ module _ (d : Board) (bytes : List ℕ) (hk : HasKernel bytes) (small : All IsBy
             ∙ cell_shows (was_held bytes f)
             ∙ held_at (before_edges f) (slice_index bytes fn_place_at) (nat_lt (slice_index bytes fn_place_at) 96) refl;
         pressed = ap (λ (c : Cpu). (layers_by c.ram).pressed_in) cpu
-            ∙ flags_same (down_at (λ c. now (80 + c))) (down_at (λ c. f (80 + c))) 96
+            ∙ flags_same (down_at (λ c. now (LAYER + c))) (down_at (λ c. f (LAYER + c))) 96
             (λ i l. ap (λ v. bit (i % 8) v)
-            (h.layers (80 + i / 8) (omega arith) (let n : 80 ≤ 80 + i / 8 = omega arith in grind (arith, nat_tests, n))));
+            (h.layers (LAYER + i / 8) (omega arith) (let n : 80 ≤ LAYER + i / 8 = omega arith in grind (arith, nat_tests, n))));
       }
 
   -- the reply to a reset goes, and in 98 cycles at most the keyboard is as after a reset, whatever state the cells

@@ -6,8 +6,10 @@ use Rattle.std.proofs.Common.{slice_index}
 use Rattle.std.proofs.lemmas.Bool.Decides.{nat_tests}
 use Rattle.mcs48_core.specs.Cpu.{Cpu}
 use Rattle.law_fw_keys.proofs.Blocks.{Just, JustA, leaf_a, leaf}
+use Rattle.fw_kernel.specs.Tables.{codes_at, make_only_at}
+use Rattle.fw_kernel.specs.declared.cells.TheConstants.{R0, R1, R3, R4, R5, R6, R7, COUNT, FN, HELD, CHANGED, LAYER}
 use Rattle.fw_kernel.specs.Places.{HasKernel}
-use Rattle.fw_kernel.specs.declared.labels.TheConstants.{COLUMN, DONE, FOOT, MORE, ROW}
+use Rattle.fw_kernel.specs.declared.labels.TheConstants.{COLUMN, DONE, FOOT, MORE, ROW, LAYERS}
 use Rattle.law_fw_keys.proofs.Block.{Ends, Safe}
 use Rattle.law_fw_keys.proofs.Patch.{IsFnCell, Patch, struck}
 use Rattle.law_fw_logic.proofs.Block.{begin_at, memory, put}
@@ -24,20 +26,20 @@ use Rattle.law_fw_keys.proofs.ColumnCells.{wide}
 
 -- what a pass begins with
 pub record Column (on : Bool) (ch hd : ℕ → ℕ) (c : ℕ) (m : Cpu) (f : ℕ → ℕ) : Type 0 where
-  pub pointer : f 24 ≡ 48 + c
+  pub pointer : f R0 ≡ CHANGED + c
   pub flag : m.f0 ≡ on
-  pub most : f 66 % 128 ≤ 16
-  pub cell : IsFnCell (f 78)
-  pub changes : (i : ℕ) → i < 12 → f (48 + i) ≡ ch i
-  pub helds : (i : ℕ) → i < 12 → f (32 + i) ≡ hd i
+  pub most : f COUNT % 128 ≤ 16
+  pub cell : IsFnCell (f FN)
+  pub changes : (i : ℕ) → i < 12 → f (CHANGED + i) ≡ ch i
+  pub helds : (i : ℕ) → i < 12 → f (HELD + i) ≡ hd i
 
 abbrev pub only : List ℕ → ℕ → ℕ
-only bytes c = slice_index bytes (961 + c)
+only bytes c = slice_index bytes (make_only_at + c)
 
 abbrev pub begun : List ℕ → (ℕ → ℕ) → (ℕ → ℕ) → ℕ → (ℕ → ℕ) → (ℕ → ℕ) → ℕ → ℕ
 begun bytes ch hd c f layers =
-    put (put (put (put (put (put (put (laid f layers) 28 (ch c)) 25 (80 + c)) 31 (hd c)) 30 (8 * c)) 29 (layers c)) 24
-    (only bytes c)) 27 8
+    put (put (put (put (put (put (put (laid f layers) R4 (ch c)) R1 (LAYER + c)) R7 (hd c)) R6 (8 * c)) R5 (layers c)) R0
+    (only bytes c)) R3 8
 
 -- after its last row its layers go back
 abbrev pub afterwards : (ℕ → ℕ) → ℕ → (ℕ → ℕ) → ℕ → ℕ → ℕ → Patch → Wide
@@ -46,7 +48,7 @@ afterwards hd c layers r0 r5 fn p = record {
   r7 = hd c;
   r5 = r5;
   fn = fn;
-  p = record p { r1 = 80 + c };
+  p = record p { r1 = LAYER + c };
   bytes = put layers c r5;
 }
 
@@ -58,36 +60,37 @@ module _ (d : Board) (bytes : List ℕ) (hk : HasKernel bytes) (small : All IsBy
       → Leads d (kernel_in true bytes) x (begin_at d COLUMN (laid f layers) ring m board)
       (Ends d x m board ROW 32 (JustA (ch c) (begun bytes ch hd c f layers) ring))
   begins c x m board f layers ring l col safe some =
-      let pointer : f 24 ≡ 48 + c = col.pointer in
+      let pointer : f R0 ≡ CHANGED + c = col.pointer in
       let l0 : ℕ → ℕ = laid f layers in
       leaf_a d (kernel_in true bytes) (has_rows true bytes hk) small low
       (JustA (ch c) (begun bytes ch hd c f layers) ring)
-      (Run 1 ∷ Acc (ch c) ∷ Go true ∷ Until 1050 ∷ Acc (32 + c) ∷ Run 2 ∷ Acc (hd c) ∷ Until 1059 ∷ Acc
-      (8 * c) ∷ Until 1063 ∷ Acc (80 + c) ∷ Run 2 ∷ Acc (layers c) ∷ Until 1069 ∷ Acc (193 + c) ∷ Run 1 ∷ Acc
-      (only bytes c) ∷ Until ROW ∷ []) COLUMN ROW 32 (ch c) (begun bytes ch hd c f layers) ring x m m board l0 ring
+      (Run 1 ∷ Acc (ch c) ∷ Go true ∷ Run 3 ∷ Acc (HELD + c) ∷ Run 2 ∷ Acc (hd c) ∷ Run 6 ∷ Acc (8 * c) ∷ Until LAYERS ∷ Run 2
+      ∷ Acc (LAYER + c) ∷ Run 2 ∷ Acc (layers c) ∷ Run 3 ∷ Acc (193 + c) ∷ Run 1 ∷ Acc (only bytes c)
+      ∷ Until ROW ∷ []) COLUMN ROW 32 (ch c) (begun bytes ch hd c f layers) ring x m m board l0 ring
       safe.0
       (refl, refl, refl) (
-        cell_at l0 ring (f 24) (48 + c) pointer (omega (arith, l)) ∙ laid_low f layers (48 + c) (omega (arith, l))
+        cell_at l0 ring (f R0) (CHANGED + c) pointer (omega (arith, l)) ∙ laid_low f layers (CHANGED + c) (omega (arith, l))
             ∙ col.changes c l,
         (
           ap not some,
           (
             ap (λ v. bit_xor v 16) pointer ∙ held_place c l,
             (
-              cell_at (put (put l0 28 (ch c)) 25 (32 + c)) ring (32 + c) (32 + c) refl (omega (arith, l))
-                  ∙ kept_first l0 (ch c) (32 + c) c l ∙ laid_low f layers (32 + c) (omega (arith, l)) ∙ col.helds c l,
+              cell_at (put (put l0 R4 (ch c)) R1 (HELD + c)) ring (HELD + c) (HELD + c) refl (omega (arith, l))
+                  ∙ kept_first l0 (ch c) (HELD + c) c l ∙ laid_low f layers (HELD + c) (omega (arith, l)) ∙ col.helds c l,
               (
                 ap (λ v. bit_and (left_once (left_once (left_once v))) 120) pointer ∙ first_row c l,
                 (
-                  layers_pointer (f 24) c pointer l,
+                  layers_pointer (f R0) c pointer l,
                   (
-                    cell_at (put (put (put (put l0 28 (ch c)) 25 (80 + c)) 31 (hd c)) 30 (8 * c)) ring (80 + c) (80 + c)
-                        refl (omega (arith, l)) ∙ kept_layers l0 (ch c) (80 + c) (hd c) (8 * c) c
+                    cell_at (put (put (put (put l0 R4 (ch c)) R1 (LAYER + c)) R7 (hd c)) R6 (8 * c)) ring
+                        (LAYER + c) (LAYER + c)
+                        refl (omega (arith, l)) ∙ kept_layers l0 (ch c) (LAYER + c) (hd c) (8 * c) c
                         ∙ laid_at f layers c l,
                     (
-                      only_pointer (f 24) c pointer l,
+                      only_pointer (f R0) c pointer l,
                       (
-                        (let e : 768 + (193 + c) ≡ 961 + c = omega arith in ap (λ i. slice_index bytes i) e),
+                        (let e : codes_at + (193 + c) ≡ make_only_at + c = omega arith in ap (λ i. slice_index bytes i) e),
                         ((refl, refl, refl), refl),
                       ),
                     ),
@@ -104,17 +107,17 @@ module _ (d : Board) (bytes : List ℕ) (hk : HasKernel bytes) (small : All IsBy
       c < 12
       → Safe m FOOT (struck (begun bytes ch hd c f layers) p r5 fn) last → p.r6 ≡ 8 * c + 8
       → Leads d (kernel_in true bytes) x (begin_at d FOOT (struck (begun bytes ch hd c f layers) p r5 fn) last m board)
-      (Ends d x m board MORE 15 (Just (spread f (afterwards hd c layers (49 + c) r5 fn p)) last))
+      (Ends d x m board MORE 15 (Just (spread f (afterwards hd c layers (CHANGED + 1 + c) r5 fn p)) last))
   ends c x m board f layers ring last p r5 fn l safe r6 =
       let w0 : ℕ → ℕ = wide f (afterwards hd c layers (only bytes c) r5 fn p) in
       leaf d (kernel_in true bytes) (has_rows true bytes hk) small low
-      (Just (spread f (afterwards hd c layers (49 + c) r5 fn p)) last)
-      (Until 1229 ∷ Acc (80 + c) ∷ Run 3 ∷ Ram (memory (laid w0 (put layers c r5)) last) ∷ Until 1235 ∷ Acc
-      (49 + c) ∷ Until MORE ∷ []) FOOT MORE 15 (spread f (afterwards hd c layers (49 + c) r5 fn p)) last x m m board
+      (Just (spread f (afterwards hd c layers (CHANGED + 1 + c) r5 fn p)) last)
+      (Run 5 ∷ Acc (LAYER + c) ∷ Run 3 ∷ Ram (memory (laid w0 (put layers c r5)) last) ∷ Run 2 ∷ Acc (CHANGED + 1 + c)
+      ∷ Until MORE ∷ []) FOOT MORE 15 (spread f (afterwards hd c layers (CHANGED + 1 + c) r5 fn p)) last x m m board
       (struck (begun bytes ch hd c f layers) p r5 fn) last safe.0 (λ a. (refl, refl)) (
         ap (λ v. (right_once (right_once (right_once v)) + 79) % 256) r6 ∙ layers_cell c l,
         (
-          cell_set (laid w0 layers) last (80 + c) (80 + c) r5 refl (omega (arith, l)) ∙ laid_set w0 layers last c r5 l,
+          cell_set (laid w0 layers) last (LAYER + c) (LAYER + c) r5 refl (omega (arith, l)) ∙ laid_set w0 layers last c r5 l,
           (omega (arith, l), (refl, refl, refl)),
         ),
       )
@@ -124,17 +127,17 @@ module _ (d : Board) (bytes : List ℕ) (hk : HasKernel bytes) (small : All IsBy
   goal_place (suc n) = COLUMN
 
   -- is there another one?
-  pub asks : (n c x : ℕ) (m : Cpu) (board : d.State) (f : ℕ → ℕ) (ring : List ℕ) → c + suc n ≡ 12 → f 24 ≡ 49 + c
+  pub asks : (n c x : ℕ) (m : Cpu) (board : d.State) (f : ℕ → ℕ) (ring : List ℕ) → c + suc n ≡ 12 → f R0 ≡ CHANGED + 1 + c
       → Safe m MORE f ring
       → Leads d (kernel_in true bytes) x (begin_at d MORE f ring m board)
       (Ends d x m board (goal_place n) 5 (Just f ring))
   asks zero c x m board f ring sum pointer safe =
       let here : not (c == 11) ≡ false = (let e : c ≡ 11 = omega (arith, sum) in rw e refl) in
-      leaf d (kernel_in true bytes) (has_rows true bytes hk) small low (Just f ring) (Run 2 ∷ Go false ∷ []) MORE DONE 5
+      leaf d (kernel_in true bytes) (has_rows true bytes hk) small low (Just f ring) (Go false ∷ []) MORE DONE 5
       f ring x m m board f ring safe.0 (λ a. (refl, refl))
       (ap (λ v. not (bit_xor v 60 == 0)) pointer ∙ last_column c (omega (arith, sum)) ∙ here, (refl, refl, refl))
   asks (suc n) c x m board f ring sum pointer safe =
       let other : not (c == 11) ≡ true = (let e : c < 11 = omega (arith, sum) in grind (arith, nat_tests, e)) in
-      leaf d (kernel_in true bytes) (has_rows true bytes hk) small low (Just f ring) (Run 2 ∷ Go true ∷ []) MORE COLUMN
+      leaf d (kernel_in true bytes) (has_rows true bytes hk) small low (Just f ring) (Go true ∷ []) MORE COLUMN
       5 f ring x m m board f ring safe.0 (λ a. (refl, refl))
       (ap (λ v. not (bit_xor v 60 == 0)) pointer ∙ last_column c (omega (arith, sum)) ∙ other, (refl, refl, refl))

@@ -7,6 +7,7 @@ use Rattle.mcs48_core.specs.Cpu.{Cpu}
 use Rattle.law_fw_keys.proofs.Blocks.{Just, JustA, leaf, here, seq, seq_just, seq_just_a, recast, relax}
 use Rattle.law_fw_keys.proofs.Blocks.{bytes_of}
 use Rattle.law_fw_keys.proofs.Rows.{rows_time, AfterRows, rows_law}
+use Rattle.fw_kernel.specs.declared.cells.TheConstants.{R0, COUNT, HELD, CHANGED}
 use Rattle.fw_kernel.specs.Places.{HasKernel}
 use Rattle.fw_kernel.specs.declared.labels.TheConstants.{COLUMN, DONE, FOOT, MORE, ROW}
 use Rattle.law_fw_keys.proofs.Block.{Ends, Safe}
@@ -15,7 +16,7 @@ use Rattle.law_fw_keys.specs.Edges.{image_keys, IsSilentAlike}
 use Rattle.law_fw_logic.proofs.Block.{begin_at, memory}
 use Rattle.law_fw_logic.proofs.Kernel.{kernel_in}
 use Rattle.law_fw_logic.proofs.Leads.{Leads}
-use Rattle.law_fw_logic.proofs.Path.{Acc, Go, Run}
+use Rattle.law_fw_logic.proofs.Path.{Acc, Go, Run, Until}
 use Rattle.law_fw_logic.proofs.Short.{has_rows}
 use Rattle.mcs48_ranges.specs.Sizes.{IsByte}
 use Rattle.joint_run.specs.Run.{Board}
@@ -35,10 +36,10 @@ module _ (d : Board) (bytes : List ℕ) (hk : HasKernel bytes) (alike : IsSilent
     where
       pub w : Wide
       pub now : g ≡ spread f w
-      pub r0_is : w.r0 ≡ 48 + c + n
+      pub r0_is : w.r0 ≡ CHANGED + c + n
       pub state : decks_of held (wide f w) last w.bytes ≡ columns step c n ch hd (decks_of held f ring layers)
       pub most : w.p.count % 128 ≤ 16
-      pub more : f 66 % 128 ≤ w.p.count % 128
+      pub more : f COUNT % 128 ≤ w.p.count % 128
       pub cell : IsFnCell w.fn
 
   -- one column, to the test for another
@@ -47,14 +48,14 @@ module _ (d : Board) (bytes : List ℕ) (hk : HasKernel bytes) (alike : IsSilent
       → Leads d (kernel_in true bytes) x (begin_at d COLUMN (laid f layers) ring m board)
       (Ends d x m board MORE (4 + rows_part (ch c)) (AfterColumns c 1 f layers ring))
   column_law true c x m board f layers ring l col safe none =
-      let pointer : f 24 ≡ 48 + c = col.pointer in
-      let w : Wide = record (unmoved f layers) { r0 = (f 24 + 1) % 256 } in
+      let pointer : f R0 ≡ CHANGED + c = col.pointer in
+      let w : Wide = record (unmoved f layers) { r0 = (f R0 + 1) % 256 } in
       let s : Decks = decks_of held f ring layers in
       relax d (kernel_in true bytes) (has_rows true bytes hk) small low x m board MORE 4 (4 + rows_part (ch c))
       (AfterColumns c 1 f layers ring) (AfterColumns c 1 f layers ring) (begin_at d COLUMN (laid f layers) ring m board)
       (omega arith) (λ a g rg h. h)
       (leaf d (kernel_in true bytes) (has_rows true bytes hk) small low (AfterColumns c 1 f layers ring)
-      (Run 1 ∷ Acc (ch c) ∷ Go false ∷ Run 1 ∷ []) COLUMN MORE 4 (spread f w) ring x m m board (laid f layers)
+      (Run 1 ∷ Acc (ch c) ∷ Go false ∷ Until MORE ∷ []) COLUMN MORE 4 (spread f w) ring x m m board (laid f layers)
       ring safe.0
       (λ a. record {
         w = w;
@@ -65,14 +66,14 @@ module _ (d : Board) (bytes : List ℕ) (hk : HasKernel bytes) (alike : IsSilent
         more = omega arith;
         cell = col.cell;
       }) (
-        cell_at (laid f layers) ring (f 24) (48 + c) pointer (omega (arith, l))
-            ∙ laid_low f layers (48 + c) (omega (arith, l)) ∙ col.changes c l,
+        cell_at (laid f layers) ring (f R0) (CHANGED + c) pointer (omega (arith, l))
+            ∙ laid_low f layers (CHANGED + c) (omega (arith, l)) ∙ col.changes c l,
         (ap not none, (refl, refl, refl)),
       ))
   column_law false c x m board f layers ring l col safe some =
       let h = bytes_of m COLUMN (laid f layers) ring safe in
-      let lc : ch c < 256 = subst (λ v. v < 256) (laid_low f layers (48 + c) (omega (arith, l)) ∙ col.changes c l)
-      (h.cell (48 + c) (omega (arith, l))) in
+      let lc : ch c < 256 = subst (λ v. v < 256) (laid_low f layers (CHANGED + c) (omega (arith, l)) ∙ col.changes c l)
+      (h.cell (CHANGED + c) (omega (arith, l))) in
       let time : ℕ = rows_time 0 8 (ch c) in
       let g1 : ℕ → ℕ = begun bytes ch hd c f layers in
       let s : Decks = decks_of held f ring layers in
@@ -104,10 +105,10 @@ module _ (d : Board) (bytes : List ℕ) (hk : HasKernel bytes) (alike : IsSilent
       (Ends d x2 m2 board2 MORE 15 (AfterColumns c 1 f layers ring))) (sym q.is.now)
       (λ safe3.
       recast d (kernel_in true bytes) (has_rows true bytes hk) small low x2 m2 board2 MORE 15 15
-      (Just (spread f (afterwards hd c layers (49 + c) q.r5 q.fn q.p)) last) (AfterColumns c 1 f layers ring)
+      (Just (spread f (afterwards hd c layers (CHANGED + 1 + c) q.r5 q.fn q.p)) last) (AfterColumns c 1 f layers ring)
       (begin_at d FOOT (struck g1 q.p q.r5 q.fn) last m2 board2) (omega arith)
       (λ a g2 rg h.
-      let w : Wide = afterwards hd c layers (49 + c) q.r5 q.fn q.p in
+      let w : Wide = afterwards hd c layers (CHANGED + 1 + c) q.r5 q.fn q.p in
       record {
         cells = spread f w;
         same = ap (λ t. memory t rg) h.0;
@@ -135,7 +136,7 @@ module _ (d : Board) (bytes : List ℕ) (hk : HasKernel bytes) (alike : IsSilent
   -- the columns that are left take their edges, one column after another, up to the end of step 5
   pub columns_law : (n : ℕ) → ColumnsLaw n
   columns_law zero c x m board f layers ring sum col safe =
-      let pointer : f 24 ≡ 48 + c = col.pointer in
+      let pointer : f R0 ≡ CHANGED + c = col.pointer in
       recast d (kernel_in true bytes) (has_rows true bytes hk) small low x m board DONE 0 0
       (JustA m.a (laid f layers) ring) (AfterColumns c 0 f layers ring) (begin_at d DONE (laid f layers) ring m board)
       (omega arith)
@@ -172,8 +173,8 @@ module _ (d : Board) (bytes : List ℕ) (hk : HasKernel bytes) (alike : IsSilent
       (λ safe2.
       let f1 : ℕ → ℕ = wide f q.w in
       let g1 : ℕ → ℕ = spread f q.w in
-      let pointer : q.w.r0 ≡ 48 + c + 1 = q.r0_is in
-      let up : f 66 % 128 ≤ q.w.p.count % 128 = q.more in
+      let pointer : q.w.r0 ≡ CHANGED + c + 1 = q.r0_is in
+      let up : f COUNT % 128 ≤ q.w.p.count % 128 = q.more in
       seq_just d (kernel_in true bytes) (has_rows true bytes hk) small low x1 m1 board1
       (goal_place d bytes hk small low on ch hd n) 5 DONE rest g1
       last (AfterColumns c (suc n) f layers ring) (begin_at d MORE g1 last m1 board1) safe2.1
@@ -184,7 +185,7 @@ module _ (d : Board) (bytes : List ℕ) (hk : HasKernel bytes) (alike : IsSilent
       (begin_at d (goal_place d bytes hk small low on ch hd n) g1 last m2 board2) (omega arith)
       (λ a g rg h.
       let up2 : q.w.p.count % 128 ≤ h.w.p.count % 128 = h.more in
-      let at : h.w.r0 ≡ 48 + suc c + n = h.r0_is in
+      let at : h.w.r0 ≡ CHANGED + suc c + n = h.r0_is in
       record {
         cells = spread f h.w;
         same = ap (λ t. memory t rg) h.now;
@@ -204,6 +205,6 @@ module _ (d : Board) (bytes : List ℕ) (hk : HasKernel bytes) (alike : IsSilent
         flag = ap (λ k. k.f0) same2 ∙ ap (λ k. k.f0) same1 ∙ col.flag;
         most = q.most;
         cell = q.cell;
-        changes = λ i l. kept_wide f q.w (48 + i) (omega arith) (omega (arith, l)) ∙ col.changes i l;
-        helds = λ i l. kept_wide f q.w (32 + i) (omega arith) (omega (arith, l)) ∙ col.helds i l;
+        changes = λ i l. kept_wide f q.w (CHANGED + i) (omega arith) (omega (arith, l)) ∙ col.changes i l;
+        helds = λ i l. kept_wide f q.w (HELD + i) (omega arith) (omega (arith, l)) ∙ col.helds i l;
       }) safe3))) safe1))

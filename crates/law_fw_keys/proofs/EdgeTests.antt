@@ -5,6 +5,7 @@ use Rattle.std.proofs.Common.{sym, ◌∙◌, arith, slice_index}
 use Rattle.mcs48_isa.proofs.Cases.{from_each}
 use Rattle.bits.specs.Bits.{bit}
 use Rattle.mcs48_core.specs.Status.{digit}
+use Rattle.fw_kernel.specs.Tables.{codes_at, fn_codes_at}
 use Rattle.fw_kernel.specs.Places.{HasKernel, is_table}
 use Rattle.law_fw_keys.proofs.Fold.{alike, ended_in, fn_cell}
 use Rattle.law_fw_keys.specs.Edges.{image_code, IsSilentAlike}
@@ -47,10 +48,10 @@ pub delay_in : (b : ℕ) → b < 256 → byte_in (974 + b / 32 % 4) ≡ delay b
 delay_in = by_byte (λ b. byte_in (974 + b / 32 % 4)) delay refl
 
 -- a read from the image's table of delays gives the model's delay
-pub delay_read : (bytes : List ℕ) → HasKernel bytes → (b : ℕ) → b < 256 → slice_index bytes (768 + (206 + b / 32 % 4))
+pub delay_read : (bytes : List ℕ) → HasKernel bytes → (b : ℕ) → b < 256 → slice_index bytes (codes_at + (206 + b / 32 % 4))
     ≡ delay b
 delay_read bytes hk b l =
-    let e : 768 + (206 + b / 32 % 4) ≡ 974 + b / 32 % 4 = omega arith in
+    let e : codes_at + (206 + b / 32 % 4) ≡ 974 + b / 32 % 4 = omega arith in
     let low : b / 32 % 4 < 4 = omega arith in
     rw e (hk (974 + b / 32 % 4) (from_each (λ k. is_table (974 + k) ≡ false) 0 4 (refl, (refl, (refl, (refl, tt))))
     (b / 32 % 4) (omega arith) low) ∙ sym (byte_is (974 + b / 32 % 4) (omega (arith, low))) ∙ delay_in b l)
@@ -80,9 +81,9 @@ index_byte true p l = omega (arith, l)
 index_byte false p l = omega (arith, l)
 
 -- the code at it
-pub code_read : (bytes : List ℕ) (b : Bool) (p : ℕ) → slice_index bytes (768 + (upper b + p)) ≡ image_code bytes b p
-code_read bytes true p = let e : 768 + (97 + p) ≡ 865 + p = omega arith in ap (λ i. slice_index bytes i) e
-code_read bytes false p = let e : 768 + (0 + p) ≡ 768 + p = omega arith in ap (λ i. slice_index bytes i) e
+pub code_read : (bytes : List ℕ) (b : Bool) (p : ℕ) → slice_index bytes (codes_at + (upper b + p)) ≡ image_code bytes b p
+code_read bytes true p = let e : codes_at + (97 + p) ≡ fn_codes_at + p = omega arith in ap (λ i. slice_index bytes i) e
+code_read bytes false p = let e : codes_at + (0 + p) ≡ codes_at + p = omega arith in ap (λ i. slice_index bytes i) e
 
 -- if a layout's places are silent in both layers alike, a place sends nothing with Fn exactly if it does without
 pub silent_by : (bytes : List ℕ) → IsSilentAlike bytes → (b : Bool) (p : ℕ) → p < 96
@@ -92,15 +93,15 @@ silent_by bytes alike false p l = refl
 
 -- in either layer the code reads 00 exactly if the place sends nothing
 pub silent_read : (bytes : List ℕ) → IsSilentAlike bytes → (b : Bool) (p : ℕ) → p < 96
-    → (slice_index bytes (768 + (upper b + p)) == 0) ≡ (image_code bytes false p == 0)
+    → (slice_index bytes (codes_at + (upper b + p)) == 0) ≡ (image_code bytes false p == 0)
 silent_read bytes alike b p l = ap (λ v. v == 0) (code_read bytes b p) ∙ silent_by bytes alike b p l
 
 -- the code of an index's place in its layer is the image's byte at that index
 pub code_of_index : (bytes : List ℕ) (i : ℕ) (b : Bool) → is_upper i ≡ b
-    → image_code bytes (is_upper i) (place_of i) ≡ slice_index bytes (768 + i)
+    → image_code bytes (is_upper i) (place_of i) ≡ slice_index bytes (codes_at + i)
 code_of_index bytes i true e =
     let l : 97 ≤ i = grind (arith, nat_tests, e) in
-    let n : 865 + (i - 97) ≡ 768 + i = omega (arith, l) in
+    let n : fn_codes_at + (i - 97) ≡ codes_at + i = omega (arith, l) in
     ap (λ u. image_code bytes u (if u then i - 97 else i)) e ∙ ap (λ i. slice_index bytes i) n
 code_of_index bytes i false e = ap (λ u. image_code bytes u (if u then i - 97 else i)) e
 

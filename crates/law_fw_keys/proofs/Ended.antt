@@ -2,8 +2,8 @@
 use Rattle.std.proofs.Common.{◌≡◌, ◌≤◌, ◌<◌, ℕ, ◌+◌, ◌-◌, List, All, Bool, true, false, ◌==◌, refl, ap, sym}
 use Rattle.std.proofs.Common.{◌∙◌, arith, None}
 use Rattle.mcs48_core.specs.Cpu.{Cpu}
-use Rattle.fw_kernel.specs.declared.cells.TheConstants.{LIGHTS}
-use Rattle.fw_kernel.specs.declared.labels.TheConstants.{DONE}
+use Rattle.fw_kernel.specs.declared.cells.TheConstants.{LIGHTS, TEST, HELD, PENDING}
+use Rattle.fw_kernel.specs.declared.labels.TheConstants.{DONE, TICK}
 use Rattle.fw_kernel.specs.Places.{HasKernel}
 use Rattle.joint_run.specs.Run.{Board, after_cycles}
 use Rattle.mcs48_ranges.specs.Sizes.{IsByte}
@@ -63,8 +63,8 @@ module _ (d : Board) (bytes : List ℕ) (hk : HasKernel bytes) (alike : IsSilent
     pub kbd : kbd_of held now last ≡ keyed_tick (image_keys bytes) meeting changes_now downs_now (layers_from meeting)
         (kbd_of held f ring)
     pub layers : layers_of now ≡ after (image_keys bytes) changes_now downs_now (layers_from meeting)
-    pub downs : (i : ℕ) → i < 12 → now (32 + i) ≡ downs_now i
-    pub pendings : (i : ℕ) → i < 12 → now (96 + i) ≡ pending_now i
+    pub downs : (i : ℕ) → i < 12 → now (HELD + i) ≡ downs_now i
+    pub pendings : (i : ℕ) → i < 12 → now (PENDING + i) ≡ pending_now i
     pub inv : Inv now
     pub stack : (now 8 ≡ f 8) × (now 9 ≡ f 9)
     pub facts : F from
@@ -121,33 +121,33 @@ module _ (d : Board) (bytes : List ℕ) (hk : HasKernel bytes) (alike : IsSilent
       }) h
 
   -- nothing is offered, and both wires are high
-  pub idle_works : Inv f → (f 69 == 0) ≡ true → offer (kbd_of held f ring) ≡ None
-      → IsFreeAt d bytes hk alike small low held y m board f ring → Safe m 10 f ring
+  pub idle_works : Inv f → (f TEST == 0) ≡ true → offer (kbd_of held f ring) ≡ None
+      → IsFreeAt d bytes hk alike small low held y m board f ring → Safe m (TICK + 3) f ring
       → Works Idle (231 + (31 + (56 + (2 + edges_most bytes changes_now)))) AtHead
   idle_works inv no_test nothing wires safe =
       silent Idle false 31 (same_kbd d bytes hk alike small low held y m board f ring) refl
       (idle_tick d bytes hk alike small low held y m board f ring inv no_test nothing wires safe)
 
   -- data is low at the first look alone
-  pub glitch_works : Inv f → (f 69 == 0) ≡ true → IsGlitchAt d bytes hk alike small low held y m board f ring
-      → Safe m 10 f ring → Works Idle (231 + (56 + (56 + (2 + edges_most bytes changes_now)))) AtHead
+  pub glitch_works : Inv f → (f TEST == 0) ≡ true → IsGlitchAt d bytes hk alike small low held y m board f ring
+      → Safe m (TICK + 3) f ring → Works Idle (231 + (56 + (56 + (2 + edges_most bytes changes_now)))) AtHead
   glitch_works inv no_test levels safe =
       silent Idle false 56 (same_kbd d bytes hk alike small low held y m board f ring) refl
       (glitch_tick d bytes hk alike small low held y m board f ring inv no_test levels safe)
 
   -- the clock is low
-  pub inhibited_works : Inv f → (f 69 == 0) ≡ true
+  pub inhibited_works : Inv f → (f TEST == 0) ≡ true
       → (d.pins 44 (255 - f LIGHTS) (y + 231 + 22)
       (after_cycles 22 0 (λ o. d.cycle (255 - f LIGHTS) (y + 231 + o)) (shining d bytes hk alike small low held y m board f
       ring))).t0
-      ≡ false → Safe m 10 f ring
+      ≡ false → Safe m (TICK + 3) f ring
       → Works Inhibited (231 + (31 + (56 + (2 + edges_most bytes changes_now)))) AtHead
   inhibited_works inv no_test clock safe =
       silent Inhibited true 31 (same_kbd d bytes hk alike small low held y m board f ring) refl
       (inhibited_tick d bytes hk alike small low held y m board f ring inv no_test clock safe)
 
   -- the power-on test runs, whatever the wires show
-  pub test_works : Inv f → (f 69 == 0) ≡ false → Safe m 10 f ring
+  pub test_works : Inv f → (f TEST == 0) ≡ false → Safe m (TICK + 3) f ring
       → Works Idle (231 + (36 + (56 + (2 + edges_most bytes changes_now)))) AtHead
   test_works inv runs safe = silent Idle false 36 (tested_if true) refl
       (test_tick d bytes hk alike small low held y m board f ring inv runs safe)

@@ -6,6 +6,7 @@ use Rattle.mcs48_core.specs.Cpu.{Cpu}
 use Rattle.bits.specs.Bits.{bit}
 use Rattle.law_fw_keys.proofs.Blocks.{leaf, bytes_of}
 use Rattle.std.proofs.Common.{nat_lt}
+use Rattle.fw_kernel.specs.declared.cells.TheConstants.{R1, R2, COUNT, HEAD, STARTED}
 use Rattle.fw_kernel.specs.Places.{HasKernel}
 use Rattle.fw_kernel.specs.declared.labels.TheConstants.{ENTER, ENTERED}
 use Rattle.law_fw_keys.proofs.Block.{Ends, Safe}
@@ -25,10 +26,10 @@ use Rattle.model_keyboard.specs.Queue.{enter}
 pub record Entered (code : List ℕ) (f : ℕ → ℕ) (ring : List ℕ) (g : ℕ → ℕ) (r : List ℕ) : Type 0 where
   pub pointer : ℕ
   pub count : ℕ
-  pub now : g ≡ put (put f 66 count) 25 pointer
-  pub queue : queue_by count (f 67) (f 68) r ≡ enter code (queue_of f ring)
+  pub now : g ≡ put (put f COUNT count) R1 pointer
+  pub queue : queue_by count (f HEAD) (f STARTED) r ≡ enter code (queue_of f ring)
   pub most : count % 128 ≤ 16
-  pub more : f 66 % 128 ≤ count % 128
+  pub more : f COUNT % 128 ≤ count % 128
 
 -- the code's or and the wrap at 80 (hexadecimal) give the place in the ring, within its 16 bytes
 pub ring_place : (z : ℕ) → z < 256 → bit_or z 112 % 128 ≡ (112 + z % 16) % 128
@@ -66,36 +67,36 @@ pub small_count : (c : ℕ) → c < 16 → bit 7 c ≡ false
 small_count = tests_by 16 (λ c. bit 7 c) (λ c. false) refl
 
 -- no room: the mark
-pub entered_over : (code : List ℕ) (f : ℕ → ℕ) (ring : List ℕ) (v : ℕ) → f 66 < 256 → f 66 % 128 ≤ 16
-    → (bit 7 (f 66) || nat_lt 16 (f 66 % 128 + length code)) ≡ true
-    → Entered code f ring (put (put f 66 (bit_or (f 66) 128)) 25 v) ring
+pub entered_over : (code : List ℕ) (f : ℕ → ℕ) (ring : List ℕ) (v : ℕ) → f COUNT < 256 → f COUNT % 128 ≤ 16
+    → (bit 7 (f COUNT) || nat_lt 16 (f COUNT % 128 + length code)) ≡ true
+    → Entered code f ring (put (put f COUNT (bit_or (f COUNT) 128)) R1 v) ring
 entered_over code f ring v byte most over = record {
   pointer = v;
-  count = bit_or (f 66) 128;
+  count = bit_or (f COUNT) 128;
   now = refl;
   queue = rw (
-    marked (f 66) byte,
-    length_kept (f 66) byte,
-    made-length (λ i. slice_index ring ((f 67 + i) % 16)) (f 66 % 128),
+    marked (f COUNT) byte,
+    length_kept (f COUNT) byte,
+    made-length (λ i. slice_index ring ((f HEAD + i) % 16)) (f COUNT % 128),
     over,
   ) refl;
-  most = rw (length_kept (f 66) byte) most;
-  more = rw (length_kept (f 66) byte) (omega arith);
+  most = rw (length_kept (f COUNT) byte) most;
+  more = rw (length_kept (f COUNT) byte) (omega arith);
 }
 
 -- room for one byte
-pub entered_one : (b : ℕ) (f : ℕ → ℕ) (ring : List ℕ) (v : ℕ) → length ring ≡ 16 → f 66 < 16
-    → Entered (b ∷ []) f ring (put (put f 66 ((f 66 + 1) % 256)) 25 v) (slice_set ring ((f 67 + f 66) % 16) b)
+pub entered_one : (b : ℕ) (f : ℕ → ℕ) (ring : List ℕ) (v : ℕ) → length ring ≡ 16 → f COUNT < 16
+    → Entered (b ∷ []) f ring (put (put f COUNT ((f COUNT + 1) % 256)) R1 v) (slice_set ring ((f HEAD + f COUNT) % 16) b)
 entered_one b f ring v size below =
-    let n : (f 66 + 1) % 256 ≡ suc (f 66) = omega (arith, below) in
-    let n2 : suc (f 66) % 128 ≡ suc (f 66) = omega (arith, below) in
-    let o : f 66 % 128 ≡ f 66 = omega (arith, below) in
-    let m1 : bit 7 (f 66) ≡ false = small_count (f 66) below in
-    let m2 : bit 7 (suc (f 66)) ≡ false = by_next (f 66) below in
-    let le : nat_lt 16 (f 66 + 1) ≡ false = grind (arith, nat_tests, below) in
+    let n : (f COUNT + 1) % 256 ≡ suc (f COUNT) = omega (arith, below) in
+    let n2 : suc (f COUNT) % 128 ≡ suc (f COUNT) = omega (arith, below) in
+    let o : f COUNT % 128 ≡ f COUNT = omega (arith, below) in
+    let m1 : bit 7 (f COUNT) ≡ false = small_count (f COUNT) below in
+    let m2 : bit 7 (suc (f COUNT)) ≡ false = by_next (f COUNT) below in
+    let le : nat_lt 16 (f COUNT + 1) ≡ false = grind (arith, nat_tests, below) in
     record {
       pointer = v;
-      count = (f 66 + 1) % 256;
+      count = (f COUNT + 1) % 256;
       now = refl;
       queue = rw (
         n,
@@ -103,8 +104,8 @@ entered_one b f ring v size below =
         o,
         m1,
         m2,
-        appended ring (f 67) (f 66) b size below,
-        made-length (λ i. slice_index ring ((f 67 + i) % 16)) (f 66),
+        appended ring (f HEAD) (f COUNT) b size below,
+        made-length (λ i. slice_index ring ((f HEAD + i) % 16)) (f COUNT),
         le,
       ) refl;
       most = omega (arith, n, below);
@@ -115,19 +116,19 @@ entered_one b f ring v size below =
     by_next = tests_by 16 (λ c. bit 7 (suc c)) (λ c. false) refl
 
 -- room for two
-pub entered_two : (b : ℕ) (f : ℕ → ℕ) (ring : List ℕ) (v : ℕ) → length ring ≡ 16 → f 66 < 15
-    → Entered (240 ∷ b ∷ []) f ring (put (put f 66 (((f 66 + 1) % 256 + 1) % 256)) 25 v)
-    (slice_set (slice_set ring ((f 67 + f 66) % 16) 240) ((f 67 + suc (f 66)) % 16) b)
+pub entered_two : (b : ℕ) (f : ℕ → ℕ) (ring : List ℕ) (v : ℕ) → length ring ≡ 16 → f COUNT < 15
+    → Entered (240 ∷ b ∷ []) f ring (put (put f COUNT (((f COUNT + 1) % 256 + 1) % 256)) R1 v)
+    (slice_set (slice_set ring ((f HEAD + f COUNT) % 16) 240) ((f HEAD + suc (f COUNT)) % 16) b)
 entered_two b f ring v size below =
-    let n : ((f 66 + 1) % 256 + 1) % 256 ≡ suc (suc (f 66)) = omega (arith, below) in
-    let n2 : suc (suc (f 66)) % 128 ≡ suc (suc (f 66)) = omega (arith, below) in
-    let o : f 66 % 128 ≡ f 66 = omega (arith, below) in
-    let m1 : bit 7 (f 66) ≡ false = small_count (f 66) (omega (arith, below)) in
-    let m2 : bit 7 (suc (suc (f 66))) ≡ false = by_next (f 66) below in
-    let le : nat_lt 16 (f 66 + 2) ≡ false = grind (arith, nat_tests, below) in
+    let n : ((f COUNT + 1) % 256 + 1) % 256 ≡ suc (suc (f COUNT)) = omega (arith, below) in
+    let n2 : suc (suc (f COUNT)) % 128 ≡ suc (suc (f COUNT)) = omega (arith, below) in
+    let o : f COUNT % 128 ≡ f COUNT = omega (arith, below) in
+    let m1 : bit 7 (f COUNT) ≡ false = small_count (f COUNT) (omega (arith, below)) in
+    let m2 : bit 7 (suc (suc (f COUNT))) ≡ false = by_next (f COUNT) below in
+    let le : nat_lt 16 (f COUNT + 2) ≡ false = grind (arith, nat_tests, below) in
     record {
       pointer = v;
-      count = ((f 66 + 1) % 256 + 1) % 256;
+      count = ((f COUNT + 1) % 256 + 1) % 256;
       now = refl;
       queue = rw (
         n,
@@ -135,8 +136,8 @@ entered_two b f ring v size below =
         o,
         m1,
         m2,
-        appended2 ring (f 67) (f 66) 240 b size below,
-        made-length (λ i. slice_index ring ((f 67 + i) % 16)) (f 66),
+        appended2 ring (f HEAD) (f COUNT) 240 b size below,
+        made-length (λ i. slice_index ring ((f HEAD + i) % 16)) (f COUNT),
         le,
       ) refl;
       most = omega (arith, n, below);
@@ -154,31 +155,31 @@ module _ (d : Board) (bytes : List ℕ) (hk : HasKernel bytes) (small : All IsBy
     (low : (p1 p2 c : ℕ) (s : d.State) → (d.pins p1 p2 c s).bus < 256) (held : List Bool)
     (x : ℕ) (m : Cpu) (board : d.State) (f : ℕ → ℕ) (ring : List ℕ) where
   -- one byte at ENTER, on to ENTERED
-  enters_by : (over : Bool) → nat_le 256 (f 66 + 240) ≡ over → Safe m ENTER f ring → f 66 % 128 ≤ 16
+  enters_by : (over : Bool) → nat_le 256 (f COUNT + 240) ≡ over → Safe m ENTER f ring → f COUNT % 128 ≤ 16
       → Leads d (kernel_in true bytes) x (begin_at d ENTER f ring m board)
-      (Ends d x m board ENTERED 17 (λ a. Entered (f 26 ∷ []) f ring))
+      (Ends d x m board ENTERED 17 (λ a. Entered (f R2 ∷ []) f ring))
   enters_by true is safe most =
       let h = bytes_of m ENTER f ring safe in
-      leaf d (kernel_in true bytes) (has_rows true bytes hk) small low (λ a. Entered (f 26 ∷ []) f ring)
-      (Until 1128 ∷ Go true ∷ Until ENTERED ∷ []) ENTER ENTERED 17 (put (put f 66 (bit_or (f 66) 128)) 25 66) ring x m m
+      leaf d (kernel_in true bytes) (has_rows true bytes hk) small low (λ a. Entered (f R2 ∷ []) f ring)
+      (Go true ∷ Until ENTERED ∷ []) ENTER ENTERED 17 (put (put f COUNT (bit_or (f COUNT) 128)) R1 COUNT) ring x m m
       board f ring safe.0
-      (λ a. entered_over (f 26 ∷ []) f ring 66 (h.cell 66 (omega arith)) most
-      (sym (over_one (f 66) (h.cell 66 (omega arith))) ∙ is))
+      (λ a. entered_over (f R2 ∷ []) f ring COUNT (h.cell COUNT (omega arith)) most
+      (sym (over_one (f COUNT) (h.cell COUNT (omega arith))) ∙ is))
       (is, (refl, refl, refl))
   enters_by false is safe most =
       let h = bytes_of m ENTER f ring safe in
-      let below : f 66 < 16 = (let l = not_over (f 66) 240 is in omega (arith, l)) in
-      let z : ℕ = ((f 66 + 240) % 256 + f 67) % 256 in
-      let j : z % 16 ≡ (f 67 + f 66) % 16 = omega arith in
-      let g : ℕ → ℕ = put (put f 66 ((f 66 + 1) % 256)) 25 (bit_or z 112) in
-      leaf d (kernel_in true bytes) (has_rows true bytes hk) small low (λ a. Entered (f 26 ∷ []) f ring)
-      (Until 1128 ∷ Go false ∷ Until 1137 ∷ Run 1 ∷ Ram (memory g (slice_set ring ((f 67 + f 66) % 16) (f 26))) ∷ Until
-      ENTERED ∷ []) ENTER ENTERED 17 g (slice_set ring ((f 67 + f 66) % 16) (f 26)) x m m board f ring safe.0
-      (λ a. entered_one (f 26) f ring (bit_or z 112) h.size below)
-      (is, (in_ring g ring z (f 67 + f 66) (f 26) (omega arith) j, (refl, refl, refl)))
+      let below : f COUNT < 16 = (let l = not_over (f COUNT) 240 is in omega (arith, l)) in
+      let z : ℕ = ((f COUNT + 240) % 256 + f HEAD) % 256 in
+      let j : z % 16 ≡ (f HEAD + f COUNT) % 16 = omega arith in
+      let g : ℕ → ℕ = put (put f COUNT ((f COUNT + 1) % 256)) R1 (bit_or z 112) in
+      leaf d (kernel_in true bytes) (has_rows true bytes hk) small low (λ a. Entered (f R2 ∷ []) f ring)
+      (Go false ∷ Run 7 ∷ Ram (memory g (slice_set ring ((f HEAD + f COUNT) % 16) (f R2)))
+      ∷ Until ENTERED ∷ []) ENTER ENTERED 17 g (slice_set ring ((f HEAD + f COUNT) % 16) (f R2)) x m m board f ring safe.0
+      (λ a. entered_one (f R2) f ring (bit_or z 112) h.size below)
+      (is, (in_ring g ring z (f HEAD + f COUNT) (f R2) (omega arith) j, (refl, refl, refl)))
 
   -- a make enters the queue as in the model, in 17 cycles at most
-  pub enters : Safe m ENTER f ring → f 66 % 128 ≤ 16
+  pub enters : Safe m ENTER f ring → f COUNT % 128 ≤ 16
       → Leads d (kernel_in true bytes) x (begin_at d ENTER f ring m board)
-      (Ends d x m board ENTERED 17 (λ a. Entered (f 26 ∷ []) f ring))
-  enters = enters_by (nat_le 256 (f 66 + 240)) refl
+      (Ends d x m board ENTERED 17 (λ a. Entered (f R2 ∷ []) f ring))
+  enters = enters_by (nat_le 256 (f COUNT + 240)) refl

@@ -3,6 +3,7 @@ use Rattle.std.proofs.Common.{◌≡◌, ◌≤◌, ◌<◌, ℕ, ◌+◌, ◌-�
 use Rattle.std.proofs.Common.{List, All, length, drop, bit_xor, refl, ap, sym, ◌∙◌, subst, arith}
 use Rattle.std.proofs.Common.{inl, inr}
 use Rattle.mcs48_core.specs.Cpu.{Cpu}
+use Rattle.fw_kernel.specs.declared.cells.TheConstants.{HELD, PENDING}
 use Rattle.fw_kernel.specs.declared.labels.TheConstants.{TICK, DONE}
 use Rattle.fw_kernel.specs.Places.{HasKernel}
 use Rattle.joint_run.specs.Run.{Board, World, after_cycles}
@@ -91,23 +92,23 @@ module _ (d : Board) (bytes : List ℕ) (hk : HasKernel bytes) (alike : IsSilent
       ap (λ b. 255 - (d.pins (32 + c) m.p2 (x + 3 + (13 + 16 * c)) b).bus) state
       ∙ ap (λ k. 255 - (d.pins (32 + c) m.p2 k (in_tick d w (16 + 16 * c))).bus) a
 
-  differing_is : (c : ℕ) → bit_xor (stacked f (32 + c)) (reads_in c) ≡ differing_now d w c
-  differing_is c = ap (λ v. bit_xor v (reads_in c)) (kept_on f c) ∙ ap (λ v. bit_xor (f (32 + c)) v) (reads_is c)
+  differing_is : (c : ℕ) → bit_xor (stacked f (HELD + c)) (reads_in c) ≡ differing_now d w c
+  differing_is c = ap (λ v. bit_xor v (reads_in c)) (kept_on f c) ∙ ap (λ v. bit_xor (f (HELD + c)) v) (reads_is c)
 
-  pending_is : (c : ℕ) → stacked f (96 + c) ≡ f (96 + c)
-  pending_is c = stacked_at f (96 + c) (omega arith)
+  pending_is : (c : ℕ) → stacked f (PENDING + c) ≡ f (PENDING + c)
+  pending_is c = stacked_at f (PENDING + c) (omega arith)
 
   abbrev debounce : Bool
   debounce = debounces bytes
 
-  changed_is : (c : ℕ) → changed_in c ≡ changes_by debounce (f (96 + c)) (differing_now d w c)
+  changed_is : (c : ℕ) → changed_in c ≡ changes_by debounce (f (PENDING + c)) (differing_now d w c)
   changed_is c =
-      changes_same debounce (stacked f (96 + c)) (f (96 + c)) (bit_xor (stacked f (32 + c)) (reads_in c))
+      changes_same debounce (stacked f (PENDING + c)) (f (PENDING + c)) (bit_xor (stacked f (HELD + c)) (reads_in c))
       (differing_now d w c) (pending_is c) (differing_is c)
 
-  down_is : (c : ℕ) → down_in c ≡ holds_by debounce (f (96 + c)) (differing_now d w c) (column_read d w c)
+  down_is : (c : ℕ) → down_in c ≡ holds_by debounce (f (PENDING + c)) (differing_now d w c) (column_read d w c)
   down_is c =
-      holds_same debounce (stacked f (96 + c)) (f (96 + c)) (bit_xor (stacked f (32 + c)) (reads_in c))
+      holds_same debounce (stacked f (PENDING + c)) (f (PENDING + c)) (bit_xor (stacked f (HELD + c)) (reads_in c))
       (differing_now d w c) (reads_in c) (column_read d w c) (pending_is c) (differing_is c) (reads_is c)
 
   cell_small : (i : ℕ) → i < 112 → f i < 256
@@ -115,15 +116,15 @@ module _ (d : Board) (bytes : List ℕ) (hk : HasKernel bytes) (alike : IsSilent
       All-get_or IsByte m.ram i 0 (let n : length m.ram ≡ 128 = s.fine.long in omega (arith, n, l)) s.fine.ram
 
   differing_small : (c : ℕ) → c < 12 → differing_now d w c < 256
-  differing_small c l = xor_small (f (32 + c)) (column_read d w c) (cell_small (32 + c) (omega (arith, l))) (omega arith)
+  differing_small c l = xor_small (f (HELD + c)) (column_read d w c) (cell_small (HELD + c) (omega (arith, l))) (omega arith)
 
   edges_is : tick_edges changed_in down_in ≡ edges_now bytes d w
   edges_is =
-      columns_same changed_in (λ c. changes_by debounce (f (96 + c)) (differing_now d w c)) down_in
-      (λ c. holds_by debounce (f (96 + c)) (differing_now d w c) (column_read d w c)) 0 12 refl (λ i l. changed_is i)
+      columns_same changed_in (λ c. changes_by debounce (f (PENDING + c)) (differing_now d w c)) down_in
+      (λ c. holds_by debounce (f (PENDING + c)) (differing_now d w c) (column_read d w c)) 0 12 refl (λ i l. changed_is i)
       (λ i l. down_is i)
-      ∙ settled_edges debounce (λ c. f (96 + c)) (differing_now d w) (column_read d w)
-      (λ i l. cell_small (96 + i) (omega (arith, l))) differing_small
+      ∙ settled_edges debounce (λ c. f (PENDING + c)) (differing_now d w) (column_read d w)
+      (λ i l. cell_small (PENDING + i) (omega (arith, l))) differing_small
 
   read_is : held_by reads_in ≡ held_by (column_read d w)
   read_is = held_same reads_in (column_read d w) (λ c l. reads_is c)
@@ -143,8 +144,9 @@ module _ (d : Board) (bytes : List ℕ) (hk : HasKernel bytes) (alike : IsSilent
       four_edges changed_in (λ i l.
       subst (λ v. v < 256)
       (sym (changed_is i
-      ∙ changes_is debounce (f (96 + i)) (differing_now d w i) (cell_small (96 + i) (omega (arith, l))) (differing_small i l)))
-      (changed_small debounce (f (96 + i)) (differing_now d w i) (differing_small i l)))
+      ∙ changes_is debounce (f (PENDING + i)) (differing_now d w i) (cell_small (PENDING + i) (omega (arith, l)))
+      (differing_small i l)))
+      (changed_small debounce (f (PENDING + i)) (differing_now d w i) (differing_small i l)))
       (omega (arith, count, few)) in
       more (settle_cycles (debounces bytes)) (columns_most changed_in) most
     where

@@ -3,7 +3,9 @@ use Rattle.law_fw_keys.proofs.Patch.{Keeps}
 use Rattle.std.proofs.Common.{◌≡◌, ◌≤◌, ◌<◌, ℕ, ◌+◌, List, All, Bool, true, false, not, ◌==◌, bit_xor}
 use Rattle.std.proofs.Common.{refl, ap, sym, ◌∙◌, subst, arith, Some}
 use Rattle.mcs48_core.specs.Cpu.{Cpu}
-use Rattle.fw_kernel.specs.declared.labels.TheConstants.{DONE, SCAN, TESTED, SENT, COMMAND}
+use Rattle.fw_kernel.specs.declared.cells.TheConstants.{R4, R5, REPLYDUE, AADUE, COUNT, HEAD, STARTED, TEST, REPLY}
+use Rattle.fw_kernel.specs.declared.cells.TheConstants.{HELD, CHANGED, PENDING, FN}
+use Rattle.fw_kernel.specs.declared.labels.TheConstants.{DONE, SCAN, TESTED, SENT, COMMAND, TICK}
 use Rattle.fw_kernel.specs.Places.{HasKernel}
 use Rattle.joint_run.specs.Run.{Board, after_cycles}
 use Rattle.mcs48_ranges.specs.Sizes.{IsByte, IsFine}
@@ -59,7 +61,7 @@ module _ (d : Board) (bytes : List ℕ) (hk : HasKernel bytes) (alike : IsSilent
       (e : Stage d.State) : Type 0 where
     pub now : ℕ → ℕ
     pub cpu : e.cpu ≡ scratched (record lights { f1 = false; p2 = e.cpu.p2 }) to (memory now ring) e.cpu
-    pub kept : (i : ℕ) → 32 ≤ i → i < 108 → now i ≡ g i
+    pub kept : (i : ℕ) → HELD ≤ i → i < PENDING + 12 → now i ≡ g i
     pub stack : (now 8 ≡ g 8) × (now 9 ≡ g 9)
     pub short : e.off ≤ max
     pub registers : R now
@@ -79,7 +81,7 @@ module _ (d : Board) (bytes : List ℕ) (hk : HasKernel bytes) (alike : IsSilent
   abbrev pub StepLaw : ℕ → ℕ → (ℕ → ℕ → (ℕ → ℕ) → Type 0) → ((ℕ → ℕ) → Keyboard → Keyboard) → ((ℕ → ℕ) → ℕ → ℕ) → Type 0
   StepLaw to most R step lifts =
       (r4 r5 x : ℕ) (m1 : Cpu) (board1 : d.State) (g : ℕ → ℕ) → offered_in r4 r5 ≡ offer (kbd_of held f ring)
-      → R r4 r5 g → ((i : ℕ) → 64 ≤ i → i < 108 → g i ≡ f i) → Inv g → Safe m1 to g ring
+      → R r4 r5 g → ((i : ℕ) → REPLYDUE ≤ i → i < PENDING + 12 → g i ≡ f i) → Inv g → Safe m1 to g ring
       → Leads d (kernel_in true bytes) x (begin_at d to g ring m1 board1)
       (Ends d x m1 board1 SCAN most (Keeps held (step g) (lifts g) ring))
 
@@ -87,7 +89,7 @@ module _ (d : Board) (bytes : List ℕ) (hk : HasKernel bytes) (alike : IsSilent
   abbrev pub ModelLaw : Meeting → (ℕ → ℕ → (ℕ → ℕ) → Type 0) → ((ℕ → ℕ) → Keyboard → Keyboard) → Type 0
   ModelLaw meeting R step =
       (r4 r5 : ℕ) (g : ℕ → ℕ) → offered_in r4 r5 ≡ offer (kbd_of held f ring) → R r4 r5 g
-      → step g (kbd_of held f ring) ≡ tested_if (not (f 69 == 0)) (met meeting (image_keys bytes) (kbd_of held f ring))
+      → step g (kbd_of held f ring) ≡ tested_if (not (f TEST == 0)) (met meeting (image_keys bytes) (kbd_of held f ring))
 
   -- what is lifted is no cell of the keyboard, and it makes the layers those that the edges find
   abbrev reads : ℕ → ℕ
@@ -97,10 +99,10 @@ module _ (d : Board) (bytes : List ℕ) (hk : HasKernel bytes) (alike : IsSilent
   from meeting = layers_from d bytes hk alike small low held y m board f ring meeting
 
   pub record Lifts (meeting : Meeting) (lifts : (ℕ → ℕ) → ℕ → ℕ) : Type 0 where
-    pub below : (g : ℕ → ℕ) (i : ℕ) → i < 78 → lifts g i ≡ g i
+    pub below : (g : ℕ → ℕ) (i : ℕ) → i < FN → lifts g i ≡ g i
     pub above : (g : ℕ → ℕ) (i : ℕ) → 79 ≤ i → lifts g i ≡ g i
-    pub layers : (g : ℕ → ℕ) → ((i : ℕ) → i < 12 → g (48 + i) ≡ bit_xor (f (32 + i)) (reads i))
-        → ((i : ℕ) → i < 12 → g (32 + i) ≡ reads i) → ((i : ℕ) → 64 ≤ i → i < 108 → g i ≡ f i)
+    pub layers : (g : ℕ → ℕ) → ((i : ℕ) → i < 12 → g (CHANGED + i) ≡ bit_xor (f (HELD + i)) (reads i))
+        → ((i : ℕ) → i < 12 → g (HELD + i) ≡ reads i) → ((i : ℕ) → REPLYDUE ≤ i → i < PENDING + 12 → g i ≡ f i)
         → layers_of (lifts g) ≡ from meeting
 
   module _ (meeting : Meeting) (to max most : ℕ) (F : Stage d.State → Type 0) (R : ℕ → ℕ → (ℕ → ℕ) → Type 0)
@@ -114,15 +116,16 @@ module _ (d : Board) (bytes : List ℕ) (hk : HasKernel bytes) (alike : IsSilent
     abbrev Goal : Stage d.State → Type 0
     Goal = Ended d bytes hk alike small low held y m board f ring meeting last_off F
 
-    changes : (r4 r5 : ℕ) (now : ℕ → ℕ) → ((i : ℕ) → 32 ≤ i → i < 108 → now i ≡ cells r4 r5 i) → (i : ℕ) → i < 12
-        → now (48 + i) ≡ bit_xor (f (32 + i)) (reads i)
-    changes r4 r5 now kept i l = kept (48 + i) (omega arith) (omega (arith, l)) ∙ head_changes reads f r4 r5 i l
+    changes : (r4 r5 : ℕ) (now : ℕ → ℕ) → ((i : ℕ) → HELD ≤ i → i < PENDING + 12 → now i ≡ cells r4 r5 i) → (i : ℕ) → i < 12
+        → now (CHANGED + i) ≡ bit_xor (f (HELD + i)) (reads i)
+    changes r4 r5 now kept i l = kept (CHANGED + i) (omega arith) (omega (arith, l)) ∙ head_changes reads f r4 r5 i l
 
-    helds : (r4 r5 : ℕ) (now : ℕ → ℕ) → ((i : ℕ) → 32 ≤ i → i < 108 → now i ≡ cells r4 r5 i) → (i : ℕ) → i < 12
-        → now (32 + i) ≡ reads i
-    helds r4 r5 now kept i l = kept (32 + i) (omega arith) (omega (arith, l)) ∙ head_helds reads f r4 r5 i l
+    helds : (r4 r5 : ℕ) (now : ℕ → ℕ) → ((i : ℕ) → HELD ≤ i → i < PENDING + 12 → now i ≡ cells r4 r5 i) → (i : ℕ) → i < 12
+        → now (HELD + i) ≡ reads i
+    helds r4 r5 now kept i l = kept (HELD + i) (omega arith) (omega (arith, l)) ∙ head_helds reads f r4 r5 i l
 
-    same : (r4 r5 : ℕ) (now : ℕ → ℕ) → ((i : ℕ) → 32 ≤ i → i < 108 → now i ≡ cells r4 r5 i) → (i : ℕ) → 64 ≤ i → i < 108
+    same : (r4 r5 : ℕ) (now : ℕ → ℕ) → ((i : ℕ) → HELD ≤ i → i < PENDING + 12 → now i ≡ cells r4 r5 i) → (i : ℕ) → REPLYDUE ≤ i
+        → i < PENDING + 12
         → now i ≡ f i
     same r4 r5 now kept i l u = kept i (omega (arith, l)) u ∙ head_keeps reads f r4 r5 i (omega (arith, l))
 
@@ -149,18 +152,21 @@ module _ (d : Board) (bytes : List ℕ) (hk : HasKernel bytes) (alike : IsSilent
         safe_at d (kernel_in true bytes) (has_rows true bytes hk) small low to n now ring e.cpu a.cpu free fine in
         let on : Bool = is_scanning (step now (kbd_of held (lifts now) ring)) in
         let x : ℕ = y + 231 + e.off in
-        let differ : (i : ℕ) → i < 12 → lifts now (48 + i) ≡ bit_xor (f (32 + i)) (reads i) =
-        λ i l. lift.below now (48 + i) (omega (arith, l)) ∙ changes r4 r5 now a.kept i l in
-        let pend : (i : ℕ) → i < 12 → lifts now (96 + i) ≡ f (96 + i) =
-        λ i l. lift.above now (96 + i) (omega arith) ∙ as_was (96 + i) (omega arith) (omega (arith, l)) in
+        let differ : (i : ℕ) → i < 12 → lifts now (CHANGED + i) ≡ bit_xor (f (HELD + i)) (reads i) =
+        λ i l. lift.below now (CHANGED + i) (omega (arith, l)) ∙ changes r4 r5 now a.kept i l in
+        let pend : (i : ℕ) → i < 12 → lifts now (PENDING + i) ≡ f (PENDING + i) =
+        λ i l. lift.above now (PENDING + i) (omega arith) ∙ as_was (PENDING + i) (omega arith) (omega (arith, l)) in
         let tail = tail_law d bytes hk alike small low held (step now) ch hd pd to most x e.cpu e.board now (lifts now) ring
         safe
-        (λ i l. changes_same b (lifts now (96 + i)) (f (96 + i)) (lifts now (48 + i)) (bit_xor (f (32 + i)) (reads i))
+        (λ i l. changes_same b (lifts now (PENDING + i)) (f (PENDING + i)) (lifts now (CHANGED + i))
+        (bit_xor (f (HELD + i)) (reads i))
         (pend i l) (differ i l))
-        (λ i l. holds_same b (lifts now (96 + i)) (f (96 + i)) (lifts now (48 + i)) (bit_xor (f (32 + i)) (reads i))
-        (lifts now (32 + i)) (reads i) (pend i l) (differ i l)
-        (lift.below now (32 + i) (omega (arith, l)) ∙ helds r4 r5 now a.kept i l))
-        (λ i l. pends_same b (lifts now (96 + i)) (f (96 + i)) (lifts now (48 + i)) (bit_xor (f (32 + i)) (reads i))
+        (λ i l. holds_same b (lifts now (PENDING + i)) (f (PENDING + i)) (lifts now (CHANGED + i))
+        (bit_xor (f (HELD + i)) (reads i))
+        (lifts now (HELD + i)) (reads i) (pend i l) (differ i l)
+        (lift.below now (HELD + i) (omega (arith, l)) ∙ helds r4 r5 now a.kept i l))
+        (λ i l. pends_same b (lifts now (PENDING + i)) (f (PENDING + i)) (lifts now (CHANGED + i))
+        (bit_xor (f (HELD + i)) (reads i))
         (pend i l) (differ i l))
         (law r4 r5 x e.cpu e.board now offers a.registers as_was (same_inv now f
         (λ i l u. as_was i l (omega (arith, u))) inv) safe) in
@@ -207,9 +213,9 @@ module _ (d : Board) (bytes : List ℕ) (hk : HasKernel bytes) (alike : IsSilent
         }) tail
 
     -- a tick whose frame and step are as they should be does the model's work
-    pub framed : Safe m 10 f ring → Works d bytes hk alike small low held y m board f ring meeting last_off F
+    pub framed : Safe m (TICK + 3) f ring → Works d bytes hk alike small low held y m board f ring meeting last_off F
     framed safe =
-        let h = bytes_of m 10 f ring safe in
+        let h = bytes_of m (TICK + 3) f ring safe in
         let H = Headed d bytes hk small low held y m board f ring in
         let start = begun d bytes hk alike small low held y m board f ring in
         chain d (kernel_in true bytes) (has_rows true bytes hk) y (λ e. H e × IsFine e.cpu) Goal start
@@ -235,32 +241,32 @@ module _ (d : Board) (bytes : List ℕ) (hk : HasKernel bytes) (alike : IsSilent
 
   -- what the registers hold after a sent frame, a received one, a cut one
   abbrev pub IsSent : ℕ → ℕ → (ℕ → ℕ) → Type 0
-  IsSent r4 r5 g = (g 28 ≡ r4) × ((r5 == 0) ≡ false)
+  IsSent r4 r5 g = (g R4 ≡ r4) × ((r5 == 0) ≡ false)
 
   abbrev pub IsGot : ℕ → Bool → ℕ → ℕ → (ℕ → ℕ) → Type 0
-  IsGot byte good r4 r5 g = (g 28 ≡ byte) × (not (g 29 == 0) ≡ good)
+  IsGot byte good r4 r5 g = (g R4 ≡ byte) × (not (g R5 == 0) ≡ good)
 
   abbrev pub IsCut : ℕ → ℕ → (ℕ → ℕ) → Type 0
   IsCut r4 r5 g = (r5 == 0) ≡ false
 
   abbrev sent_step : (ℕ → ℕ) → Keyboard → Keyboard
-  sent_step g = sent_byte (Some (g 28)) (image_keys bytes)
+  sent_step g = sent_byte (Some (g R4)) (image_keys bytes)
 
   sends : IsWhole (queue_of f ring) → StepLaw SENT (9 + 98) IsSent sent_step (lifted bytes)
   sends codes r4 r5 x m1 board1 g offers is as_was inv safe =
-      let b : offer (kbd_of held f ring) ≡ Some (g 28) = offered_byte r4 r5 (offer (kbd_of held f ring)) offers is.1
+      let b : offer (kbd_of held f ring) ≡ Some (g R4) = offered_byte r4 r5 (offer (kbd_of held f ring)) offers is.1
       ∙ ap (λ v. Some v) (sym is.0) in
-      let a : g 64 ≡ f 64 = as_was 64 (omega arith) (omega arith) in
-      let e : g 65 ≡ f 65 = as_was 65 (omega arith) (omega arith) in
-      let c : g 66 ≡ f 66 = as_was 66 (omega arith) (omega arith) in
-      let h : g 67 ≡ f 67 = as_was 67 (omega arith) (omega arith) in
-      let i : g 68 ≡ f 68 = as_was 68 (omega arith) (omega arith) in
+      let a : g REPLYDUE ≡ f REPLYDUE = as_was REPLYDUE (omega arith) (omega arith) in
+      let e : g AADUE ≡ f AADUE = as_was AADUE (omega arith) (omega arith) in
+      let c : g COUNT ≡ f COUNT = as_was COUNT (omega arith) (omega arith) in
+      let h : g HEAD ≡ f HEAD = as_was HEAD (omega arith) (omega arith) in
+      let i : g STARTED ≡ f STARTED = as_was STARTED (omega arith) (omega arith) in
       let whole : IsWhole (queue_of g ring) =
       subst (λ k. IsWhole k.queue) (sym (same_cells held g f ring (λ i l u. as_was i l (omega (arith, u))))) codes in
-      let now : offer (kbd_of held g ring) ≡ Some (g 28) = ap offer (same_cells held g f ring
+      let now : offer (kbd_of held g ring) ≡ Some (g R4) = ap offer (same_cells held g f ring
       (λ i l u. as_was i l (omega (arith, u)))) ∙ b in
-      sent_law d bytes hk small low held x m1 board1 g ring inv safe (first_of_law held g ring (g 28) now)
-      (code_law held g ring (g 28) now whole)
+      sent_law d bytes hk small low held x m1 board1 g ring inv safe (first_of_law held g ring (g R4) now)
+      (code_law held g ring (g R4) now whole)
 
   -- nothing is lifted
   abbrev unlifted : (ℕ → ℕ) → ℕ → ℕ
@@ -276,21 +282,23 @@ module _ (d : Board) (bytes : List ℕ) (hk : HasKernel bytes) (alike : IsSilent
   }
 
   -- a reset heals the layers
-  sent_lifts : held ≡ held_by (λ c. f (32 + c)) → Lifts Sent (lifted bytes)
+  sent_lifts : held ≡ held_by (λ c. f (HELD + c)) → Lifts Sent (lifted bytes)
   sent_lifts held_is = record {
     below = λ g i l. lifted_below bytes g i l;
     above = λ g i l. lifted_above bytes g i l;
     layers = λ g changes helds as_was.
-        let due : g 64 ≡ f 64 = as_was 64 (omega arith) (omega arith) in
-        lifted_layers bytes g (kbd_of held f ring) (f 75) (λ c. f (32 + c)) (ap (λ v. reply_of v (f 75)) (sym due)) held_is
-        (λ c l. ap (λ v. bit_xor v (g (48 + c))) (helds c l) ∙ ap (λ v. bit_xor (reads c) v) (changes c l)
-        ∙ xor_back (f (32 + c)) (reads c))
+        let due : g REPLYDUE ≡ f REPLYDUE = as_was REPLYDUE (omega arith) (omega arith) in
+        lifted_layers bytes g (kbd_of held f ring) (f REPLY) (λ c. f (HELD + c))
+        (ap (λ v. reply_of v (f REPLY)) (sym due)) held_is
+        (λ c l. ap (λ v. bit_xor v (g (CHANGED + c))) (helds c l) ∙ ap (λ v. bit_xor (reads c) v) (changes c l)
+        ∙ xor_back (f (HELD + c)) (reads c))
         ∙ ap (λ l. healed bytes Sent (kbd_of held f ring) l) (layers_same g f (λ i l u. as_was i (omega (arith, l)) (omega (arith, u))));
   }
 
   -- the byte that was offered was sent
-  pub sent_works : (max : ℕ) (F : Stage d.State → Type 0) → held ≡ held_by (λ c. f (32 + c)) → Inv f → (f 69 == 0) ≡ true → IsWhole (queue_of f ring)
-      → FrameLaw SENT max F IsSent → Safe m 10 f ring
+  pub sent_works : (max : ℕ) (F : Stage d.State → Type 0) → held ≡ held_by (λ c. f (HELD + c)) → Inv f → (f TEST == 0) ≡ true
+      → IsWhole (queue_of f ring)
+      → FrameLaw SENT max F IsSent → Safe m (TICK + 3) f ring
       → Works d bytes hk alike small low held y m board f ring Sent
       (231 + (max + (9 + 98 + (56 + (2 + edges_most bytes (changes_now d bytes hk alike small low held y m board f
       ring)))))) F
@@ -298,28 +306,28 @@ module _ (d : Board) (bytes : List ℕ) (hk : HasKernel bytes) (alike : IsSilent
       framed Sent SENT max (9 + 98) F IsSent sent_step (lifted bytes) (sent_lifts held_is) refl frame (sends codes)
       (λ r4 r5 g offers is.
       let k : Keyboard = kbd_of held f ring in
-      let b : offer k ≡ Some (g 28) = offered_byte r4 r5 (offer k) offers is.1 ∙ ap (λ v. Some v) (sym is.0) in
+      let b : offer k ≡ Some (g R4) = offered_byte r4 r5 (offer k) offers is.1 ∙ ap (λ v. Some v) (sym is.0) in
       sym (ap (λ t. tested_if (not t) (met Sent (image_keys bytes) k)) no_test
       ∙ ap (λ o. sent_byte o (image_keys bytes) k) b)) inv safe
 
   -- a byte was received
-  pub got_works : (byte : ℕ) (good : Bool) (max : ℕ) (F : Stage d.State → Type 0) → Inv f → (f 69 == 0) ≡ true
-      → FrameLaw COMMAND max F (IsGot byte good) → Safe m 10 f ring
+  pub got_works : (byte : ℕ) (good : Bool) (max : ℕ) (F : Stage d.State → Type 0) → Inv f → (f TEST == 0) ≡ true
+      → FrameLaw COMMAND max F (IsGot byte good) → Safe m (TICK + 3) f ring
       → Works d bytes hk alike small low held y m board f ring (Got byte good)
       (231 + (max + (68 + (56 + (2 + edges_most bytes (changes_now d bytes hk alike small low held y m board f ring)))))) F
   got_works byte good max F inv no_test frame safe =
       framed (Got byte good) COMMAND max 68 F (IsGot byte good)
-      (λ g. obeyed (image_keys bytes) (g 28) (not (g 29 == 0))) unlifted (unlifts (Got byte good) refl) refl frame
+      (λ g. obeyed (image_keys bytes) (g R4) (not (g R5 == 0))) unlifted (unlifts (Got byte good) refl) refl frame
       (λ r4 r5 x m1 board1 g offers is as_was inv1 safe1. command_law d bytes hk small low held x m1 board1 g ring inv1
       safe1)
       (λ r4 r5 g offers is.
       let k : Keyboard = kbd_of held f ring in
-      ap (λ b. obeyed (image_keys bytes) b (not (g 29 == 0)) k) is.0 ∙ ap (λ v. obeyed (image_keys bytes) byte v k) is.1
+      ap (λ b. obeyed (image_keys bytes) b (not (g R5 == 0)) k) is.0 ∙ ap (λ v. obeyed (image_keys bytes) byte v k) is.1
       ∙ sym (ap (λ t. tested_if (not t) (met (Got byte good) (image_keys bytes) k)) no_test)) inv safe
 
   -- the controller cut the frame off
-  pub cut_works : (max : ℕ) (F : Stage d.State → Type 0) → Inv f → (f 69 == 0) ≡ true → FrameLaw SCAN max F IsCut
-      → Safe m 10 f ring
+  pub cut_works : (max : ℕ) (F : Stage d.State → Type 0) → Inv f → (f TEST == 0) ≡ true → FrameLaw SCAN max F IsCut
+      → Safe m (TICK + 3) f ring
       → Works d bytes hk alike small low held y m board f ring Cut
       (231 + (max + (0 + (56 + (2 + edges_most bytes (changes_now d bytes hk alike small low held y m board f ring)))))) F
   cut_works max F inv no_test frame safe =

@@ -10,9 +10,10 @@ use Rattle.std.specs.declared.option.Option.{Option}
 use Rattle.law_fw_logic.proofs.Sound.{sound}
 use Rattle.law_fw_logic.proofs.Sound.{weaken}
 use Rattle.law_fw_keys.proofs.Blocks.{ring-get}
-use Rattle.fw_kernel.specs.declared.cells.TheConstants.{LIGHTS}
+use Rattle.fw_kernel.specs.declared.cells.TheConstants.{LIGHTS, R0, R1, R3, R4, R5, REPLYDUE, AADUE, COUNT, HEAD}
+use Rattle.fw_kernel.specs.declared.cells.TheConstants.{REPLY, HELD, CHANGED}
 use Rattle.fw_kernel.specs.Places.{HasKernel}
-use Rattle.fw_kernel.specs.declared.labels.TheConstants.{TESTED}
+use Rattle.fw_kernel.specs.declared.labels.TheConstants.{TESTED, TICK}
 use Rattle.law_fw_keys.proofs.Block.{Bytes}
 use Rattle.law_fw_keys.specs.State.{kbd_of, made}
 use Rattle.law_fw_logic.proofs.Block.{memory, put, scratched}
@@ -20,7 +21,7 @@ use Rattle.bits.proofs.Every.{by_byte, tests_by}
 use Rattle.law_fw_logic.proofs.TimerParts.{IsFree}
 use Rattle.law_fw_logic.proofs.Kernel.{kernel_in}
 use Rattle.law_fw_logic.proofs.Leads.{Leads}
-use Rattle.law_fw_logic.proofs.Path.{Acc, Go, Note, Path, Stage, Until}
+use Rattle.law_fw_logic.proofs.Path.{Acc, Go, Note, Path, Stage, Until, Run}
 use Rattle.law_fw_logic.proofs.Short.{has_rows}
 use Rattle.mcs48_ranges.specs.Sizes.{IsByte}
 use Rattle.joint_run.specs.Run.{Board, after_cycles}
@@ -36,28 +37,28 @@ shown d y p2 board c = 255 - (d.pins (32 + c) p2 (y + (13 + 16 * c))
 -- memory after the head
 abbrev pub headed : (ℕ → ℕ) → (ℕ → ℕ) → ℕ → ℕ → ℕ → ℕ
 headed look f r4 r5 i =
-    if nat_le 32 i && nat_lt i 44 then look (i - 32) else
-    if nat_le 48 i && nat_lt i 60 then bit_xor (f (i - 16)) (look (i - 48)) else
-    put (put (put (put (put f 24 44) 25 LIGHTS) 27 0) 28 r4) 29 r5 i
+    if nat_le HELD i && nat_lt i (HELD + 12) then look (i - HELD) else
+    if nat_le CHANGED i && nat_lt i (CHANGED + 12) then bit_xor (f (i - 16)) (look (i - CHANGED)) else
+    put (put (put (put (put f R0 (HELD + 12)) R1 LIGHTS) R3 0) R4 r4) R5 r5 i
 
 -- after the head of a tick a column's changes are what was held against what was read
 pub head_changes : (look f : ℕ → ℕ) (r4 r5 i : ℕ) → i < 12
-    → headed look f r4 r5 (48 + i) ≡ bit_xor (f (32 + i)) (look i)
+    → headed look f r4 r5 (CHANGED + i) ≡ bit_xor (f (HELD + i)) (look i)
 head_changes look f r4 r5 i l =
-    let a : nat_lt (48 + i) 44 ≡ false = grind (arith, nat_tests) in
-    let b : nat_le 48 (48 + i) ≡ true = grind (arith, nat_tests) in
-    let b0 : nat_le 32 (48 + i) ≡ true = grind (arith, nat_tests) in
-    let c : nat_lt (48 + i) 60 ≡ true = grind (arith, nat_tests, l) in
-    let u : 48 + i - 16 ≡ 32 + i = omega arith in
-    let v : 48 + i - 48 ≡ i = omega arith in
+    let a : nat_lt (CHANGED + i) 44 ≡ false = grind (arith, nat_tests) in
+    let b : nat_le 48 (CHANGED + i) ≡ true = grind (arith, nat_tests) in
+    let b0 : nat_le 32 (CHANGED + i) ≡ true = grind (arith, nat_tests) in
+    let c : nat_lt (CHANGED + i) 60 ≡ true = grind (arith, nat_tests, l) in
+    let u : CHANGED + i - 16 ≡ HELD + i = omega arith in
+    let v : CHANGED + i - 48 ≡ i = omega arith in
     rw (b0, a, b, c, u, v) refl
 
 -- after the head of a tick a column's held keys are those that were read
-pub head_helds : (look f : ℕ → ℕ) (r4 r5 i : ℕ) → i < 12 → headed look f r4 r5 (32 + i) ≡ look i
+pub head_helds : (look f : ℕ → ℕ) (r4 r5 i : ℕ) → i < 12 → headed look f r4 r5 (HELD + i) ≡ look i
 head_helds look f r4 r5 i l =
-    let a : nat_le 32 (32 + i) ≡ true = grind (arith, nat_tests) in
-    let b : nat_lt (32 + i) 44 ≡ true = grind (arith, nat_tests, l) in
-    let v : 32 + i - 32 ≡ i = omega arith in
+    let a : nat_le 32 (HELD + i) ≡ true = grind (arith, nat_tests) in
+    let b : nat_lt (HELD + i) 44 ≡ true = grind (arith, nat_tests, l) in
+    let v : HELD + i - 32 ≡ i = omega arith in
     rw (a, b, v) refl
 
 mark_only : (c : ℕ) → c < 256 → (if c % 128 == 0 then bit 7 c else not (c == 0)) ≡ not (c == 0)
@@ -81,7 +82,7 @@ module _ (d : Board) (bytes : List ℕ) (hk : HasKernel bytes) (small : All IsBy
 
     -- after the timer's write
     abbrev pub started : Stage d.State
-    started = begin_at d 10 f ring m board
+    started = begin_at d (TICK + 3) f ring m board
 
     abbrev pub shone : Cpu
     shone = record m { p1 = 44; p2 = 255 - f LIGHTS }
@@ -112,52 +113,57 @@ module _ (d : Board) (bytes : List ℕ) (hk : HasKernel bytes) (small : All IsBy
         (sound d (kernel_in true bytes) (has_rows true bytes hk) y plan (HeadShape r4 r5) started path free)
 
     abbrev mid : ℕ → ℕ
-    mid = put (headed look f (f 28) (f 66)) 25 (bit_or (f 67) 112)
+    mid = put (headed look f (f R4) (f COUNT)) R1 (bit_or (f HEAD) 112)
 
-    head_by : (b64 b65 b66 : Bool) → (f 64 == 0) ≡ b64 → (f 65 == 0) ≡ b65 → (f 66 % 128 == 0) ≡ b66 → f 64 < 256
-        → f 65 < 256 → f 66 < 256 → f 67 < 256 → (n : ℕ) → f 66 % 128 ≡ n → IsFree m
+    head_by : (b_due b_aa b_count : Bool) → (f REPLYDUE == 0) ≡ b_due → (f AADUE == 0) ≡ b_aa → (f COUNT % 128 == 0) ≡ b_count
+        → f REPLYDUE < 256
+        → f AADUE < 256 → f COUNT < 256 → f HEAD < 256 → (n : ℕ) → f COUNT % 128 ≡ n → IsFree m
         → Leads d (kernel_in true bytes) y started Headed
-    head_by false b65 b66 e64 e65 e66 l64 l65 l66 l67 n en free =
-        let some : (bit_or (f 64) (f 65) == 0) ≡ false =
-        or_none (f 64) (f 65) l64 l65 ∙ ap (λ b. b && (f 65 == 0)) e64 in
-        by_plan (Until 41 ∷ Go true ∷ Until 172 ∷ Go true ∷ Until TESTED ∷ []) (f 75) (bit_or (f 64) (f 65)) free
-        (rw (some, e64) refl)
-        (ap not some, (ap not e64, (refl, refl, refl)))
-    head_by true false b66 e64 e65 e66 l64 l65 l66 l67 n en free =
-        let some : (bit_or (f 64) (f 65) == 0) ≡ false = or_none (f 64) (f 65) l64 l65 ∙ ap (λ b. b && (f 65 == 0)) e64
-        ∙ e65 in
-        by_plan (Until 41 ∷ Go true ∷ Until 172 ∷ Go false ∷ Until TESTED ∷ []) 170 (bit_or (f 64) (f 65)) free
-        (rw (some, e64, e65) refl)
-        (ap not some, (ap not e64, (refl, refl, refl)))
-    head_by true true true e64 e65 e66 l64 l65 l66 l67 n en free =
-        let none : (bit_or (f 64) (f 65) == 0) ≡ true = or_none (f 64) (f 65) l64 l65 ∙ ap (λ b. b && (f 65 == 0)) e64
-        ∙ e65 in
-        let empty : f 66 % 128 ≡ 0 = grind (arith, nat_tests, e66) in
-        let mark : bit 7 (f 66) ≡ not (f 66 == 0) = ap (λ b. if b then bit 7 (f 66) else not (f 66 == 0)) (sym e66)
-        ∙ mark_only (f 66) l66 in
-        by_plan (Until 41 ∷ Go false ∷ Until 47 ∷ Go true ∷ Until TESTED ∷ []) 0 (f 66) free
-        (by_flag (f 66) (f 66 == 0) refl ∙ ap (λ b. first_of [] b) (sym mark)
-        ∙ ap (λ n. first_of (made (λ i. slice_index ring ((f 67 + i) % 16)) n) (bit 7 (f 66))) (sym empty)
-        ∙ sym (rw (e64, e65) refl))
-        (ap not none, (twice (f 66) l66 ∙ e66, (refl, refl, refl)))
-    head_by true true false e64 e65 e66 l64 l65 l66 l67 zero en free =
-        absurd (let some : 0 < f 66 % 128 = grind (arith, nat_tests, e66) in omega (arith, some, en))
-    head_by true true false e64 e65 e66 l64 l65 l66 l67 (suc n) en free =
-        let none : (bit_or (f 64) (f 65) == 0) ≡ true = or_none (f 64) (f 65) l64 l65 ∙ ap (λ b. b && (f 65 == 0)) e64
-        ∙ e65 in
-        let some : (f 66 == 0) ≡ false = (let p : 0 < f 66 = omega (arith, en) in grind (arith, nat_tests, p)) in
-        let first : ℕ = slice_index ring ((f 67 + 0) % 16) in
-        let left : offered_in first (f 66) ≡ Some first = rw some refl in
-        let at : f 67 % 16 ≡ (f 67 + 0) % 16 = omega arith in
-        by_plan (Until 41 ∷ Go false ∷ Until 47 ∷ Go false ∷ Until 55 ∷ Acc first ∷ Until TESTED ∷ []) first (f 66) free
-        (left ∙ ap (λ n. first_of (made (λ i. slice_index ring ((f 67 + i) % 16)) n) (bit 7 (f 66))) (sym en)
-        ∙ sym (rw (e64, e65) refl)) (
+    head_by false b_aa b_count e_due e_aa e_count l_due l_aa l_count l_head n en free =
+        let some : (bit_or (f REPLYDUE) (f AADUE) == 0) ≡ false =
+        or_none (f REPLYDUE) (f AADUE) l_due l_aa ∙ ap (λ b. b && (f AADUE == 0)) e_due in
+        by_plan (Go true ∷ Go true ∷ Until TESTED ∷ []) (f REPLY) (bit_or (f REPLYDUE) (f AADUE)) free
+        (rw (some, e_due) refl)
+        (ap not some, (ap not e_due, (refl, refl, refl)))
+    head_by true false b_count e_due e_aa e_count l_due l_aa l_count l_head n en free =
+        let some : (bit_or (f REPLYDUE) (f AADUE) == 0) ≡ false = or_none (f REPLYDUE) (f AADUE) l_due l_aa
+        ∙ ap (λ b. b && (f AADUE == 0)) e_due
+        ∙ e_aa in
+        by_plan (Go true ∷ Go false ∷ Until TESTED ∷ []) 170 (bit_or (f REPLYDUE) (f AADUE)) free
+        (rw (some, e_due, e_aa) refl)
+        (ap not some, (ap not e_due, (refl, refl, refl)))
+    head_by true true true e_due e_aa e_count l_due l_aa l_count l_head n en free =
+        let none : (bit_or (f REPLYDUE) (f AADUE) == 0) ≡ true = or_none (f REPLYDUE) (f AADUE) l_due l_aa
+        ∙ ap (λ b. b && (f AADUE == 0)) e_due
+        ∙ e_aa in
+        let empty : f COUNT % 128 ≡ 0 = grind (arith, nat_tests, e_count) in
+        let mark : bit 7 (f COUNT) ≡ not (f COUNT == 0) = ap (λ b. if b then bit 7 (f COUNT)
+        else not (f COUNT == 0)) (sym e_count)
+        ∙ mark_only (f COUNT) l_count in
+        by_plan (Go false ∷ Go true ∷ Until TESTED ∷ []) 0 (f COUNT) free
+        (by_flag (f COUNT) (f COUNT == 0) refl ∙ ap (λ b. first_of [] b) (sym mark)
+        ∙ ap (λ n. first_of (made (λ i. slice_index ring ((f HEAD + i) % 16)) n) (bit 7 (f COUNT))) (sym empty)
+        ∙ sym (rw (e_due, e_aa) refl))
+        (ap not none, (twice (f COUNT) l_count ∙ e_count, (refl, refl, refl)))
+    head_by true true false e_due e_aa e_count l_due l_aa l_count l_head zero en free =
+        absurd (let some : 0 < f COUNT % 128 = grind (arith, nat_tests, e_count) in omega (arith, some, en))
+    head_by true true false e_due e_aa e_count l_due l_aa l_count l_head (suc n) en free =
+        let none : (bit_or (f REPLYDUE) (f AADUE) == 0) ≡ true = or_none (f REPLYDUE) (f AADUE) l_due l_aa
+        ∙ ap (λ b. b && (f AADUE == 0)) e_due
+        ∙ e_aa in
+        let some : (f COUNT == 0) ≡ false = (let p : 0 < f COUNT = omega (arith, en) in grind (arith, nat_tests, p)) in
+        let first : ℕ = slice_index ring ((f HEAD + 0) % 16) in
+        let left : offered_in first (f COUNT) ≡ Some first = rw some refl in
+        let at : f HEAD % 16 ≡ (f HEAD + 0) % 16 = omega arith in
+        by_plan (Go false ∷ Go false ∷ Run 5 ∷ Acc first ∷ Until TESTED ∷ []) first (f COUNT) free
+        (left ∙ ap (λ n. first_of (made (λ i. slice_index ring ((f HEAD + i) % 16)) n) (bit 7 (f COUNT))) (sym en)
+        ∙ sym (rw (e_due, e_aa) refl)) (
           ap not none,
           (
-            twice (f 66) l66 ∙ e66,
+            twice (f COUNT) l_count ∙ e_count,
             (
-              ap (λ p. slice_index (memory mid ring) p) (ring_place (f 67) l67)
-                  ∙ ring-get mid 0 112 ring (f 67 % 16) ∙ ap (λ k. slice_index ring k) at,
+              ap (λ p. slice_index (memory mid ring) p) (ring_place (f HEAD) l_head)
+                  ∙ ring-get mid 0 112 ring (f HEAD % 16) ∙ ap (λ k. slice_index ring k) at,
               (refl, refl, refl),
             ),
           ),
@@ -165,5 +171,5 @@ module _ (d : Board) (bytes : List ℕ) (hk : HasKernel bytes) (small : All IsBy
 
     -- the head of a tick reads the columns, finds what is offered and puts the lights, in 231 cycles
     pub head_law : Bytes f ring → IsFree m → Leads d (kernel_in true bytes) y started Headed
-    head_law h = head_by (f 64 == 0) (f 65 == 0) (f 66 % 128 == 0) refl refl refl (h.cell 64 (omega arith))
-        (h.cell 65 (omega arith)) (h.cell 66 (omega arith)) (h.cell 67 (omega arith)) (f 66 % 128) refl
+    head_law h = head_by (f REPLYDUE == 0) (f AADUE == 0) (f COUNT % 128 == 0) refl refl refl (h.cell REPLYDUE (omega arith))
+        (h.cell AADUE (omega arith)) (h.cell COUNT (omega arith)) (h.cell HEAD (omega arith)) (f COUNT % 128) refl

@@ -9,6 +9,7 @@ use Rattle.mcs48_ranges.specs.Sizes.{IsByte}
 use Rattle.bits.specs.Bits.{bit}
 use Rattle.bits.proofs.Every.{by_below}
 use Rattle.joint_run.specs.Run.{Board}
+use Rattle.fw_kernel.specs.declared.cells.TheConstants.{R0, R1, R2, R3, STARTED, FN, HELD, CHANGED, R4}
 use Rattle.fw_kernel.specs.Places.{HasKernel}
 use Rattle.fw_kernel.specs.declared.labels.TheConstants.{HEAL, RESET}
 use Rattle.fw_kernel.specs.Tables.{fn_place_at}
@@ -27,7 +28,7 @@ use Rattle.law_fw_keys.specs.State.{down_at}
 
 -- the keys that were held before this tick's edges, by the cells of what is held and of what has changed
 abbrev pub before_edges : (ℕ → ℕ) → ℕ → ℕ
-before_edges f c = bit_xor (f (32 + c)) (f (48 + c))
+before_edges f c = bit_xor (f (HELD + c)) (f (CHANGED + c))
 
 -- whether the Fn key was, by its place in the image
 abbrev pub was_held : List ℕ → (ℕ → ℕ) → Bool
@@ -36,9 +37,9 @@ was_held bytes f =
 
 -- what the block leaves
 pub record Healed (bytes : List ℕ) (f : ℕ → ℕ) (ring : List ℕ) (acc : ℕ) (g : ℕ → ℕ) (r : List ℕ) : Type 0 where
-  pub kept : (i : ℕ) → 28 ≤ i → (i == 68) ≡ false → (i == 78) ≡ false → g i ≡ f i
-  pub started : g 68 ≡ bit_and (f 68) 1
-  pub fn : g 78 ≡ fn_cell (was_held bytes f)
+  pub kept : (i : ℕ) → R4 ≤ i → (i == STARTED) ≡ false → (i == FN) ≡ false → g i ≡ f i
+  pub started : g STARTED ≡ bit_and (f STARTED) 1
+  pub fn : g FN ≡ fn_cell (was_held bytes f)
   pub stack : (g 8 ≡ f 8) × (g 9 ≡ f 9)
   pub same_ring : r ≡ ring
 
@@ -69,20 +70,20 @@ module _ (d : Board) (bytes : List ℕ) (hk : HasKernel bytes) (small : All IsBy
 
   -- the cells on the way, and at its end
   abbrev on_way : ℕ → ℕ → ℕ
-  on_way r1 = put (put (put f 25 r1) 68 (bit_and (f 68) 1)) 26 place
+  on_way r1 = put (put (put f R1 r1) STARTED (bit_and (f STARTED) 1)) R2 place
 
   abbrev without : ℕ → ℕ
-  without = put (on_way 78) 78 0
+  without = put (on_way FN) FN 0
 
   abbrev within : ℕ → ℕ → ℕ
-  within v = put (put (put (on_way 78) 24 (32 + c)) 27 (before_edges f c)) 78 v
+  within v = put (put (put (on_way FN) R0 (HELD + c)) R3 (before_edges f c)) FN v
 
   -- there is no Fn key
   none : nat_lt place 96 ≡ false → Heals
   none far =
       let late : nat_le 256 (place + 160) ≡ true = grind (arith, nat_tests, far) in
       leaf d (kernel_in true bytes) (has_rows true bytes hk) small low (Healed bytes f ring)
-      (Until 1245 ∷ Go true ∷ Until RESET ∷ []) HEAL RESET 50 without ring x m m board f ring safe.0
+      (Go true ∷ Until RESET ∷ []) HEAL RESET 50 without ring x m m board f ring safe.0
       (λ a. record {
         kept = λ i l u v. rw (v, u) (grind (arith, nat_tests, l));
         started = refl;
@@ -100,14 +101,15 @@ module _ (d : Board) (bytes : List ℕ) (hk : HasKernel bytes) (small : All IsBy
     column_small : c < 12
     column_small = let l : place < 96 = place_small in omega (arith, l)
 
-    kept_on : (r1 r0 i : ℕ) → 32 ≤ i → i < 60 → put (on_way r1) 24 r0 i ≡ f i
+    kept_on : (r1 r0 i : ℕ) → HELD ≤ i → i < CHANGED + 12 → put (on_way r1) R0 r0 i ≡ f i
     kept_on r1 r0 i l u = grind (arith, nat_tests, l, u)
 
     byte : before_edges f c < 256
     byte =
         let h = bytes_of m HEAL f ring safe in
         let l : c < 12 = column_small in
-        xor_small (f (32 + c)) (f (48 + c)) (h.cell (32 + c) (omega (arith, l))) (h.cell (48 + c) (omega (arith, l)))
+        xor_small (f (HELD + c)) (f (CHANGED + c)) (h.cell (HELD + c) (omega (arith, l)))
+        (h.cell (CHANGED + c) (omega (arith, l)))
 
     bit_read : slice_index bytes ((1024 + suc k) % 2048) ≡ 2 ^ (7 - k)
     bit_read = row_bit bytes hk k (omega arith)
@@ -120,26 +122,26 @@ module _ (d : Board) (bytes : List ℕ) (hk : HasKernel bytes) (small : All IsBy
         ap (λ n. bit n (before_edges f c)) (row_is place) ∙ is in
         let asked : (bit_and (2 ^ (7 - k)) (before_edges f c) == 0) ≡ not b =
         bit_test (7 - k) (before_edges f c) (omega arith) byte ∙ ap not mask in
-        let first : slice_index (memory (put (on_way (48 + c)) 24 (32 + c)) ring) ((32 + c) % 128)
-        ≡ f (32 + c) =
-        cell_at (put (on_way (48 + c)) 24 (32 + c)) ring (32 + c) (32 + c) refl (omega (arith, l))
-        ∙ kept_on (48 + c) (32 + c) (32 + c) (omega arith) (omega (arith, l)) in
-        let second : slice_index (memory (put (on_way (48 + c)) 24 (32 + c)) ring) ((48 + c) % 128)
-        ≡ f (48 + c) =
-        cell_at (put (on_way (48 + c)) 24 (32 + c)) ring (48 + c) (48 + c) refl (omega (arith, l))
-        ∙ kept_on (48 + c) (32 + c) (48 + c) (omega arith) (omega (arith, l)) in
+        let first : slice_index (memory (put (on_way (CHANGED + c)) R0 (HELD + c)) ring) ((HELD + c) % 128)
+        ≡ f (HELD + c) =
+        cell_at (put (on_way (CHANGED + c)) R0 (HELD + c)) ring (HELD + c) (HELD + c) refl (omega (arith, l))
+        ∙ kept_on (CHANGED + c) (HELD + c) (HELD + c) (omega arith) (omega (arith, l)) in
+        let second : slice_index (memory (put (on_way (CHANGED + c)) R0 (HELD + c)) ring) ((CHANGED + c) % 128)
+        ≡ f (CHANGED + c) =
+        cell_at (put (on_way (CHANGED + c)) R0 (HELD + c)) ring (CHANGED + c) (CHANGED + c) refl (omega (arith, l))
+        ∙ kept_on (CHANGED + c) (HELD + c) (CHANGED + c) (omega arith) (omega (arith, l)) in
         ends b asked first second is l late
       where
         ends : (b : Bool) → (bit_and (2 ^ (7 - k)) (before_edges f c) == 0) ≡ not b
-            → slice_index (memory (put (on_way (48 + c)) 24 (32 + c)) ring) ((32 + c) % 128) ≡ f (32 + c)
-            → slice_index (memory (put (on_way (48 + c)) 24 (32 + c)) ring) ((48 + c) % 128) ≡ f (48 + c)
+            → slice_index (memory (put (on_way (CHANGED + c)) R0 (HELD + c)) ring) ((HELD + c) % 128) ≡ f (HELD + c)
+            → slice_index (memory (put (on_way (CHANGED + c)) R0 (HELD + c)) ring) ((CHANGED + c) % 128) ≡ f (CHANGED + c)
             → down_at (before_edges f) place ≡ b → c < 12 → nat_le 256 (place + 160) ≡ false → Heals
         ends false asked first second is l late =
             let zero : bit_and (2 ^ (7 - k)) (before_edges f c) ≡ 0 = grind (arith, nat_tests, asked) in
             leaf d (kernel_in true bytes) (has_rows true bytes hk) small low (Healed bytes f ring)
-            (Until 1245 ∷ Go false ∷ Until 1252 ∷ Acc c ∷ Run 1 ∷ Acc (32 + c) ∷ Run 2 ∷ Acc (48 + c) ∷ Run 2 ∷ Acc
-            (f (32 + c)) ∷ Run 1 ∷ Acc (before_edges f c) ∷ Until 1266 ∷ Acc (suc k) ∷ Run 1 ∷ Acc
-            (2 ^ (7 - k)) ∷ Until 1268 ∷ Acc 0 ∷ Go true ∷ Until RESET ∷ []) HEAL RESET 50 (within 0) ring x m m board f ring safe.0
+            (Go false ∷ Run 4 ∷ Acc c ∷ Run 1 ∷ Acc (HELD + c) ∷ Run 2 ∷ Acc (CHANGED + c) ∷ Run 2 ∷ Acc (f (HELD + c)) ∷ Run 1
+            ∷ Acc (before_edges f c) ∷ Run 5 ∷ Acc (suc k) ∷ Run 1 ∷ Acc (2 ^ (7 - k)) ∷ Run 1 ∷ Acc 0 ∷ Go true
+            ∷ Until RESET ∷ []) HEAL RESET 50 (within 0) ring x m m board f ring safe.0
             (λ a. record {
               kept = λ i l u v. rw (v, u) (grind (arith, nat_tests, l));
               started = refl;
@@ -151,13 +153,13 @@ module _ (d : Board) (bytes : List ℕ) (hk : HasKernel bytes) (small : All IsBy
               (
                 column_is place place_small,
                 (
-                  (let e : (c + 32) % 256 ≡ 32 + c = omega (arith, l) in e),
+                  (let e : (c + 32) % 256 ≡ HELD + c = omega (arith, l) in e),
                   (
-                    (let e : (32 + c + 16) % 256 ≡ 48 + c = omega (arith, l) in e),
+                    (let e : (HELD + c + 16) % 256 ≡ CHANGED + c = omega (arith, l) in e),
                     (
                       first,
                       (
-                        ap (λ v. bit_xor (f (32 + c)) v) second,
+                        ap (λ v. bit_xor (f (HELD + c)) v) second,
                         (rows_left place place_small, (bit_read, (zero, (refl, (refl, refl, refl))))),
                       ),
                     ),
@@ -167,9 +169,9 @@ module _ (d : Board) (bytes : List ℕ) (hk : HasKernel bytes) (small : All IsBy
             )
         ends true asked first second is l late =
             leaf d (kernel_in true bytes) (has_rows true bytes hk) small low (Healed bytes f ring)
-            (Until 1245 ∷ Go false ∷ Until 1252 ∷ Acc c ∷ Run 1 ∷ Acc (32 + c) ∷ Run 2 ∷ Acc (48 + c) ∷ Run 2 ∷ Acc
-            (f (32 + c)) ∷ Run 1 ∷ Acc (before_edges f c) ∷ Until 1266 ∷ Acc (suc k) ∷ Run 1 ∷ Acc
-            (2 ^ (7 - k)) ∷ Until 1268 ∷ Go false ∷ Until RESET ∷ []) HEAL RESET 50 (within 255) ring x m m board f ring safe.0
+            (Go false ∷ Run 4 ∷ Acc c ∷ Run 1 ∷ Acc (HELD + c) ∷ Run 2 ∷ Acc (CHANGED + c) ∷ Run 2 ∷ Acc (f (HELD + c)) ∷ Run 1
+            ∷ Acc (before_edges f c) ∷ Run 5 ∷ Acc (suc k) ∷ Run 1 ∷ Acc (2 ^ (7 - k)) ∷ Go false
+            ∷ Until RESET ∷ []) HEAL RESET 50 (within 255) ring x m m board f ring safe.0
             (λ a. record {
               kept = λ i l u v. rw (v, u) (grind (arith, nat_tests, l));
               started = refl;
@@ -181,13 +183,13 @@ module _ (d : Board) (bytes : List ℕ) (hk : HasKernel bytes) (small : All IsBy
               (
                 column_is place place_small,
                 (
-                  (let e : (c + 32) % 256 ≡ 32 + c = omega (arith, l) in e),
+                  (let e : (c + 32) % 256 ≡ HELD + c = omega (arith, l) in e),
                   (
-                    (let e : (32 + c + 16) % 256 ≡ 48 + c = omega (arith, l) in e),
+                    (let e : (HELD + c + 16) % 256 ≡ CHANGED + c = omega (arith, l) in e),
                     (
                       first,
                       (
-                        ap (λ v. bit_xor (f (32 + c)) v) second,
+                        ap (λ v. bit_xor (f (HELD + c)) v) second,
                         (rows_left place place_small, (bit_read, (asked, (refl, refl, refl)))),
                       ),
                     ),

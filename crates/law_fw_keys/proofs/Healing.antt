@@ -8,6 +8,7 @@ use Rattle.std.proofs.lemmas.Bool.Decides.{nat_tests}
 use Rattle.std.proofs.lemmas.Nat.{xor_comm}
 use Rattle.std.specs.Int.Bits.{xor_assoc, xor_self, xor_zero_r}
 use Rattle.bits.specs.Bits.{bit}
+use Rattle.fw_kernel.specs.declared.cells.TheConstants.{REPLYDUE, FN}
 use Rattle.fw_kernel.specs.Tables.{fn_place_at}
 use Rattle.law_fw_keys.proofs.Fold.{fn_cell}
 use Rattle.law_fw_keys.proofs.Heal.{before_edges, was_held}
@@ -90,25 +91,25 @@ resets_is due byte = resets_by due byte (due == 0) refl
 
 -- cells whose Fn cell is healed if the reset's reply is due
 abbrev pub lifted : List ℕ → (ℕ → ℕ) → ℕ → ℕ
-lifted bytes f = put f 78 (if bit 1 (f 64) then fn_cell (was_held bytes f) else f 78)
+lifted bytes f = put f FN (if bit 1 (f REPLYDUE) then fn_cell (was_held bytes f) else f FN)
 
 -- the healing of the Fn key's cell changes no cell before it
-pub lifted_below : (bytes : List ℕ) (f : ℕ → ℕ) (i : ℕ) → i < 78 → lifted bytes f i ≡ f i
+pub lifted_below : (bytes : List ℕ) (f : ℕ → ℕ) (i : ℕ) → i < FN → lifted bytes f i ≡ f i
 lifted_below bytes f i l =
-    let e : (i == 78) ≡ false = grind (arith, nat_tests, l) in rw e refl
+    let e : (i == FN) ≡ false = grind (arith, nat_tests, l) in rw e refl
 
 -- the healing of the Fn key's cell changes no cell after it
 pub lifted_above : (bytes : List ℕ) (f : ℕ → ℕ) (i : ℕ) → 79 ≤ i → lifted bytes f i ≡ f i
 lifted_above bytes f i l =
-    let e : (i == 78) ≡ false = grind (arith, nat_tests, l) in rw e refl
+    let e : (i == FN) ≡ false = grind (arith, nat_tests, l) in rw e refl
 
 -- without a reset's reply nothing is healed
-pub not_lifted : (bytes : List ℕ) (f : ℕ → ℕ) → bit 1 (f 64) ≡ false → (i : ℕ) → lifted bytes f i ≡ f i
+pub not_lifted : (bytes : List ℕ) (f : ℕ → ℕ) → bit 1 (f REPLYDUE) ≡ false → (i : ℕ) → lifted bytes f i ≡ f i
 not_lifted bytes f none i =
-    ap (λ b. put f 78 (if b then fn_cell (was_held bytes f) else f 78) i) none ∙ by (i == 78) refl
+    ap (λ b. put f FN (if b then fn_cell (was_held bytes f) else f FN) i) none ∙ by (i == FN) refl
   where
-    by : (b : Bool) → (i == 78) ≡ b → put f 78 (f 78) i ≡ f i
-    by true e = let same : i ≡ 78 = grind (arith, nat_tests, e) in rw e (ap f (sym same))
+    by : (b : Bool) → (i == FN) ≡ b → put f FN (f FN) i ≡ f i
+    by true e = let same : i ≡ FN = grind (arith, nat_tests, e) in rw e (ap f (sym same))
     by false e = rw e refl
 
 -- the Fn key's cell shows whether the key is down
@@ -117,17 +118,17 @@ cell_shows true = refl
 cell_shows false = refl
 
 -- they show the healed layers, if the keys that were held before the edges are the keyboard's
-pub lifted_layers : (bytes : List ℕ) (f : ℕ → ℕ) (k : Keyboard) (byte : ℕ) (held : ℕ → ℕ) → k.reply ≡ reply_of (f 64) byte
+pub lifted_layers : (bytes : List ℕ) (f : ℕ → ℕ) (k : Keyboard) (byte : ℕ) (held : ℕ → ℕ) → k.reply ≡ reply_of (f REPLYDUE) byte
     → k.held ≡ held_by held → ((c : ℕ) → c < 12 → before_edges f c ≡ held c)
     → layers_of (lifted bytes f) ≡ healed bytes Sent k (layers_of f)
 lifted_layers bytes f k byte held reply keys same =
     let place : ℕ = slice_index bytes fn_place_at in
-    let due : makes_reset Sent k ≡ bit 1 (f 64) = ap is_reset_due reply ∙ resets_is (f 64) byte in
+    let due : makes_reset Sent k ≡ bit 1 (f REPLYDUE) = ap is_reset_due reply ∙ resets_is (f REPLYDUE) byte in
     let is : was_held bytes f ≡ is_fn_held bytes k = was place (nat_lt place 96) refl
     ∙ held_at held place (nat_lt place 96) refl ∙ sym (ap (λ h. slice_index_or h place false) keys) in
-    by (bit 1 (f 64)) (was_held bytes f)
-    ∙ ap (λ v. record (layers_of f) { fn_down = if bit 1 (f 64) then v else not (f 78 == 0) }) is
-    ∙ ap (λ b. record (layers_of f) { fn_down = if b then is_fn_held bytes k else not (f 78 == 0) }) (sym due)
+    by (bit 1 (f REPLYDUE)) (was_held bytes f)
+    ∙ ap (λ v. record (layers_of f) { fn_down = if bit 1 (f REPLYDUE) then v else not (f FN == 0) }) is
+    ∙ ap (λ b. record (layers_of f) { fn_down = if b then is_fn_held bytes k else not (f FN == 0) }) (sym due)
   where
     was : (p : ℕ) (b : Bool) → nat_lt p 96 ≡ b
         → (if nat_lt p 96 then down_at (before_edges f) p else false) ≡ (if nat_lt p 96 then down_at held p else false)
@@ -137,7 +138,7 @@ lifted_layers bytes f k byte held reply keys same =
         rw e (ap (λ v. bit (p % 8) v) (same (p / 8) c))
     was p false e = rw e refl
 
-    by : (b v : Bool) → record (layers_of f) { fn_down = not ((if b then fn_cell v else f 78) == 0) }
-        ≡ record (layers_of f) { fn_down = if b then v else not (f 78 == 0) }
+    by : (b v : Bool) → record (layers_of f) { fn_down = not ((if b then fn_cell v else f FN) == 0) }
+        ≡ record (layers_of f) { fn_down = if b then v else not (f FN == 0) }
     by true v = ap (λ t. record (layers_of f) { fn_down = t }) (cell_shows v)
     by false v = refl

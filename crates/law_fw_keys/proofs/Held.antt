@@ -8,6 +8,7 @@ use Rattle.std.proofs.lemmas.Nat.Bits.{bit_at_xor}
 use Rattle.bits.specs.Bits.{bit}
 use Rattle.law_fw_keys.specs.Edges.{row_edges, column_edges, tick_edges}
 use Rattle.law_fw_keys.specs.State.{flags, down_at, held_by, layers_of}
+use Rattle.fw_kernel.specs.declared.cells.TheConstants.{FN, LAYER}
 
 -- columns with the same bits give the same list of keys
 pub flags_same : (g h : ℕ → Bool) (n : ℕ) → ((i : ℕ) → i < n → g i ≡ h i) → flags g n ≡ flags h n
@@ -157,9 +158,9 @@ held_same g h e = flags_same (down_at g) (down_at h) 96 (λ p l. let c : p / 8 <
     ap (λ b. bit (p % 8) b) (e (p / 8) c))
 
 -- and the layers are a matter of their cells
-pub layers_same : (g f : ℕ → ℕ) → ((i : ℕ) → 78 ≤ i → i < 92 → g i ≡ f i) → layers_of g ≡ layers_of f
+pub layers_same : (g f : ℕ → ℕ) → ((i : ℕ) → FN ≤ i → i < LAYER + 12 → g i ≡ f i) → layers_of g ≡ layers_of f
 layers_same g f e =
-    let fn : g 78 ≡ f 78 = e 78 (omega arith) (omega arith) in
-    ap (λ v. record { fn_down = not (v == 0); pressed_in = held_by (λ c. g (80 + c)) }) fn
-    ∙ ap (λ p. record { fn_down = not (f 78 == 0); pressed_in = p }) (held_same (λ c. g (80 + c)) (λ c. f (80 + c))
-    (λ c l. e (80 + c) (omega arith) (omega (arith, l))))
+    let fn : g FN ≡ f FN = e FN (omega arith) (omega arith) in
+    ap (λ v. record { fn_down = not (v == 0); pressed_in = held_by (λ c. g (LAYER + c)) }) fn
+    ∙ ap (λ p. record { fn_down = not (f FN == 0); pressed_in = p }) (held_same (λ c. g (LAYER + c)) (λ c. f (LAYER + c))
+    (λ c l. e (LAYER + c) (omega arith) (omega (arith, l))))

@@ -15,6 +15,7 @@ use Rattle.law_fw_keys.specs.Edges.{tick_edges}
 use Rattle.law_fw_keys.proofs.KeyedTick.{keyed_tick}
 use Rattle.law_fw_keys.proofs.Edges.{ticked_is}
 use Rattle.law_fw_keys.proofs.Held.{held_turns, held_same}
+use Rattle.fw_kernel.specs.declared.cells.TheConstants.{HELD}
 
 -- the list of n keys has n keys
 pub flags_long : (g : ℕ → Bool) (n : ℕ) → length (flags g n) ≡ n
@@ -54,20 +55,20 @@ frameless_pressed d w keys Cut q h = elim q [ ]
 pub keyboard_goes : (keys : Keys) (meeting : Meeting) (from : Layers) (s : ℕ → ℕ) (ring : List ℕ) (now : ℕ → ℕ)
     (last : List ℕ) (changed down : ℕ → ℕ)
     → length from.pressed_in ≡ 96
-    → ((i : ℕ) → i < 12 → now (32 + i) ≡ down i)
-    → ((i : ℕ) → i < 12 → bit_xor (s (32 + i)) (down i) ≡ changed i)
-    → kbd_of (held_by (λ c. s (32 + c))) now last ≡ keyed_tick keys meeting changed down from (keyboard_of s ring)
+    → ((i : ℕ) → i < 12 → now (HELD + i) ≡ down i)
+    → ((i : ℕ) → i < 12 → bit_xor (s (HELD + i)) (down i) ≡ changed i)
+    → kbd_of (held_by (λ c. s (HELD + c))) now last ≡ keyed_tick keys meeting changed down from (keyboard_of s ring)
     → layers_of now ≡ all_layers_after keys.is_fn (tick_edges changed down) from
     → IsPressedAt keys meeting from (keyboard_of s ring)
     → Gone keys meeting changed down from s ring now last
 keyboard_goes keys meeting from s ring now last changed down long downs changes is layers pressed =
     let es : List (ℕ × Bool) = tick_edges changed down in
-    let held : List Bool = held_by (λ c. s (32 + c)) in
+    let held : List Bool = held_by (λ c. s (HELD + c)) in
     let k : Keyboard = keyboard_of s ring in
     let t = ticked_is keys meeting changed down from k long pressed in
     let goes : keyboard_of now last ≡ ticked keys meeting (layered keys.is_fn es from) k =
-    ap (λ h. kbd_of h now last) (held_same (λ c. now (32 + c)) down downs)
-    ∙ ap (λ h. kbd_of h now last) (sym (held_turns (λ c. s (32 + c)) down changed changes))
+    ap (λ h. kbd_of h now last) (held_same (λ c. now (HELD + c)) down downs)
+    ∙ ap (λ h. kbd_of h now last) (sym (held_turns (λ c. s (HELD + c)) down changed changes))
     ∙ ap (λ (k : Keyboard). record k { held = turned_all es k.held }) is
     ∙ sym t.is in
     record {

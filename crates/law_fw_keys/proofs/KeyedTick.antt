@@ -11,6 +11,7 @@ use Rattle.model_keyboard.specs.Keyboard.{Keyboard}
 use Rattle.model_keyboard.specs.Layers.{Layers}
 use Rattle.model_keyboard.specs.Tick.{tested_if}
 use Rattle.model_keyboard.specs.declared.meeting.Meeting.{Meeting}
+use Rattle.fw_kernel.specs.declared.cells.TheConstants.{R3, HELD}
 
 -- a look without an effect, to the place after it
 abbrev pub passed : ℕ → Cpu → Bool → Cpu → Cpu
@@ -22,9 +23,9 @@ keyed_tick keys meeting changed down l k =
     keyed keys (is_inhibited meeting) changed down l (tested_if (not (k.test == 0)) (met meeting keys k))
 
 -- the registers that are set for a look are none of the cells
-pub below_cells : (f : ℕ → ℕ) (i : ℕ) → 32 ≤ i → readied f i ≡ f i
+pub below_cells : (f : ℕ → ℕ) (i : ℕ) → HELD ≤ i → readied f i ≡ f i
 below_cells f i l = grind (arith, nat_tests, l)
 
 -- the registers that are set for a look, and the count of bits with them, are none of the cells
-pub counted_cells : (f : ℕ → ℕ) (n i : ℕ) → 32 ≤ i → put (readied f) 27 n i ≡ f i
+pub counted_cells : (f : ℕ → ℕ) (n i : ℕ) → HELD ≤ i → put (readied f) R3 n i ≡ f i
 counted_cells f n i l = grind (arith, nat_tests, l)

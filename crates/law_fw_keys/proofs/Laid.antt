@@ -3,28 +3,29 @@ use Rattle.std.proofs.Common.{◌≡◌, ◌≤◌, ◌<◌, ℕ, suc, zero, ◌
 use Rattle.std.proofs.Common.{nat_lt, if◌then◌else◌, slice_set, refl, ap, sym, ◌∙◌, arith}
 use Rattle.std.proofs.lemmas.Bool.Decides.{nat_tests}
 use Rattle.law_fw_logic.proofs.Block.{before, memory, put}
+use Rattle.fw_kernel.specs.declared.cells.TheConstants.{LAYER}
 
 -- cells of which 80 to 91 are a function's
 abbrev pub laid : (ℕ → ℕ) → (ℕ → ℕ) → ℕ → ℕ
-laid f bytes i = if nat_lt i 80 then f i else if nat_lt i 92 then bytes (i - 80) else f i
+laid f bytes i = if nat_lt i LAYER then f i else if nat_lt i (LAYER + 12) then bytes (i - LAYER) else f i
 
 -- the columns' layers change no cell before them
-pub laid_low : (f bytes : ℕ → ℕ) (i : ℕ) → i < 80 → laid f bytes i ≡ f i
-laid_low f bytes i l = let e : nat_lt i 80 ≡ true = grind (arith, nat_tests, l) in rw e refl
+pub laid_low : (f bytes : ℕ → ℕ) (i : ℕ) → i < LAYER → laid f bytes i ≡ f i
+laid_low f bytes i l = let e : nat_lt i LAYER ≡ true = grind (arith, nat_tests, l) in rw e refl
 
 -- the columns' layers change no cell after them
-pub laid_high : (f bytes : ℕ → ℕ) (i : ℕ) → 92 ≤ i → laid f bytes i ≡ f i
+pub laid_high : (f bytes : ℕ → ℕ) (i : ℕ) → LAYER + 12 ≤ i → laid f bytes i ≡ f i
 laid_high f bytes i l =
-    let a : nat_lt i 80 ≡ false = grind (arith, nat_tests, l) in
-    let b : nat_lt i 92 ≡ false = grind (arith, nat_tests, l) in
+    let a : nat_lt i LAYER ≡ false = grind (arith, nat_tests, l) in
+    let b : nat_lt i (LAYER + 12) ≡ false = grind (arith, nat_tests, l) in
     rw (a, b) refl
 
 -- the cell of a column's layers has the column's byte
-pub laid_at : (f bytes : ℕ → ℕ) (c : ℕ) → c < 12 → laid f bytes (80 + c) ≡ bytes c
+pub laid_at : (f bytes : ℕ → ℕ) (c : ℕ) → c < 12 → laid f bytes (LAYER + c) ≡ bytes c
 laid_at f bytes c l =
-    let a : nat_lt (80 + c) 80 ≡ false = (let n : 80 ≤ 80 + c = omega arith in grind (arith, nat_tests, n)) in
-    let b : nat_lt (80 + c) 92 ≡ true = (let n : 80 + c < 92 = omega (arith, l) in grind (arith, nat_tests, n)) in
-    let e : 80 + c - 80 ≡ c = omega arith in
+    let a : nat_lt (LAYER + c) 80 ≡ false = (let n : 80 ≤ LAYER + c = omega arith in grind (arith, nat_tests, n)) in
+    let b : nat_lt (LAYER + c) 92 ≡ true = (let n : LAYER + c < 92 = omega (arith, l) in grind (arith, nat_tests, n)) in
+    let e : LAYER + c - 80 ≡ c = omega arith in
     rw (a, b, e) refl
 
 -- memory is a matter of the cells
@@ -69,33 +70,33 @@ cell_set f ring p i v e l =
     ∙ ap (λ k. memory (put f k v) ring) z
 
 -- and to the cell of a column's layers
-laid_same : (f bytes : ℕ → ℕ) (c v i : ℕ) (a b : Bool) → nat_lt i 80 ≡ a → nat_lt i 92 ≡ b → c < 12
-    → put (laid f bytes) (80 + c) v i ≡ laid f (put bytes c v) i
+laid_same : (f bytes : ℕ → ℕ) (c v i : ℕ) (a b : Bool) → nat_lt i LAYER ≡ a → nat_lt i (LAYER + 12) ≡ b → c < 12
+    → put (laid f bytes) (LAYER + c) v i ≡ laid f (put bytes c v) i
 laid_same f bytes c v i true b ea eb l =
-    let ne : (i == 80 + c) ≡ false = (let m : i < 80 = grind (arith, nat_tests, ea) in
-    let n : i < 80 + c = omega (arith, m) in grind (arith, nat_tests, n)) in
+    let ne : (i == LAYER + c) ≡ false = (let m : i < LAYER = grind (arith, nat_tests, ea) in
+    let n : i < LAYER + c = omega (arith, m) in grind (arith, nat_tests, n)) in
     rw (ne, ea) refl
 laid_same f bytes c v i false false ea eb l =
-    let ne : (i == 80 + c) ≡ false = (let m : 92 ≤ i = grind (arith, nat_tests, eb) in
-    let n : 80 + c < i = omega (arith, m, l) in grind (arith, nat_tests, n)) in
+    let ne : (i == LAYER + c) ≡ false = (let m : LAYER + 12 ≤ i = grind (arith, nat_tests, eb) in
+    let n : LAYER + c < i = omega (arith, m, l) in grind (arith, nat_tests, n)) in
     rw (ne, ea, eb) refl
-laid_same f bytes c v i false true ea eb l = by (i == 80 + c) refl
+laid_same f bytes c v i false true ea eb l = by (i == LAYER + c) refl
   where
-    low : 80 ≤ i
+    low : LAYER ≤ i
     low = grind (arith, nat_tests, ea)
 
-    by : (same : Bool) → (i == 80 + c) ≡ same → put (laid f bytes) (80 + c) v i ≡ laid f (put bytes c v) i
+    by : (same : Bool) → (i == LAYER + c) ≡ same → put (laid f bytes) (LAYER + c) v i ≡ laid f (put bytes c v) i
     by true e =
-        let is : i ≡ 80 + c = grind (arith, nat_tests, e) in
+        let is : i ≡ LAYER + c = grind (arith, nat_tests, e) in
         let at : (i - 80 == c) ≡ true = (let n : i - 80 ≡ c = omega (arith, is) in grind (arith, nat_tests, n)) in
         rw (e, ea, eb, at) refl
     by false e =
-        let at : (i - 80 == c) ≡ false = (let n : (i == 80 + c) ≡ false = e in grind (arith, nat_tests, n, low)) in
+        let at : (i - 80 == c) ≡ false = (let n : (i == LAYER + c) ≡ false = e in grind (arith, nat_tests, n, low)) in
         rw (e, ea, eb, at) refl
 
 -- a write to the cell of a column's layers is a write to that column's byte
 pub laid_set : (f bytes : ℕ → ℕ) (ring : List ℕ) (c v : ℕ) → c < 12
-    → memory (put (laid f bytes) (80 + c) v) ring ≡ memory (laid f (put bytes c v)) ring
+    → memory (put (laid f bytes) (LAYER + c) v) ring ≡ memory (laid f (put bytes c v)) ring
 laid_set f bytes ring c v l =
-    memory_same (put (laid f bytes) (80 + c) v) (laid f (put bytes c v)) ring
-    (λ i m. laid_same f bytes c v i (nat_lt i 80) (nat_lt i 92) refl refl l)
+    memory_same (put (laid f bytes) (LAYER + c) v) (laid f (put bytes c v)) ring
+    (λ i m. laid_same f bytes c v i (nat_lt i LAYER) (nat_lt i (LAYER + 12)) refl refl l)

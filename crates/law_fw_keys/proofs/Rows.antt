@@ -8,6 +8,7 @@ use Rattle.mcs48_core.specs.Status.{digit}
 use Rattle.law_fw_keys.proofs.Blocks.{JustA, leaf_a, leaf, here, seq, seq_just_a, recast, relax}
 use Rattle.law_fw_keys.proofs.EdgeTests.{turned, bit_turned, not_none}
 use Rattle.law_fw_keys.proofs.Struck.{edge_law}
+use Rattle.fw_kernel.specs.declared.cells.TheConstants.{R0, R3, R4, R5, R6, R7, COUNT, FN}
 use Rattle.fw_kernel.specs.Places.{HasKernel}
 use Rattle.fw_kernel.specs.declared.labels.TheConstants.{EDGE, ENTERED, FOOT, ROW}
 use Rattle.law_fw_keys.proofs.Block.{Ends, Safe}
@@ -16,7 +17,7 @@ use Rattle.law_fw_keys.specs.Edges.{image_keys, IsSilentAlike}
 use Rattle.law_fw_logic.proofs.Block.{begin_at, memory, put}
 use Rattle.law_fw_logic.proofs.Kernel.{kernel_in}
 use Rattle.law_fw_logic.proofs.Leads.{Leads}
-use Rattle.law_fw_logic.proofs.Path.{Acc, Go, Run, Until}
+use Rattle.law_fw_logic.proofs.Path.{Acc, Go, Run, Until, Count}
 use Rattle.law_fw_logic.proofs.Short.{has_rows}
 use Rattle.mcs48_ranges.specs.Sizes.{IsByte}
 use Rattle.joint_run.specs.Run.{Board}
@@ -49,12 +50,12 @@ module _ (d : Board) (bytes : List ℕ) (hk : HasKernel bytes) (alike : IsSilent
     pub sum : r + n ≡ 8
     pub a : m.a ≡ turned r c
     pub flag : m.f0 ≡ on
-    pub left : f 27 ≡ n
-    pub at : f 30 ≡ p0 + r
-    pub downs : f 31 ≡ down
-    pub only : f 24 ≡ r0
-    pub cell : IsFnCell (f 78)
-    pub most : f 66 % 128 ≤ 16
+    pub left : f R3 ≡ n
+    pub at : f R6 ≡ p0 + r
+    pub downs : f R7 ≡ down
+    pub only : f R0 ≡ r0
+    pub cell : IsFnCell (f FN)
+    pub most : f COUNT % 128 ≤ 16
 
   abbrev pub place : ℕ → ℕ
   place zero = FOOT
@@ -72,18 +73,18 @@ module _ (d : Board) (bytes : List ℕ) (hk : HasKernel bytes) (alike : IsSilent
       (Ends d x m board FOOT (rows_time r (suc k) c) (AfterRows r (suc k) f ring))
   skips zero r x m board f ring ih row safe is =
       let l : r < 8 = (let s : r + 1 ≡ 8 = row.sum in omega (arith, s)) in
-      let p : Patch = record (self f) { r3 = (f 27 + 255) % 256; r6 = (f 30 + 1) % 256 } in
-      let stop : not ((f 27 + 255) % 256 == 0) ≡ false = (let n : f 27 ≡ 1 = row.left in rw n refl) in
+      let p : Patch = record (self f) { r3 = (f R3 + 255) % 256; r6 = (f R6 + 1) % 256 } in
+      let stop : not ((f R3 + 255) % 256 == 0) ≡ false = (let n : f R3 ≡ 1 = row.left in rw n refl) in
       relax d (kernel_in true bytes) (has_rows true bytes hk) small low x m board FOOT 8 (rows_time r 1 c)
       (AfterRows r 1 f ring) (AfterRows r 1 f ring) (begin_at d ROW f ring m board) (omega arith) (λ a g rg h. h)
       (leaf d (kernel_in true bytes) (has_rows true bytes hk) small low (AfterRows r 1 f ring)
-      (Run 1 ∷ Acc (turned (suc r) c) ∷ Go false ∷ Run 1 ∷ Go false ∷ Until FOOT ∷ []) ROW FOOT 8
-      (struck f p (f 29) (f 78)) ring x m m
+      (Run 1 ∷ Acc (turned (suc r) c) ∷ Go false ∷ Run 1 ∷ Count false ∷ Until FOOT ∷ []) ROW FOOT 8
+      (struck f p (f R5) (f FN)) ring x m m
       board f ring safe.0
       (λ a. record {
         p = p;
-        r5 = f 29;
-        fn = f 78;
+        r5 = f R5;
+        fn = f FN;
         is = record {
           now = refl;
           deck = sym (ap (λ b. step_if r b (deck_of held f ring)) is);
@@ -91,36 +92,36 @@ module _ (d : Board) (bytes : List ℕ) (hk : HasKernel bytes) (alike : IsSilent
           more = omega arith;
           cell = row.cell;
         };
-        r6 = let s : r + 1 ≡ 8 = row.sum in let at : f 30 ≡ p0 + r = row.at in omega (arith, s, at, lp);
+        r6 = let s : r + 1 ≡ 8 = row.sum in let at : f R6 ≡ p0 + r = row.at in omega (arith, s, at, lp);
       })
       (ap (λ a. 128 * digit (bit 0 a) + a / 2) row.a, (bit_turned r c l lc ∙ is, (stop, (refl, refl, refl)))))
   skips (suc k) r x m board f ring ih row safe is =
       let sum : r + suc (suc k) ≡ 8 = row.sum in
       let l : r < 8 = omega (arith, sum) in
-      let left : f 27 ≡ suc (suc k) = row.left in
-      let at : f 30 ≡ p0 + r = row.at in
-      let p : Patch = record (self f) { r3 = (f 27 + 255) % 256; r6 = (f 30 + 1) % 256 } in
-      let less : (f 27 + 255) % 256 ≡ suc k = omega (arith, left, sum) in
-      let goes : not ((f 27 + 255) % 256 == 0) ≡ true = not_none ((f 27 + 255) % 256) (suc k) less (omega arith) in
+      let left : f R3 ≡ suc (suc k) = row.left in
+      let at : f R6 ≡ p0 + r = row.at in
+      let p : Patch = record (self f) { r3 = (f R3 + 255) % 256; r6 = (f R6 + 1) % 256 } in
+      let less : (f R3 + 255) % 256 ≡ suc k = omega (arith, left, sum) in
+      let goes : not ((f R3 + 255) % 256 == 0) ≡ true = not_none ((f R3 + 255) % 256) (suc k) less (omega arith) in
       let step : Deck → Deck = rows (edge (image_keys bytes) on) p0 (suc r) (suc k) c down in
       relax d (kernel_in true bytes) (has_rows true bytes hk) small low x m board FOOT (6 + rows_time (suc r) (suc k) c)
       (rows_time r (suc (suc k)) c) (AfterRows r (suc (suc k)) f ring) (AfterRows r (suc (suc k)) f ring)
       (begin_at d ROW f ring m board) (omega arith) (λ a g rg h. h)
       (seq_just_a d (kernel_in true bytes) (has_rows true bytes hk) small low x m board ROW 6 FOOT
-      (rows_time (suc r) (suc k) c) (turned (suc r) c) (struck f p (f 29) (f 78)) ring
+      (rows_time (suc r) (suc k) c) (turned (suc r) c) (struck f p (f R5) (f FN)) ring
       (AfterRows r (suc (suc k)) f ring)
       (begin_at d ROW f ring m board) safe.1
       (leaf_a d (kernel_in true bytes) (has_rows true bytes hk) small low
-      (JustA (turned (suc r) c) (struck f p (f 29) (f 78)) ring)
-      (Run 1 ∷ Acc (turned (suc r) c) ∷ Go false ∷ Run 1 ∷ Go true ∷ []) ROW ROW 6 (turned (suc r) c)
-      (struck f p (f 29) (f 78)) ring x
+      (JustA (turned (suc r) c) (struck f p (f R5) (f FN)) ring)
+      (Run 1 ∷ Acc (turned (suc r) c) ∷ Go false ∷ Run 1 ∷ Count true ∷ []) ROW ROW 6 (turned (suc r) c)
+      (struck f p (f R5) (f FN)) ring x
       m m board f ring safe.0 (refl, refl, refl)
       (ap (λ a. 128 * digit (bit 0 a) + a / 2) row.a, (bit_turned r c l lc ∙ is, (goes, ((refl, refl, refl), refl)))))
       (λ x' m' board' same a safe'.
       recast d (kernel_in true bytes) (has_rows true bytes hk) small low x' m' board' FOOT (rows_time (suc r) (suc k) c)
-      (rows_time (suc r) (suc k) c) (AfterRows (suc r) (suc k) (struck f p (f 29) (f 78)) ring)
+      (rows_time (suc r) (suc k) c) (AfterRows (suc r) (suc k) (struck f p (f R5) (f FN)) ring)
       (AfterRows r (suc (suc k)) f ring)
-      (begin_at d ROW (struck f p (f 29) (f 78)) ring m' board') (omega arith)
+      (begin_at d ROW (struck f p (f R5) (f FN)) ring m' board') (omega arith)
       (λ a g rg h. record {
         cells = struck f h.p h.r5 h.fn;
         same = ap (λ t. memory t rg) h.is.now;
@@ -139,7 +140,7 @@ module _ (d : Board) (bytes : List ℕ) (hk : HasKernel bytes) (alike : IsSilent
           r6 = h.r6;
         };
       })
-      (ih (suc r) x' m' board' (struck f p (f 29) (f 78)) ring
+      (ih (suc r) x' m' board' (struck f p (f R5) (f FN)) ring
       (record {
         sum = omega (arith, sum);
         a = a;
@@ -154,28 +155,28 @@ module _ (d : Board) (bytes : List ℕ) (hk : HasKernel bytes) (alike : IsSilent
 
   -- the next row: R3 and R6 have gone on
   abbrev next_cells : (ℕ → ℕ) → ℕ → ℕ
-  next_cells f = put (put f 27 ((f 27 + 255) % 256)) 30 ((f 30 + 1) % 256)
+  next_cells f = put (put f R3 ((f R3 + 255) % 256)) R6 ((f R6 + 1) % 256)
 
   -- after an edge, the next row or the column's end
   enters_next : (k x : ℕ) (m : Cpu) (board : d.State) (f : ℕ → ℕ) (ring : List ℕ) (v : ℕ) → Safe m ENTERED f ring
-      → f 28 ≡ v → (f 27 + 255) % 256 ≡ k
+      → f R4 ≡ v → (f R3 + 255) % 256 ≡ k
       → Leads d (kernel_in true bytes) x (begin_at d ENTERED f ring m board)
       (Ends d x m board (place k) 4 (JustA v (next_cells f) ring))
   enters_next zero x m board f ring v safe r4 less =
       leaf_a d (kernel_in true bytes) (has_rows true bytes hk) small low (JustA v (next_cells f) ring)
-      (Run 1 ∷ Acc v ∷ Run 1 ∷ Go false ∷ []) ENTERED FOOT 4 v (next_cells f) ring x m m board f ring safe.0
+      (Run 1 ∷ Acc v ∷ Run 1 ∷ Count false ∷ []) ENTERED FOOT 4 v (next_cells f) ring x m m board f ring safe.0
       (refl, refl, refl)
-      (r4, ((let e : not ((f 27 + 255) % 256 == 0) ≡ false = rw less refl in e), ((refl, refl, refl), refl)))
+      (r4, ((let e : not ((f R3 + 255) % 256 == 0) ≡ false = rw less refl in e), ((refl, refl, refl), refl)))
   enters_next (suc k) x m board f ring v safe r4 less =
       leaf_a d (kernel_in true bytes) (has_rows true bytes hk) small low (JustA v (next_cells f) ring)
-      (Run 1 ∷ Acc v ∷ Run 1 ∷ Go true ∷ []) ENTERED ROW 4 v (next_cells f) ring x m m board f ring safe.0
+      (Run 1 ∷ Acc v ∷ Run 1 ∷ Count true ∷ []) ENTERED ROW 4 v (next_cells f) ring x m m board f ring safe.0
       (refl, refl, refl)
-      (r4, (not_none ((f 27 + 255) % 256) (suc k) less (omega arith), ((refl, refl, refl), refl)))
+      (r4, (not_none ((f R3 + 255) % 256) (suc k) less (omega arith), ((refl, refl, refl), refl)))
 
   -- the rows after one with an edge
   goes_on : (k r x : ℕ) (m : Cpu) (board : d.State) (f : ℕ → ℕ) (ring last : List ℕ) (p : Patch) (r5 fn : ℕ) → RowsLaw k
-      → r + suc k ≡ 8 → m.f0 ≡ on → f 31 ≡ down → f 24 ≡ r0 → IsFnCell fn
-      → p.r3 ≡ suc k → p.r4 ≡ turned (suc r) c → p.r6 ≡ p0 + r → p.count % 128 ≤ 16 → f 66 % 128 ≤ p.count % 128
+      → r + suc k ≡ 8 → m.f0 ≡ on → f R7 ≡ down → f R0 ≡ r0 → IsFnCell fn
+      → p.r3 ≡ suc k → p.r4 ≡ turned (suc r) c → p.r6 ≡ p0 + r → p.count % 128 ≤ 16 → f COUNT % 128 ≤ p.count % 128
       → deck_of held (struck f p r5 fn) last ≡ step_if r (bit r c) (deck_of held f ring)
       → Safe m ENTERED (struck f p r5 fn) last
       → Leads d (kernel_in true bytes) x (begin_at d ENTERED (struck f p r5 fn) last m board)
@@ -183,7 +184,7 @@ module _ (d : Board) (bytes : List ℕ) (hk : HasKernel bytes) (alike : IsSilent
   goes_on k r x m board f ring last p r5 fn ih sum flag downs only cell r3 r4 r6 most more deck safe =
       let less : (p.r3 + 255) % 256 ≡ k = omega (arith, r3, sum) in
       let q : Patch = record p { r3 = (p.r3 + 255) % 256; r6 = (p.r6 + 1) % 256 } in
-      let g2 : ℕ → ℕ = put (put (struck f p r5 fn) 27 ((p.r3 + 255) % 256)) 30 ((p.r6 + 1) % 256) in
+      let g2 : ℕ → ℕ = put (put (struck f p r5 fn) R3 ((p.r3 + 255) % 256)) R6 ((p.r6 + 1) % 256) in
       let step : Deck → Deck = rows (edge (image_keys bytes) on) p0 (suc r) k c down in
       seq_just_a d (kernel_in true bytes) (has_rows true bytes hk) small low x m board (place k) 4 FOOT
       (rows_time (suc r) k c) (turned (suc r) c) g2 last (AfterRows r (suc k) f ring)
@@ -233,7 +234,7 @@ module _ (d : Board) (bytes : List ℕ) (hk : HasKernel bytes) (alike : IsSilent
   changes k r x m board f ring ih row safe is =
       let sum : r + suc k ≡ 8 = row.sum in
       let l : r < 8 = omega (arith, sum) in
-      let left : f 27 ≡ suc k = row.left in
+      let left : f R3 ≡ suc k = row.left in
       let nth : 7 - k ≡ r = omega (arith, sum) in
       relax d (kernel_in true bytes) (has_rows true bytes hk) small low x m board FOOT
       (3 + (61 + (4 + rows_time (suc r) k c))) (rows_time r (suc k) c) (AfterRows r (suc k) f ring)
@@ -247,13 +248,13 @@ module _ (d : Board) (bytes : List ℕ) (hk : HasKernel bytes) (alike : IsSilent
       (ap (λ a. 128 * digit (bit 0 a) + a / 2) row.a, (bit_turned r c l lc ∙ is, ((refl, refl, refl), refl))))
       (λ x1 m1 board1 same1 a1 safe1.
       let on1 : m1.f0 ≡ on = ap (λ k. k.f0) same1 ∙ row.flag in
-      let at : f 30 ≡ p0 + r = row.at in
-      let only_is : bit (7 - k) (f 24) ≡ (image_keys bytes).make_only (f 30) =
-      ap (λ n. bit n (f 24)) nth ∙ ap (λ v. bit r v) row.only ∙ onlys r l
+      let at : f R6 ≡ p0 + r = row.at in
+      let only_is : bit (7 - k) (f R0) ≡ (image_keys bytes).make_only (f R6) =
+      ap (λ n. bit n (f R0)) nth ∙ ap (λ v. bit r v) row.only ∙ onlys r l
       ∙ ap (λ n. (image_keys bytes).make_only n) (sym at) in
       seq d (kernel_in true bytes) (has_rows true bytes hk) small low x1 m1 board1 ENTERED 61 FOOT
-      (4 + rows_time (suc r) k c) (λ acc. AfterEdge held (edge (image_keys bytes) m1.f0 (f 30) (7 - k) (bit (7 - k)
-      (f 31))) m1.a f ring) (AfterRows r (suc k) f ring) (begin_at d EDGE f ring m1 board1) safe1.1
+      (4 + rows_time (suc r) k c) (λ acc. AfterEdge held (edge (image_keys bytes) m1.f0 (f R6) (7 - k) (bit (7 - k)
+      (f R7))) m1.a f ring) (AfterRows r (suc k) f ring) (begin_at d EDGE f ring m1 board1) safe1.1
       (edge_law d bytes hk alike small low held k x1 m1 board1 f ring
       (record {
         k_small = omega (arith, sum);
@@ -265,11 +266,11 @@ module _ (d : Board) (bytes : List ℕ) (hk : HasKernel bytes) (alike : IsSilent
       }) safe1)
       (λ x2 m2 board2 g last same2 q safe2.
       let D : Deck = deck_of held f ring in
-      let words : edge (image_keys bytes) m1.f0 (f 30) (7 - k) (bit (7 - k) (f 31)) D
+      let words : edge (image_keys bytes) m1.f0 (f R6) (7 - k) (bit (7 - k) (f R7)) D
       ≡ step_if r (bit r c) D =
-      ap (λ b. edge (image_keys bytes) b (f 30) (7 - k) (bit (7 - k) (f 31)) D) on1
-      ∙ ap (λ n. edge (image_keys bytes) on n (7 - k) (bit (7 - k) (f 31)) D) row.at
-      ∙ ap (λ n. edge (image_keys bytes) on (p0 + r) n (bit n (f 31)) D) nth
+      ap (λ b. edge (image_keys bytes) b (f R6) (7 - k) (bit (7 - k) (f R7)) D) on1
+      ∙ ap (λ n. edge (image_keys bytes) on n (7 - k) (bit (7 - k) (f R7)) D) row.at
+      ∙ ap (λ n. edge (image_keys bytes) on (p0 + r) n (bit n (f R7)) D) nth
       ∙ ap (λ n. edge (image_keys bytes) on (p0 + r) r (bit r n) D) row.downs
       ∙ sym (ap (λ b. step_if r b D) is) in
       subst (λ t. Safe m2 ENTERED t last → Leads d (kernel_in true bytes) x2 (begin_at d ENTERED t last m2 board2)
@@ -291,12 +292,12 @@ module _ (d : Board) (bytes : List ℕ) (hk : HasKernel bytes) (alike : IsSilent
       (JustA m.a f ring) (AfterRows r 0 f ring) (begin_at d FOOT f ring m board) (omega arith)
       (λ a g rg h.
       record {
-        cells = struck f (self f) (f 29) (f 78);
+        cells = struck f (self f) (f R5) (f FN);
         same = ap (λ t. memory t rg) h.1;
         facts = record {
           p = self f;
-          r5 = f 29;
-          fn = f 78;
+          r5 = f R5;
+          fn = f FN;
           is = record {
             now = refl;
             deck = ap (λ t. deck_of held f t) h.2;
@@ -304,7 +305,7 @@ module _ (d : Board) (bytes : List ℕ) (hk : HasKernel bytes) (alike : IsSilent
             more = omega arith;
             cell = row.cell;
           };
-          r6 = let s : r + 0 ≡ 8 = row.sum in let at : f 30 ≡ p0 + r = row.at in omega (arith, s, at);
+          r6 = let s : r + 0 ≡ 8 = row.sum in let at : f R6 ≡ p0 + r = row.at in omega (arith, s, at);
         };
       })
       (here d (kernel_in true bytes) (has_rows true bytes hk) small low (JustA m.a f ring) x FOOT m board f ring safe.0

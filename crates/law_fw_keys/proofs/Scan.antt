@@ -17,6 +17,8 @@ use Rattle.model_keyboard.specs.Layers.{Layers, layered, all_layers_after}
 use Rattle.law_fw_keys.proofs.Settle.{changes_by, holds_by, pends_by, settle_cycles, Settled, settle_law}
 use Rattle.law_fw_keys.proofs.Step5.{changed_columns, all_edges, edges_law}
 use Rattle.law_fw_keys.proofs.Typematic.{AfterStep, step4_law}
+use Rattle.fw_kernel.specs.declared.cells.TheConstants.{COUNT, STARTED, MODE, LIGHTS, FN, HELD, CHANGED, LAYER}
+use Rattle.fw_kernel.specs.declared.cells.TheConstants.{PENDING}
 use Rattle.fw_kernel.specs.Places.{HasKernel}
 use Rattle.fw_kernel.specs.declared.labels.TheConstants.{DONE, EDGES, SCAN, SETTLE}
 use Rattle.law_fw_keys.proofs.Block.{Ends, Safe}
@@ -31,16 +33,16 @@ use Rattle.mcs48_ranges.specs.Sizes.{IsByte}
 use Rattle.joint_run.specs.Run.{Board}
 use Rattle.model_keyboard.specs.Tick.{is_scanning}
 
-kept_changes : (f : ℕ → ℕ) (p : Patch) (i : ℕ) → i < 12 → over f p (48 + i) ≡ f (48 + i)
+kept_changes : (f : ℕ → ℕ) (p : Patch) (i : ℕ) → i < 12 → over f p (CHANGED + i) ≡ f (CHANGED + i)
 kept_changes f p i l = grind (arith, nat_tests, l)
 
-kept_helds : (f : ℕ → ℕ) (p : Patch) (i : ℕ) → i < 12 → over f p (32 + i) ≡ f (32 + i)
+kept_helds : (f : ℕ → ℕ) (p : Patch) (i : ℕ) → i < 12 → over f p (HELD + i) ≡ f (HELD + i)
 kept_helds f p i l = grind (arith, nat_tests, l)
 
-kept_pendings : (f : ℕ → ℕ) (p : Patch) (i : ℕ) → i < 12 → over f p (96 + i) ≡ f (96 + i)
+kept_pendings : (f : ℕ → ℕ) (p : Patch) (i : ℕ) → i < 12 → over f p (PENDING + i) ≡ f (PENDING + i)
 kept_pendings f p i l = grind (arith, nat_tests, l)
 
-over_layers : (f : ℕ → ℕ) (p : Patch) (i : ℕ) → 78 ≤ i → i < 92 → over f p i ≡ f i
+over_layers : (f : ℕ → ℕ) (p : Patch) (i : ℕ) → FN ≤ i → i < LAYER + 12 → over f p i ≡ f i
 over_layers f p i l u = grind (arith, nat_tests, l, u)
 
 -- settling is a matter of three cells
@@ -77,7 +79,7 @@ settle_first s e = omega arith
 -- the cells after the columns show the layers
 spread_layers : (f : ℕ → ℕ) (w : Wide) → layers_of (spread f w) ≡ layers_by (not (w.fn == 0)) w.bytes
 spread_layers f w = ap (λ p. record { fn_down = not (w.fn == 0); pressed_in = p })
-    (held_same (λ c. spread f w (80 + c)) w.bytes (λ c l. laid_at (wide f w) w.bytes c l))
+    (held_same (λ c. spread f w (LAYER + c)) w.bytes (λ c l. laid_at (wide f w) w.bytes c l))
 
 module _ (d : Board) (bytes : List ℕ) (hk : HasKernel bytes) (alike : IsSilentAlike bytes) (small : All IsByte bytes)
     (low : (p1 p2 c : ℕ) (s : d.State) → (d.pins p1 p2 c s).bus < 256) (held : List Bool) where
@@ -91,19 +93,19 @@ module _ (d : Board) (bytes : List ℕ) (hk : HasKernel bytes) (alike : IsSilent
         ≡ keyed (image_keys bytes) inhibited ch hd (layers_of f) (kbd_of held f ring)
     pub layers : layers_of (spread h w) ≡ after (image_keys bytes) ch hd (layers_of f)
     pub most : w.p.count % 128 ≤ 16
-    pub more : f 66 % 128 ≤ w.p.count % 128
+    pub more : f COUNT % 128 ≤ w.p.count % 128
     pub cell : IsFnCell w.fn
-    pub helds : (i : ℕ) → i < 12 → h (32 + i) ≡ hd i
-    pub pendings : (i : ℕ) → i < 12 → h (96 + i) ≡ pd i
-    pub others : (h 68 ≡ f 68) × (h 70 ≡ f 70) × (h 77 ≡ f 77)
+    pub helds : (i : ℕ) → i < 12 → h (HELD + i) ≡ hd i
+    pub pendings : (i : ℕ) → i < 12 → h (PENDING + i) ≡ pd i
+    pub others : (h STARTED ≡ f STARTED) × (h MODE ≡ f MODE) × (h LIGHTS ≡ f LIGHTS)
     pub stack : (h 8 ≡ f 8) × (h 9 ≡ f 9)
 
   -- the keys settle, what repeats is entered, and the edges are taken, as in steps 4 and 5 of the model
-  pub scan_law : (ch hd pd : ℕ → ℕ) (x : ℕ) (m : Cpu) (board : d.State) (f : ℕ → ℕ) (ring : List ℕ) → f 66 % 128 ≤ 16
-      → IsFnCell (f 78) → Safe m SCAN f ring
-      → ((i : ℕ) → i < 12 → changes_by (debounces bytes) (f (96 + i)) (f (48 + i)) ≡ ch i)
-      → ((i : ℕ) → i < 12 → holds_by (debounces bytes) (f (96 + i)) (f (48 + i)) (f (32 + i)) ≡ hd i)
-      → ((i : ℕ) → i < 12 → pends_by (debounces bytes) (f (96 + i)) (f (48 + i)) ≡ pd i)
+  pub scan_law : (ch hd pd : ℕ → ℕ) (x : ℕ) (m : Cpu) (board : d.State) (f : ℕ → ℕ) (ring : List ℕ) → f COUNT % 128 ≤ 16
+      → IsFnCell (f FN) → Safe m SCAN f ring
+      → ((i : ℕ) → i < 12 → changes_by (debounces bytes) (f (PENDING + i)) (f (CHANGED + i)) ≡ ch i)
+      → ((i : ℕ) → i < 12 → holds_by (debounces bytes) (f (PENDING + i)) (f (CHANGED + i)) (f (HELD + i)) ≡ hd i)
+      → ((i : ℕ) → i < 12 → pends_by (debounces bytes) (f (PENDING + i)) (f (CHANGED + i)) ≡ pd i)
       → Leads d (kernel_in true bytes) x (begin_at d SCAN f ring m board)
       (Ends d x (record m { f0 = is_scanning (kbd_of held f ring) }) board DONE (56 + (2 + edges_most bytes ch))
       (Scanned m.f1 ch hd pd f ring))
@@ -123,7 +125,7 @@ module _ (d : Board) (bytes : List ℕ) (hk : HasKernel bytes) (alike : IsSilent
       (Ends d x1 m1 board1 DONE (2 + edges_most bytes ch) N)) (sym q.is.now)
       (λ safe2.
       let f1 : ℕ → ℕ = over f q.p in
-      let up : f 66 % 128 ≤ q.p.count % 128 = q.is.more in
+      let up : f COUNT % 128 ≤ q.p.count % 128 = q.is.more in
       relax d (kernel_in true bytes) (has_rows true bytes hk) small low x1 m1 board1 DONE (cycles + (2 + columns_most ch))
       (2 + edges_most bytes ch) N N (begin_at d SETTLE f1 last m1 board1) (settle_first cycles (columns_most ch))
       (λ a g2 rg h. h)
@@ -131,16 +133,16 @@ module _ (d : Board) (bytes : List ℕ) (hk : HasKernel bytes) (alike : IsSilent
       (2 + columns_most ch) (Settled b held f1 last) N (begin_at d SETTLE f1 last m1 board1) safe2.1
       (settle_law d bytes hk small low held x1 m1 board1 f1 last safe2)
       (λ x2 m2 board2 h r same2 s safe3.
-      let count : h 66 ≡ q.p.count = s.others 66 (omega arith) (omega arith) in
+      let count : h COUNT ≡ q.p.count = s.others COUNT (omega arith) (omega arith) in
       let layers_kept : layers_of h ≡ layers_of f =
       layers_same h f (λ i l u. s.others i (omega (arith, l)) (omega (arith, u)) ∙ over_layers f q.p i l u) in
       let flag : m2.f0 ≡ on = ap (λ k. k.f0) same2 ∙ ap (λ k. k.f0) same1 in
       recast d (kernel_in true bytes) (has_rows true bytes hk) small low x2 m2 board2 DONE (2 + columns_most ch)
-      (2 + columns_most ch) (AfterColumns d bytes hk alike small low held m2.f0 ch hd 0 12 h (λ i. h (80 + i)) r) N
+      (2 + columns_most ch) (AfterColumns d bytes hk alike small low held m2.f0 ch hd 0 12 h (λ i. h (LAYER + i)) r) N
       (begin_at d EDGES h r m2 board2) (omega arith)
       (λ a g2 rg c.
-      let up2 : h 66 % 128 ≤ c.w.p.count % 128 = c.more in
-      let s1 : Decks = decks_of held h r (λ i. h (80 + i)) in
+      let up2 : h COUNT % 128 ≤ c.w.p.count % 128 = c.more in
+      let s1 : Decks = decks_of held h r (λ i. h (LAYER + i)) in
       let run : Runs keys m2.f0 (tick_edges ch hd) (layers_of h) (kbd_of held h r) (layers_by (not (c.w.fn == 0))
       c.w.bytes) (kbd_of held (wide h c.w) rg) =
       subst (λ (t : Decks). Runs keys m2.f0 (tick_edges ch hd) (layers_of h) (kbd_of held h r)
@@ -162,24 +164,25 @@ module _ (d : Board) (bytes : List ℕ) (hk : HasKernel bytes) (alike : IsSilent
           more = omega (arith, up, up2, count);
           cell = c.cell;
           helds = λ i l. s.helds i l
-              ∙ holds_same b (f1 (96 + i)) (f (96 + i)) (f1 (48 + i)) (f (48 + i)) (f1 (32 + i)) (f (32 + i))
+              ∙ holds_same b (f1 (PENDING + i)) (f (PENDING + i)) (f1 (CHANGED + i)) (f (CHANGED + i)) (f1 (HELD + i))
+              (f (HELD + i))
               (kept_pendings f q.p i l) (kept_changes f q.p i l) (kept_helds f q.p i l) ∙ helds i l;
           pendings = λ i l. s.pendings i l
-              ∙ pends_same b (f1 (96 + i)) (f (96 + i)) (f1 (48 + i)) (f (48 + i)) (kept_pendings f q.p i l)
+              ∙ pends_same b (f1 (PENDING + i)) (f (PENDING + i)) (f1 (CHANGED + i)) (f (CHANGED + i)) (kept_pendings f q.p i l)
               (kept_changes f q.p i l) ∙ pendings i l;
           others = (
-            s.others 68 (omega arith) (omega arith),
-            s.others 70 (omega arith) (omega arith),
-            s.others 77 (omega arith) (omega arith),
+            s.others STARTED (omega arith) (omega arith),
+            s.others MODE (omega arith) (omega arith),
+            s.others LIGHTS (omega arith) (omega arith),
           );
           stack = s.stack;
         };
       })
       (edges_law d bytes hk alike small low held ch hd x2 m2 board2 h r (rw count q.is.most)
-      (rw (s.others 78 (omega arith) (omega arith)) cell) safe3
+      (rw (s.others FN (omega arith) (omega arith)) cell) safe3
       (λ i l. s.changes i l
-      ∙ changes_same b (f1 (96 + i)) (f (96 + i)) (f1 (48 + i)) (f (48 + i)) (kept_pendings f q.p i l)
+      ∙ changes_same b (f1 (PENDING + i)) (f (PENDING + i)) (f1 (CHANGED + i)) (f (CHANGED + i)) (kept_pendings f q.p i l)
       (kept_changes f q.p i l) ∙ changes i l)
       (λ i l. s.helds i l
-      ∙ holds_same b (f1 (96 + i)) (f (96 + i)) (f1 (48 + i)) (f (48 + i)) (f1 (32 + i)) (f (32 + i))
+      ∙ holds_same b (f1 (PENDING + i)) (f (PENDING + i)) (f1 (CHANGED + i)) (f (CHANGED + i)) (f1 (HELD + i)) (f (HELD + i))
       (kept_pendings f q.p i l) (kept_changes f q.p i l) (kept_helds f q.p i l) ∙ helds i l))))) safe1)

@@ -3,6 +3,7 @@ use Rattle.std.proofs.Common.{◌≡◌, ◌≤◌, ◌<◌, ℕ, suc, zero, ◌
 use Rattle.std.proofs.Common.{bit_xor, if◌then◌else◌, refl, ap, sym, ◌∙◌, arith, inl}
 use Rattle.std.proofs.lemmas.Bool.Decides.{nat_tests}
 use Rattle.mcs48_core.specs.Cpu.{Cpu}
+use Rattle.fw_kernel.specs.declared.cells.TheConstants.{HELD, LAYER, PENDING, FN}
 use Rattle.fw_kernel.specs.declared.labels.TheConstants.{TICK, DONE, WAIT}
 use Rattle.fw_kernel.specs.Places.{HasKernel}
 use Rattle.joint_run.specs.Run.{Board, World, after_cycles}
@@ -118,14 +119,14 @@ four_edges ch l few = sum (changed_columns ch 0 12) (all_edges ch 0 12) (columns
     sum m e h g = omega (arith, h, g)
 
 -- the way back on the stack is no part of the held keys
-pub kept_on : (f : ℕ → ℕ) (c : ℕ) → stacked f (32 + c) ≡ f (32 + c)
+pub kept_on : (f : ℕ → ℕ) (c : ℕ) → stacked f (HELD + c) ≡ f (HELD + c)
 kept_on f c =
-    let a : (32 + c == 9) ≡ false = grind (arith, nat_tests) in
-    let b : (32 + c == 8) ≡ false = grind (arith, nat_tests) in
-    put_other (put f 8 252) 9 16 (32 + c) a ∙ put_other f 8 252 (32 + c) b
+    let a : (HELD + c == 9) ≡ false = grind (arith, nat_tests) in
+    let b : (HELD + c == 8) ≡ false = grind (arith, nat_tests) in
+    put_other (put f 8 252) 9 16 (HELD + c) a ∙ put_other f 8 252 (HELD + c) b
 
 -- the way back on the stack is no part of the cells from the Fn key's on
-pub stacked_at : (f : ℕ → ℕ) (i : ℕ) → 78 ≤ i → stacked f i ≡ f i
+pub stacked_at : (f : ℕ → ℕ) (i : ℕ) → FN ≤ i → stacked f i ≡ f i
 stacked_at f i l =
     let a : (i == 9) ≡ false = grind (arith, nat_tests, l) in
     let b : (i == 8) ≡ false = grind (arith, nat_tests, l) in
@@ -149,20 +150,20 @@ module _ (d : Board) (bytes : List ℕ) (hk : HasKernel bytes) (alike : IsSilent
   reads = shown d (x + 3) m.p2 first_board
 
   abbrev pub differing : ℕ → ℕ
-  differing i = bit_xor (stacked f (32 + i)) (reads i)
+  differing i = bit_xor (stacked f (HELD + i)) (reads i)
 
   -- what is held then, what changed, and what is pending
   abbrev pub down : ℕ → ℕ
-  down i = holds_by (debounces bytes) (stacked f (96 + i)) (differing i) (reads i)
+  down i = holds_by (debounces bytes) (stacked f (PENDING + i)) (differing i) (reads i)
 
   abbrev pub changed : ℕ → ℕ
-  changed i = changes_by (debounces bytes) (stacked f (96 + i)) (differing i)
+  changed i = changes_by (debounces bytes) (stacked f (PENDING + i)) (differing i)
 
   abbrev pub pending : ℕ → ℕ
-  pending i = pends_by (debounces bytes) (stacked f (96 + i)) (differing i)
+  pending i = pends_by (debounces bytes) (stacked f (PENDING + i)) (differing i)
 
   abbrev pub held : List Bool
-  held = held_by (λ c. stacked f (32 + c))
+  held = held_by (λ c. stacked f (HELD + c))
 
   -- the layers that the tick's edges find
   abbrev pub found : Meeting → Layers
@@ -237,13 +238,13 @@ module _ (d : Board) (bytes : List ℕ) (hk : HasKernel bytes) (alike : IsSilent
             n = b.n;
             kbd =
                 keyboard_goes (image_keys bytes) meeting (found meeting) (stacked f) ring (stacked b.now) b.last changed down
-                (flags_long (down_at (λ c. stacked f (80 + c))) 96) (λ i l. kept_on b.now i ∙ b.downs i l)
-                (λ i l. held_changes (debounces bytes) (stacked f (96 + i)) (stacked f (32 + i)) (reads i)) b.kbd
+                (flags_long (down_at (λ c. stacked f (LAYER + c))) 96) (λ i l. kept_on b.now i ∙ b.downs i l)
+                (λ i l. held_changes (debounces bytes) (stacked f (PENDING + i)) (stacked f (HELD + i)) (reads i)) b.kbd
                 (layers_same (stacked b.now) b.now (λ i l u. stacked_at b.now i l) ∙ b.layers)
                 (pressed_healed bytes meeting (layers_of (stacked f)) (keyboard_of (stacked f) ring) pressed);
-            read = read_after (debounces bytes) (stacked b.now) (λ i. stacked f (96 + i)) differing reads
+            read = read_after (debounces bytes) (stacked b.now) (λ i. stacked f (PENDING + i)) differing reads
                 (λ i l. kept_on b.now i ∙ b.downs i l)
-                (λ i l. stacked_at b.now (96 + i) (omega arith) ∙ b.pendings i l);
+                (λ i l. stacked_at b.now (PENDING + i) (omega arith) ∙ b.pendings i l);
             inv = still (refl, refl, refl, refl, refl) b.inv;
             stack = b.stack;
             fine = bf.1;
@@ -254,7 +255,7 @@ module _ (d : Board) (bytes : List ℕ) (hk : HasKernel bytes) (alike : IsSilent
           };
         })
         (fine_end d (kernel_in true bytes) (has_rows true bytes hk) small low (x + 3)
-        (begin_at d 10 (stacked f) ring k first_board)
+        (begin_at d (TICK + 3) (stacked f) ring k first_board)
         (Ended d bytes hk alike small low held (x + 3) k first_board (stacked f) ring meeting last_off (F l))
         (fit l range fine).1
         (work l range))

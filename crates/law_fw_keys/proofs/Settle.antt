@@ -3,6 +3,7 @@ use Rattle.std.proofs.Common.{◌≡◌, ◌≤◌, ◌<◌, ℕ, ◌+◌, ◌-�
 use Rattle.std.proofs.Common.{nat_le, nat_lt, if◌then◌else◌, bit_and, bit_xor, slice_index, refl, ap, sym, ◌∙◌, arith}
 use Rattle.std.proofs.lemmas.Bool.Decides.{nat_tests}
 use Rattle.mcs48_core.specs.Cpu.{Cpu}
+use Rattle.fw_kernel.specs.declared.cells.TheConstants.{R0, R1, R2, HELD, CHANGED, PENDING}
 use Rattle.fw_kernel.specs.Places.{HasKernel}
 use Rattle.fw_kernel.specs.Tables.{debounce_at}
 use Rattle.fw_kernel.specs.declared.labels.TheConstants.{EDGES, SETTLE}
@@ -36,14 +37,14 @@ pends_by true pending differing = alone pending differing
 
 -- the cells after the twelve columns
 abbrev fresh : (ℕ → ℕ) → ℕ → ℕ
-fresh f c = alone (f (96 + c)) (f (48 + c))
+fresh f c = alone (f (PENDING + c)) (f (CHANGED + c))
 
 abbrev settled_on : (ℕ → ℕ) → ℕ → ℕ
 settled_on f i =
-    if nat_le 32 i && nat_lt i 44 then bit_xor (f i) (fresh f (i - 32)) else
-    if nat_le 48 i && nat_lt i 60 then bit_xor (fresh f (i - 48)) (f i) else
-    if nat_le 96 i && nat_lt i 108 then fresh f (i - 96) else
-    put (put (put f 24 60) 25 43) 26 (fresh f 11) i
+    if nat_le HELD i && nat_lt i (HELD + 12) then bit_xor (f i) (fresh f (i - HELD)) else
+    if nat_le CHANGED i && nat_lt i (CHANGED + 12) then bit_xor (fresh f (i - CHANGED)) (f i) else
+    if nat_le PENDING i && nat_lt i (PENDING + 12) then fresh f (i - PENDING) else
+    put (put (put f R0 (CHANGED + 12)) R1 (HELD + 11)) R2 (fresh f 11) i
 
 abbrev pub settle_cycles : Bool → ℕ
 settle_cycles false = 8
@@ -57,50 +58,50 @@ settle_short true = omega arith
 -- what the block leaves
 pub record Settled (debounce : Bool) (held : List Bool) (f : ℕ → ℕ) (ring : List ℕ) (acc : ℕ) (g : ℕ → ℕ) (r : List ℕ)
     : Type 0 where
-  pub changes : (i : ℕ) → i < 12 → g (48 + i) ≡ changes_by debounce (f (96 + i)) (f (48 + i))
-  pub helds : (i : ℕ) → i < 12 → g (32 + i) ≡ holds_by debounce (f (96 + i)) (f (48 + i)) (f (32 + i))
-  pub pendings : (i : ℕ) → i < 12 → g (96 + i) ≡ pends_by debounce (f (96 + i)) (f (48 + i))
+  pub changes : (i : ℕ) → i < 12 → g (CHANGED + i) ≡ changes_by debounce (f (PENDING + i)) (f (CHANGED + i))
+  pub helds : (i : ℕ) → i < 12 → g (HELD + i) ≡ holds_by debounce (f (PENDING + i)) (f (CHANGED + i)) (f (HELD + i))
+  pub pendings : (i : ℕ) → i < 12 → g (PENDING + i) ≡ pends_by debounce (f (PENDING + i)) (f (CHANGED + i))
   pub kbd : kbd_of held g r ≡ kbd_of held f ring
-  pub others : (i : ℕ) → 60 ≤ i → i < 96 → g i ≡ f i
+  pub others : (i : ℕ) → CHANGED + 12 ≤ i → i < PENDING → g i ≡ f i
   pub stack : (g 8 ≡ f 8) × (g 9 ≡ f 9)
 
-on_changes : (f : ℕ → ℕ) (i : ℕ) → i < 12 → settled_on f (48 + i) ≡ bit_xor (fresh f i) (f (48 + i))
+on_changes : (f : ℕ → ℕ) (i : ℕ) → i < 12 → settled_on f (CHANGED + i) ≡ bit_xor (fresh f i) (f (CHANGED + i))
 on_changes f i l =
-    let a : nat_lt (48 + i) 44 ≡ false = grind (arith, nat_tests) in
-    let a0 : nat_le 32 (48 + i) ≡ true = grind (arith, nat_tests) in
-    let b : nat_le 48 (48 + i) ≡ true = grind (arith, nat_tests) in
-    let c : nat_lt (48 + i) 60 ≡ true = grind (arith, nat_tests, l) in
-    let v : 48 + i - 48 ≡ i = omega arith in
+    let a : nat_lt (CHANGED + i) 44 ≡ false = grind (arith, nat_tests) in
+    let a0 : nat_le 32 (CHANGED + i) ≡ true = grind (arith, nat_tests) in
+    let b : nat_le 48 (CHANGED + i) ≡ true = grind (arith, nat_tests) in
+    let c : nat_lt (CHANGED + i) 60 ≡ true = grind (arith, nat_tests, l) in
+    let v : CHANGED + i - 48 ≡ i = omega arith in
     rw (a0, a, b, c, v) refl
 
-on_helds : (f : ℕ → ℕ) (i : ℕ) → i < 12 → settled_on f (32 + i) ≡ bit_xor (f (32 + i)) (fresh f i)
+on_helds : (f : ℕ → ℕ) (i : ℕ) → i < 12 → settled_on f (HELD + i) ≡ bit_xor (f (HELD + i)) (fresh f i)
 on_helds f i l =
-    let a : nat_le 32 (32 + i) ≡ true = grind (arith, nat_tests) in
-    let b : nat_lt (32 + i) 44 ≡ true = grind (arith, nat_tests, l) in
-    let v : 32 + i - 32 ≡ i = omega arith in
+    let a : nat_le 32 (HELD + i) ≡ true = grind (arith, nat_tests) in
+    let b : nat_lt (HELD + i) 44 ≡ true = grind (arith, nat_tests, l) in
+    let v : HELD + i - 32 ≡ i = omega arith in
     rw (a, b, v) refl
 
-on_pendings : (f : ℕ → ℕ) (i : ℕ) → i < 12 → settled_on f (96 + i) ≡ fresh f i
+on_pendings : (f : ℕ → ℕ) (i : ℕ) → i < 12 → settled_on f (PENDING + i) ≡ fresh f i
 on_pendings f i l =
-    let a : nat_lt (96 + i) 44 ≡ false = grind (arith, nat_tests) in
-    let a0 : nat_le 32 (96 + i) ≡ true = grind (arith, nat_tests) in
-    let b0 : nat_le 48 (96 + i) ≡ true = grind (arith, nat_tests) in
-    let b : nat_lt (96 + i) 60 ≡ false = grind (arith, nat_tests) in
-    let c0 : nat_le 96 (96 + i) ≡ true = grind (arith, nat_tests) in
-    let c : nat_lt (96 + i) 108 ≡ true = grind (arith, nat_tests, l) in
-    let v : 96 + i - 96 ≡ i = omega arith in
+    let a : nat_lt (PENDING + i) 44 ≡ false = grind (arith, nat_tests) in
+    let a0 : nat_le 32 (PENDING + i) ≡ true = grind (arith, nat_tests) in
+    let b0 : nat_le 48 (PENDING + i) ≡ true = grind (arith, nat_tests) in
+    let b : nat_lt (PENDING + i) 60 ≡ false = grind (arith, nat_tests) in
+    let c0 : nat_le 96 (PENDING + i) ≡ true = grind (arith, nat_tests) in
+    let c : nat_lt (PENDING + i) 108 ≡ true = grind (arith, nat_tests, l) in
+    let v : PENDING + i - 96 ≡ i = omega arith in
     rw (a0, a, b0, b, c0, c, v) refl
 
-on_others : (f : ℕ → ℕ) (i : ℕ) → 60 ≤ i → i < 96 → settled_on f i ≡ f i
+on_others : (f : ℕ → ℕ) (i : ℕ) → CHANGED + 12 ≤ i → i < PENDING → settled_on f i ≡ f i
 on_others f i l u =
-    let a : nat_lt i 44 ≡ false = grind (arith, nat_tests, l) in
-    let a0 : nat_le 32 i ≡ true = grind (arith, nat_tests, l) in
-    let b0 : nat_le 48 i ≡ true = grind (arith, nat_tests, l) in
-    let b : nat_lt i 60 ≡ false = grind (arith, nat_tests, l) in
-    let c0 : nat_le 96 i ≡ false = grind (arith, nat_tests, u) in
-    let x : (i == 24) ≡ false = grind (arith, nat_tests, l) in
-    let y : (i == 25) ≡ false = grind (arith, nat_tests, l) in
-    let z : (i == 26) ≡ false = grind (arith, nat_tests, l) in
+    let a : nat_lt i (HELD + 12) ≡ false = grind (arith, nat_tests, l) in
+    let a0 : nat_le HELD i ≡ true = grind (arith, nat_tests, l) in
+    let b0 : nat_le CHANGED i ≡ true = grind (arith, nat_tests, l) in
+    let b : nat_lt i (CHANGED + 12) ≡ false = grind (arith, nat_tests, l) in
+    let c0 : nat_le PENDING i ≡ false = grind (arith, nat_tests, u) in
+    let x : (i == R0) ≡ false = grind (arith, nat_tests, l) in
+    let y : (i == R1) ≡ false = grind (arith, nat_tests, l) in
+    let z : (i == R2) ≡ false = grind (arith, nat_tests, l) in
     rw (a0, a, b0, b, c0, z, y, x) refl
 
 module _ (d : Board) (bytes : List ℕ) (hk : HasKernel bytes) (small : All IsByte bytes)
@@ -112,7 +113,7 @@ module _ (d : Board) (bytes : List ℕ) (hk : HasKernel bytes) (small : All IsBy
   settle_by false is x m board f ring safe =
       let off : (slice_index bytes debounce_at == 0) ≡ true = by (slice_index bytes debounce_at == 0) refl is in
       leaf d (kernel_in true bytes) (has_rows true bytes hk) small low (Settled false held f ring)
-      (Until 1283 ∷ Go true ∷ Until EDGES ∷ []) SETTLE EDGES 8 f ring x m m board f ring safe.0
+      (Go true ∷ Until EDGES ∷ []) SETTLE EDGES 8 f ring x m m board f ring safe.0
       (λ a. record {
         changes = λ i l. refl;
         helds = λ i l. refl;
@@ -129,7 +130,7 @@ module _ (d : Board) (bytes : List ℕ) (hk : HasKernel bytes) (small : All IsBy
   settle_by true is x m board f ring safe =
       let on : (slice_index bytes debounce_at == 0) ≡ false = by (slice_index bytes debounce_at == 0) refl is in
       leaf d (kernel_in true bytes) (has_rows true bytes hk) small low (Settled true held f ring)
-      (Until 1283 ∷ Go false ∷ Until EDGES ∷ []) SETTLE EDGES 322 (settled_on f) ring x m m board f ring safe.0
+      (Go false ∷ Until EDGES ∷ []) SETTLE EDGES 322 (settled_on f) ring x m m board f ring safe.0
       (λ a. record {
         changes = λ i l. on_changes f i l;
         helds = λ i l. on_helds f i l;

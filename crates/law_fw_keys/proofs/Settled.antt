@@ -15,6 +15,7 @@ use Rattle.law_fw_keys.proofs.Settle.{alone, changes_by, holds_by, pends_by}
 use Rattle.law_fw_keys.specs.Edges.{row_edges, column_edges, tick_edges}
 use Rattle.law_fw_keys.specs.Frameless.{changed_by}
 use Rattle.law_fw_keys.specs.State.{held_by, read_of, read_cell}
+use Rattle.fw_kernel.specs.declared.cells.TheConstants.{HELD, PENDING}
 
 -- from what was held to what is held, by what the column showed
 pub held_changes : (b : Bool) (pending held shown : ℕ)
@@ -26,14 +27,14 @@ held_changes true pending held shown =
 
 -- what is held and what is pending show what was read
 pub read_after : (b : Bool) (now pending differing reads : ℕ → ℕ)
-    → ((i : ℕ) → i < 12 → now (32 + i) ≡ holds_by b (pending i) (differing i) (reads i))
-    → ((i : ℕ) → i < 12 → now (96 + i) ≡ pends_by b (pending i) (differing i)) → read_of b now ≡ held_by reads
+    → ((i : ℕ) → i < 12 → now (HELD + i) ≡ holds_by b (pending i) (differing i) (reads i))
+    → ((i : ℕ) → i < 12 → now (PENDING + i) ≡ pends_by b (pending i) (differing i)) → read_of b now ≡ held_by reads
 read_after false now pending differing reads holds pends =
     held_same (read_cell false now) reads (λ c l. holds c l)
 read_after true now pending differing reads holds pends =
     held_same (read_cell true now) reads (λ c l.
     let fresh : ℕ = alone (pending c) (differing c) in
-    ap (λ v. bit_xor v (now (96 + c))) (holds c l) ∙ ap (λ v. bit_xor (bit_xor (reads c) fresh) v) (pends c l)
+    ap (λ v. bit_xor v (now (PENDING + c))) (holds c l) ∙ ap (λ v. bit_xor (bit_xor (reads c) fresh) v) (pends c l)
     ∙ xor_assoc (reads c) fresh fresh ∙ ap (λ v. bit_xor (reads c) v) (xor_self fresh) ∙ xor_zero_r (reads c))
 
 -- what changes is what was pending too

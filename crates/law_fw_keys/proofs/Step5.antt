@@ -10,19 +10,20 @@ use Rattle.law_fw_keys.proofs.ColumnCells.{spread, rows_part, columns_time}
 use Rattle.law_fw_keys.proofs.Laid.{laid}
 use Rattle.law_fw_keys.proofs.Patch.{IsFnCell}
 use Rattle.law_fw_keys.specs.Edges.{IsSilentAlike}
+use Rattle.fw_kernel.specs.declared.cells.TheConstants.{R0, COUNT, FN, HELD, CHANGED, LAYER}
 use Rattle.fw_kernel.specs.Places.{HasKernel}
 use Rattle.fw_kernel.specs.declared.labels.TheConstants.{COLUMN, DONE, EDGES}
 use Rattle.law_fw_keys.proofs.Block.{Ends, Safe}
 use Rattle.law_fw_logic.proofs.Block.{begin_at, memory, put}
 use Rattle.law_fw_logic.proofs.Kernel.{kernel_in}
 use Rattle.law_fw_logic.proofs.Leads.{Leads}
-use Rattle.law_fw_logic.proofs.Path.{Run}
+use Rattle.law_fw_logic.proofs.Path.{Until}
 use Rattle.law_fw_logic.proofs.Short.{has_rows}
 use Rattle.mcs48_ranges.specs.Sizes.{IsByte}
 use Rattle.joint_run.specs.Run.{Board}
 
-other_cell : (f : ℕ → ℕ) (v j i : ℕ) → 32 ≤ j → j < 60 → i ≡ j → put f 24 v j ≡ f i
-other_cell f v j i l u e = let n : j ≡ i = sym e in let b : (j == 24) ≡ false = grind (arith, nat_tests, l) in
+other_cell : (f : ℕ → ℕ) (v j i : ℕ) → 32 ≤ j → j < 60 → i ≡ j → put f R0 v j ≡ f i
+other_cell f v j i l u e = let n : j ≡ i = sym e in let b : (j == R0) ≡ false = grind (arith, nat_tests, l) in
     rw (b, e) refl
 
 -- how many columns changed, and how many edges there are
@@ -57,33 +58,33 @@ plus_two a b l = omega (arith, l)
 module _ (d : Board) (bytes : List ℕ) (hk : HasKernel bytes) (alike : IsSilentAlike bytes) (small : All IsByte bytes)
     (low : (p1 p2 c : ℕ) (s : d.State) → (d.pins p1 p2 c s).bus < 256) (held : List Bool) where
   -- step 5, by what changed and what is down
-  pub edges_law : (ch hd : ℕ → ℕ) (x : ℕ) (m : Cpu) (board : d.State) (f : ℕ → ℕ) (ring : List ℕ) → f 66 % 128 ≤ 16
-      → IsFnCell (f 78) → Safe m EDGES f ring → ((i : ℕ) → i < 12 → f (48 + i) ≡ ch i) →
-      ((i : ℕ) → i < 12 → f (32 + i) ≡ hd i)
+  pub edges_law : (ch hd : ℕ → ℕ) (x : ℕ) (m : Cpu) (board : d.State) (f : ℕ → ℕ) (ring : List ℕ) → f COUNT % 128 ≤ 16
+      → IsFnCell (f FN) → Safe m EDGES f ring → ((i : ℕ) → i < 12 → f (CHANGED + i) ≡ ch i) →
+      ((i : ℕ) → i < 12 → f (HELD + i) ≡ hd i)
       → Leads d (kernel_in true bytes) x (begin_at d EDGES f ring m board)
       (Ends d x m board DONE (2 + (9 * 12 + 93 * changed_columns ch 0 12 + 62 * all_edges ch 0 12))
-      (AfterColumns d bytes hk alike small low held m.f0 ch hd 0 12 f (λ i. f (80 + i)) ring))
+      (AfterColumns d bytes hk alike small low held m.f0 ch hd 0 12 f (λ i. f (LAYER + i)) ring))
   edges_law ch hd x m board f ring most cell safe changes helds =
-      let layers : ℕ → ℕ = λ i. f (80 + i) in
-      let f1 : ℕ → ℕ = put f 24 48 in
+      let layers : ℕ → ℕ = λ i. f (LAYER + i) in
+      let f1 : ℕ → ℕ = put f R0 CHANGED in
       relax d (kernel_in true bytes) (has_rows true bytes hk) small low x m board DONE (2 + columns_time ch 0 12)
       (2 + (9 * 12 + 93 * changed_columns ch 0 12 + 62 * all_edges ch 0 12))
-      (AfterColumns d bytes hk alike small low held m.f0 ch hd 0 12 f (λ i. f (80 + i)) ring)
-      (AfterColumns d bytes hk alike small low held m.f0 ch hd 0 12 f (λ i. f (80 + i)) ring)
+      (AfterColumns d bytes hk alike small low held m.f0 ch hd 0 12 f (λ i. f (LAYER + i)) ring)
+      (AfterColumns d bytes hk alike small low held m.f0 ch hd 0 12 f (λ i. f (LAYER + i)) ring)
       (begin_at d EDGES f ring m board)
       (plus_two (columns_time ch 0 12) (9 * 12 + 93 * changed_columns ch 0 12 + 62 * all_edges ch 0 12)
       (time_most ch 0 12)) (λ a g rg h. h)
       (seq_just d (kernel_in true bytes) (has_rows true bytes hk) small low x m board COLUMN 2 DONE
       (columns_time ch 0 12) (laid f1 layers) ring (AfterColumns d bytes hk alike small low held m.f0 ch hd 0 12 f
-      (λ i. f (80 + i)) ring)
+      (λ i. f (LAYER + i)) ring)
       (begin_at d EDGES f ring m board) safe.1
-      (leaf d (kernel_in true bytes) (has_rows true bytes hk) small low (Just (laid f1 layers) ring) (Run 1 ∷ [])
+      (leaf d (kernel_in true bytes) (has_rows true bytes hk) small low (Just (laid f1 layers) ring) (Until COLUMN ∷ [])
       EDGES COLUMN 2
       (laid f1 layers) ring x m m board f ring safe.0 (λ a. (refl, refl)) (refl, refl, refl))
       (λ x1 m1 board1 same1 safe1.
       recast d (kernel_in true bytes) (has_rows true bytes hk) small low x1 m1 board1 DONE (columns_time ch 0 12)
       (columns_time ch 0 12) (AfterColumns d bytes hk alike small low held m.f0 ch hd 0 12 f1 layers ring)
-      (AfterColumns d bytes hk alike small low held m.f0 ch hd 0 12 f (λ i. f (80 + i)) ring)
+      (AfterColumns d bytes hk alike small low held m.f0 ch hd 0 12 f (λ i. f (LAYER + i)) ring)
       (begin_at d COLUMN (laid f1 layers) ring m1 board1)
       (omega arith)
       (λ a g rg h.
@@ -106,6 +107,6 @@ module _ (d : Board) (bytes : List ℕ) (hk : HasKernel bytes) (alike : IsSilent
         flag = ap (λ k. k.f0) same1;
         most = most;
         cell = cell;
-        changes = λ i l. other_cell f 48 (48 + i) (48 + i) (omega arith) (omega (arith, l)) refl ∙ changes i l;
-        helds = λ i l. other_cell f 48 (32 + i) (32 + i) (omega arith) (omega (arith, l)) refl ∙ helds i l;
+        changes = λ i l. other_cell f CHANGED (CHANGED + i) (CHANGED + i) (omega arith) (omega (arith, l)) refl ∙ changes i l;
+        helds = λ i l. other_cell f CHANGED (HELD + i) (HELD + i) (omega arith) (omega (arith, l)) refl ∙ helds i l;
       }) safe1)))

@@ -16,6 +16,7 @@ use Rattle.law_fw_keys.proofs.Block.{Ends, Safe}
 use Rattle.law_fw_keys.proofs.Patch.{AfterEdge, IsFnCell, Patch, deck_of, struck}
 use Rattle.law_fw_keys.specs.Edges.{image_code, image_keys, IsSilentAlike}
 use Rattle.law_fw_keys.specs.State.{kbd_of, queue_of, repeat_of}
+use Rattle.fw_kernel.specs.declared.cells.TheConstants.{R0, R1, R2, R3, R5, R6, R7, COUNT, RINDEX, RATE, RCOUNT, FN}
 use Rattle.fw_kernel.specs.Places.{HasKernel}
 use Rattle.fw_kernel.specs.declared.labels.TheConstants.{EDGE, ENTER, ENTER2, ENTERED}
 use Rattle.law_fw_logic.proofs.Block.{begin_at, memory, put}
@@ -36,13 +37,13 @@ module _ (d : Board) (bytes : List ℕ) (hk : HasKernel bytes) (alike : IsSilent
   D = deck_of held f ring
 
   abbrev code : Bool → ℕ
-  code b = code_at d bytes hk alike small low held b (f 30)
+  code b = code_at d bytes hk alike small low held b (f R6)
 
   abbrev is_fn : Bool
-  is_fn = is_silent d bytes hk alike small low held (f 30)
+  is_fn = is_silent d bytes hk alike small low held (f R6)
 
   abbrev only : Bool
-  only = is_only d bytes hk alike small low held (f 30)
+  only = is_only d bytes hk alike small low held (f R6)
 
   abbrev F : Bool
   F = fn d bytes hk alike small low held k x m board f ring h
@@ -51,43 +52,43 @@ module _ (d : Board) (bytes : List ℕ) (hk : HasKernel bytes) (alike : IsSilent
   B = byte' d bytes hk alike small low held k x m board f ring h
 
   abbrev index : Bool → ℕ
-  index b = upper b + f 30
+  index b = upper b + f R6
 
   abbrev pub EdgeLaw : Bool → Bool → Type 0
   EdgeLaw on down = Leads d (kernel_in true bytes) x (begin_at d EDGE f ring m board)
       (Ends d x m board ENTERED 61
-      (λ acc. AfterEdge held (edge (image_keys bytes) on (f 30) (7 - k) down) m.a f ring))
+      (λ acc. AfterEdge held (edge (image_keys bytes) on (f R6) (7 - k) down) m.a f ring))
 
   -- the step in the code's words is that in the model's
   press_is : (z on : Bool) → (code F == 0) ≡ z
-      → struck_by z on only (code F) (f 30) (7 - k) true F (f 78) D ≡ edge (image_keys bytes) on (f 30) (7 - k) true D
+      → struck_by z on only (code F) (f R6) (7 - k) true F (f FN) D ≡ edge (image_keys bytes) on (f R6) (7 - k) true D
   press_is z on e =
-      ap (λ z. struck_by z on only (code F) (f 30) (7 - k) true F (f 78) D)
-      (sym e ∙ silent_read bytes alike F (f 30) h.place)
-      ∙ ap (λ c. struck_by is_fn on only c (f 30) (7 - k) true F (f 78) D) (code_read bytes F (f 30))
-      ∙ ap (λ v. struck_by is_fn on only (image_code bytes F (f 30)) (f 30) (7 - k) true F v D)
-      (cell_is (f 78) h.cell)
+      ap (λ z. struck_by z on only (code F) (f R6) (7 - k) true F (f FN) D)
+      (sym e ∙ silent_read bytes alike F (f R6) h.place)
+      ∙ ap (λ c. struck_by is_fn on only c (f R6) (7 - k) true F (f FN) D) (code_read bytes F (f R6))
+      ∙ ap (λ v. struck_by is_fn on only (image_code bytes F (f R6)) (f R6) (7 - k) true F v D)
+      (cell_is (f FN) h.cell)
 
   abbrev L : Bool
-  L = bit (7 - k) (f 29)
+  L = bit (7 - k) (f R5)
 
-  release_is : (z on o : Bool) → (code L == 0) ≡ z → bit (7 - k) (f 24) ≡ o
-      → struck_by z on o (code L) (f 30) (7 - k) false L (f 78) D ≡ edge (image_keys bytes) on (f 30) (7 - k) false D
+  release_is : (z on o : Bool) → (code L == 0) ≡ z → bit (7 - k) (f R0) ≡ o
+      → struck_by z on o (code L) (f R6) (7 - k) false L (f FN) D ≡ edge (image_keys bytes) on (f R6) (7 - k) false D
   release_is z on o e is =
-      ap (λ z. struck_by z on o (code L) (f 30) (7 - k) false L (f 78) D)
-      (sym e ∙ silent_read bytes alike L (f 30) h.place)
-      ∙ ap (λ o. struck_by is_fn on o (code L) (f 30) (7 - k) false L (f 78) D) (sym is ∙ h.only)
-      ∙ ap (λ c. struck_by is_fn on only c (f 30) (7 - k) false L (f 78) D) (code_read bytes L (f 30))
-      ∙ ap (λ v. struck_by is_fn on only (image_code bytes L (f 30)) (f 30) (7 - k) false L v D)
-      (cell_is (f 78) h.cell)
+      ap (λ z. struck_by z on o (code L) (f R6) (7 - k) false L (f FN) D)
+      (sym e ∙ silent_read bytes alike L (f R6) h.place)
+      ∙ ap (λ o. struck_by is_fn on o (code L) (f R6) (7 - k) false L (f FN) D) (sym is ∙ h.only)
+      ∙ ap (λ c. struck_by is_fn on only c (f R6) (7 - k) false L (f FN) D) (code_read bytes L (f R6))
+      ∙ ap (λ v. struck_by is_fn on only (image_code bytes L (f R6)) (f R6) (7 - k) false L v D)
+      (cell_is (f FN) h.cell)
 
   abbrev patched : ℕ → ℕ → ℕ → ℕ → ℕ → Patch
   patched r1 r2 count index left = record {
     r1 = r1;
     r2 = r2;
-    r3 = f 27;
+    r3 = f R3;
     r4 = m.a;
-    r6 = f 30;
+    r6 = f R6;
     count = count;
     place = index;
     left = left;
@@ -97,7 +98,7 @@ module _ (d : Board) (bytes : List ℕ) (hk : HasKernel bytes) (alike : IsSilent
   settles : (step : Deck → Deck) (p1 p2 count at left r5 fn a : ℕ) (g : ℕ → ℕ) (r : List ℕ)
       → memory g r ≡ memory (struck f (patched p1 p2 count at left) r5 fn) r
       → deck_of held (struck f (patched p1 p2 count at left) r5 fn) r ≡ step D → count % 128 ≤ 16
-      → f 66 % 128 ≤ count % 128 → IsFnCell fn
+      → f COUNT % 128 ≤ count % 128 → IsFnCell fn
       → Again d (kernel_in true bytes) (has_rows true bytes hk) small low (λ acc. AfterEdge held step m.a f ring) a g r
   settles step p1 p2 count at left r5 fn a g r same deck most more cell = record {
     cells = struck f (patched p1 p2 count at left) r5 fn;
@@ -114,7 +115,7 @@ module _ (d : Board) (bytes : List ℕ) (hk : HasKernel bytes) (alike : IsSilent
   }
 
   abbrev stepped : Bool → Bool → Deck → Deck
-  stepped on down = edge (image_keys bytes) on (f 30) (7 - k) down
+  stepped on down = edge (image_keys bytes) on (f R6) (7 - k) down
 
   abbrev with_keys : ℕ → KeyQueue → Option Repeat → Deck
   with_keys byte q r = record {
@@ -124,27 +125,27 @@ module _ (d : Board) (bytes : List ℕ) (hk : HasKernel bytes) (alike : IsSilent
   }
 
   -- a press
-  press_by : (z on : Bool) → (code F == 0) ≡ z → m.f0 ≡ on → bit (7 - k) (f 31) ≡ true → EdgeLaw on true
+  press_by : (z on : Bool) → (code F == 0) ≡ z → m.f0 ≡ on → bit (7 - k) (f R7) ≡ true → EdgeLaw on true
   press_by true on silent flag down =
       recast d (kernel_in true bytes) (has_rows true bytes hk) small low x m board ENTERED 30 61
-      (Just (put (pressed_cells d bytes hk alike small low held k x m board f ring h) 78 255) ring)
+      (Just (put (pressed_cells d bytes hk alike small low held k x m board f ring h) FN 255) ring)
       (λ acc. AfterEdge held (stepped on true) m.a f ring) (begin_at d EDGE f ring m board) (omega arith)
-      (λ a g r q. settles (stepped on true) 78 (index F) (f 66) (f 72) (f 74) B 255 a g r (ap (λ t. memory t r) q.0)
-      (ap (λ t. deck_of held (struck f (patched 78 (index F) (f 66) (f 72) (f 74)) B 255) t) q.1
+      (λ a g r q. settles (stepped on true) FN (index F) (f COUNT) (f RINDEX) (f RCOUNT) B 255 a g r (ap (λ t. memory t r) q.0)
+      (ap (λ t. deck_of held (struck f (patched FN (index F) (f COUNT) (f RINDEX) (f RCOUNT)) B 255) t) q.1
       ∙ press_is true on silent) h.most (omega arith) (inr refl))
       (fn_press d bytes hk alike small low held k x m board f ring h safe down silent)
   press_by false false some flag down =
       recast d (kernel_in true bytes) (has_rows true bytes hk) small low x m board ENTERED 28 61
       (Just (pressed_cells d bytes hk alike small low held k x m board f ring h) ring)
       (λ acc. AfterEdge held (stepped false true) m.a f ring) (begin_at d EDGE f ring m board) (omega arith)
-      (λ a g r q. settles (stepped false true) 78 (index F) (f 66) (f 72) (f 74) B (f 78) a g r
+      (λ a g r q. settles (stepped false true) FN (index F) (f COUNT) (f RINDEX) (f RCOUNT) B (f FN) a g r
       (ap (λ t. memory t r) q.0)
-      (ap (λ t. deck_of held (struck f (patched 78 (index F) (f 66) (f 72) (f 74)) B (f 78)) t) q.1
+      (ap (λ t. deck_of held (struck f (patched FN (index F) (f COUNT) (f RINDEX) (f RCOUNT)) B (f FN)) t) q.1
       ∙ press_is false false some) h.most (omega arith) h.cell)
       (press_off d bytes hk alike small low held k x m board f ring h safe down some flag)
   press_by false true some flag down =
       let g1 : ℕ → ℕ = begun_cells d bytes hk alike small low held k x m board f ring h safe in
-      let rate : f 73 < 256 = (bytes_of m EDGE f ring safe).cell 73 (omega arith) in
+      let rate : f RATE < 256 = (bytes_of m EDGE f ring safe).cell RATE (omega arith) in
       seq_just d (kernel_in true bytes) (has_rows true bytes hk) small low x m board ENTER 42 ENTERED 19 g1 ring
       (λ acc. AfterEdge held (stepped true true) m.a f ring) (begin_at d EDGE f ring m board) safe.1
       (press_on d bytes hk alike small low held k x m board f ring h safe down some flag)
@@ -152,10 +153,10 @@ module _ (d : Board) (bytes : List ℕ) (hk : HasKernel bytes) (alike : IsSilent
       recast d (kernel_in true bytes) (has_rows true bytes hk) small low x' m' board' ENTERED 17 19
       (λ a. Entered (code F ∷ []) g1 ring) (λ acc. AfterEdge held (stepped true true) m.a f ring)
       (begin_at d ENTER g1 ring m' board') (omega arith)
-      (λ a g r q. settles (stepped true true) q.pointer (code F) q.count (index F) (delay (f 73)) B (f 78) a g r
+      (λ a g r q. settles (stepped true true) q.pointer (code F) q.count (index F) (delay (f RATE)) B (f FN) a g r
       (ap (λ t. memory t r) q.now)
-      (ap (λ t. with_keys B t (repeat_of (delay (f 73)) (index F))) q.queue
-      ∙ ap (λ t. with_keys B (enter (code F ∷ []) (queue_of f ring)) t) (some_delay F (f 30) (f 73) h.place rate)
+      (ap (λ t. with_keys B t (repeat_of (delay (f RATE)) (index F))) q.queue
+      ∙ ap (λ t. with_keys B (enter (code F ∷ []) (queue_of f ring)) t) (some_delay F (f R6) (f RATE) h.place rate)
       ∙ press_is false true some) q.most q.more h.cell)
       (enters d bytes hk small low held x' m' board' g1 ring safe' h.most))
 
@@ -167,56 +168,57 @@ module _ (d : Board) (bytes : List ℕ) (hk : HasKernel bytes) (alike : IsSilent
   found = record { k_small = h.k_small; r3 = h.r3; place = h.place; cell = h.cell; only = h.only; most = h.most }
 
   release_by : (z on same o : Bool) (x' : ℕ) (m' : Cpu) (board' : d.State) → m'.a ≡ index L → Safe m' AT_INDEX g0 ring
-      → (code L == 0) ≡ z → m'.f0 ≡ on → (f 72 == index L) ≡ same → bit (7 - k) (f 24) ≡ o
+      → (code L == 0) ≡ z → m'.f0 ≡ on → (f RINDEX == index L) ≡ same → bit (7 - k) (f R0) ≡ o
       → Leads d (kernel_in true bytes) x' (begin_at d AT_INDEX g0 ring m' board')
       (Ends d x' m' board' ENTERED 46
-      (λ acc. AfterEdge held (edge (image_keys bytes) on (f 30) (7 - k) false) m.a f ring))
+      (λ acc. AfterEdge held (edge (image_keys bytes) on (f R6) (7 - k) false) m.a f ring))
   release_by true on same o x' m' board' a safe' silent flag is oe =
       recast d (kernel_in true bytes) (has_rows true bytes hk) small low x' m' board' ENTERED 11 46
-      (Just (put (put (put g0 26 (index L)) 25 78) 78 0) ring) (λ acc. AfterEdge held (stepped on false) m.a f ring)
+      (Just (put (put (put g0 R2 (index L)) R1 FN) FN 0) ring) (λ acc. AfterEdge held (stepped on false) m.a f ring)
       (begin_at d AT_INDEX g0 ring m' board') (omega arith)
-      (λ a g r q. settles (stepped on false) 78 (index L) (f 66) (f 72) (f 74) (f 29) 0 a g r
+      (λ a g r q. settles (stepped on false) FN (index L) (f COUNT) (f RINDEX) (f RCOUNT) (f R5) 0 a g r
       (ap (λ t. memory t r) q.0)
-      (ap (λ t. deck_of held (struck f (patched 78 (index L) (f 66) (f 72) (f 74)) (f 29) 0) t) q.1
+      (ap (λ t. deck_of held (struck f (patched FN (index L) (f COUNT) (f RINDEX) (f RCOUNT)) (f R5) 0) t) q.1
       ∙ release_is true on o silent oe) h.most (omega arith) (inl refl))
       (fn_release d bytes hk alike small low held k x' m' board' g0 ring found L a safe' silent)
   release_by false false same o x' m' board' a safe' some flag is oe =
       recast d (kernel_in true bytes) (has_rows true bytes hk) small low x' m' board' ENTERED 9 46
-      (Just (put g0 26 (index L)) ring) (λ acc. AfterEdge held (stepped false false) m.a f ring)
+      (Just (put g0 R2 (index L)) ring) (λ acc. AfterEdge held (stepped false false) m.a f ring)
       (begin_at d AT_INDEX g0 ring m' board') (omega arith)
-      (λ a g r q. settles (stepped false false) (f 25) (index L) (f 66) (f 72) (f 74) (f 29) (f 78) a g r
+      (λ a g r q. settles (stepped false false) (f R1) (index L) (f COUNT) (f RINDEX) (f RCOUNT) (f R5) (f FN) a g r
       (ap (λ t. memory t r) q.0)
-      (ap (λ t. deck_of held (struck f (patched (f 25) (index L) (f 66) (f 72) (f 74)) (f 29) (f 78)) t) q.1
+      (ap (λ t. deck_of held (struck f (patched (f R1) (index L) (f COUNT) (f RINDEX) (f RCOUNT)) (f R5) (f FN)) t) q.1
       ∙ release_is false false o some oe) h.most (omega arith) h.cell)
       (release_off d bytes hk alike small low held k x' m' board' g0 ring found L a safe' some flag)
   release_by false true true true x' m' board' a safe' some flag is oe =
-      let li : f 72 < 256 = (bytes_of m EDGE f ring safe).cell 72 (omega arith) in
+      let li : f RINDEX < 256 = (bytes_of m EDGE f ring safe).cell RINDEX (omega arith) in
       recast d (kernel_in true bytes) (has_rows true bytes hk) small low x' m' board' ENTERED 25 46
       (Just (ended_cells d bytes hk alike small low held k x' m' board' g0 ring found L a safe' true) ring)
       (λ acc. AfterEdge held (stepped true false) m.a f ring)
       (begin_at d AT_INDEX g0 ring m' board') (omega arith)
-      (λ a g r q. settles (stepped true false) 74 (code L) (f 66) (f 72) 0 (f 29) (f 78) a g r
+      (λ a g r q. settles (stepped true false) RCOUNT (code L) (f COUNT) (f RINDEX) 0 (f R5) (f FN) a g r
       (ap (λ t. memory t r) q.0)
-      (ap (λ t. deck_of held (struck f (patched 74 (code L) (f 66) (f 72) 0) (f 29) (f 78)) t) q.1
-      ∙ ap (λ t. with_keys (f 29) (queue_of f ring) t)
-      (sym (stops (f 74) (f 72) (f 30) L li h.place true is (f 74 == 0) refl)) ∙ release_is false true true some oe)
+      (ap (λ t. deck_of held (struck f (patched RCOUNT (code L) (f COUNT) (f RINDEX) 0) (f R5) (f FN)) t) q.1
+      ∙ ap (λ t. with_keys (f R5) (queue_of f ring) t)
+      (sym (stops (f RCOUNT) (f RINDEX) (f R6) L li h.place true is (f RCOUNT == 0) refl)) ∙ release_is false true true some oe)
       h.most (omega arith) h.cell)
       (release_on d bytes hk alike small low held k x' m' board' g0 ring found L a safe' true true some flag is oe)
   release_by false true false true x' m' board' a safe' some flag is oe =
-      let li : f 72 < 256 = (bytes_of m EDGE f ring safe).cell 72 (omega arith) in
+      let li : f RINDEX < 256 = (bytes_of m EDGE f ring safe).cell RINDEX (omega arith) in
       recast d (kernel_in true bytes) (has_rows true bytes hk) small low x' m' board' ENTERED 25 46
       (Just (ended_cells d bytes hk alike small low held k x' m' board' g0 ring found L a safe' false) ring)
       (λ acc. AfterEdge held (stepped true false) m.a f ring)
       (begin_at d AT_INDEX g0 ring m' board') (omega arith)
-      (λ a g r q. settles (stepped true false) 72 (code L) (f 66) (f 72) (f 74) (f 29) (f 78) a g r
+      (λ a g r q. settles (stepped true false) RINDEX (code L) (f COUNT) (f RINDEX) (f RCOUNT) (f R5) (f FN) a g r
       (ap (λ t. memory t r) q.0)
-      (ap (λ t. deck_of held (struck f (patched 72 (code L) (f 66) (f 72) (f 74)) (f 29) (f 78)) t) q.1
-      ∙ ap (λ t. with_keys (f 29) (queue_of f ring) t)
-      (sym (stops (f 74) (f 72) (f 30) L li h.place false is (f 74 == 0) refl)) ∙ release_is false true true some oe)
+      (ap (λ t. deck_of held (struck f (patched RINDEX (code L) (f COUNT) (f RINDEX) (f RCOUNT)) (f R5) (f FN)) t) q.1
+      ∙ ap (λ t. with_keys (f R5) (queue_of f ring) t)
+      (sym (stops (f RCOUNT) (f RINDEX) (f R6) L li h.place false is (f RCOUNT == 0) refl))
+      ∙ release_is false true true some oe)
       h.most (omega arith) h.cell)
       (release_on d bytes hk alike small low held k x' m' board' g0 ring found L a safe' false true some flag is oe)
   release_by false true true false x' m' board' a safe' some flag is oe =
-      let li : f 72 < 256 = (bytes_of m EDGE f ring safe).cell 72 (omega arith) in
+      let li : f RINDEX < 256 = (bytes_of m EDGE f ring safe).cell RINDEX (omega arith) in
       let g1 : ℕ → ℕ = ended_cells d bytes hk alike small low held k x' m' board' g0 ring found L a safe' true in
       seq_just d (kernel_in true bytes) (has_rows true bytes hk) small low x' m' board' ENTER2 23 ENTERED 23 g1 ring
       (λ acc. AfterEdge held (stepped true false) m.a f ring) (begin_at d AT_INDEX g0 ring m' board') safe'.1
@@ -225,15 +227,15 @@ module _ (d : Board) (bytes : List ℕ) (hk : HasKernel bytes) (alike : IsSilent
       recast d (kernel_in true bytes) (has_rows true bytes hk) small low x2 m2 board2 ENTERED 23 23
       (λ a. Entered (240 ∷ code L ∷ []) g1 ring) (λ acc. AfterEdge held (stepped true false) m.a f ring)
       (begin_at d ENTER2 g1 ring m2 board2) (omega arith)
-      (λ a g r q. settles (stepped true false) q.pointer (code L) q.count (f 72) 0 (f 29) (f 78) a g r
+      (λ a g r q. settles (stepped true false) q.pointer (code L) q.count (f RINDEX) 0 (f R5) (f FN) a g r
       (ap (λ t. memory t r) q.now)
-      (ap (λ t. with_keys (f 29) t (repeat_of 0 (f 72))) q.queue
-      ∙ ap (λ t. with_keys (f 29) (enter (240 ∷ code L ∷ []) (queue_of f ring)) t)
-      (sym (stops (f 74) (f 72) (f 30) L li h.place true is (f 74 == 0) refl))
+      (ap (λ t. with_keys (f R5) t (repeat_of 0 (f RINDEX))) q.queue
+      ∙ ap (λ t. with_keys (f R5) (enter (240 ∷ code L ∷ []) (queue_of f ring)) t)
+      (sym (stops (f RCOUNT) (f RINDEX) (f R6) L li h.place true is (f RCOUNT == 0) refl))
       ∙ release_is false true false some oe) q.most q.more h.cell)
       (enters_two d bytes hk small low held x2 m2 board2 g1 ring safe2 h.most))
   release_by false true false false x' m' board' a safe' some flag is oe =
-      let li : f 72 < 256 = (bytes_of m EDGE f ring safe).cell 72 (omega arith) in
+      let li : f RINDEX < 256 = (bytes_of m EDGE f ring safe).cell RINDEX (omega arith) in
       let g1 : ℕ → ℕ = ended_cells d bytes hk alike small low held k x' m' board' g0 ring found L a safe' false in
       seq_just d (kernel_in true bytes) (has_rows true bytes hk) small low x' m' board' ENTER2 23 ENTERED 23 g1 ring
       (λ acc. AfterEdge held (stepped true false) m.a f ring) (begin_at d AT_INDEX g0 ring m' board') safe'.1
@@ -242,24 +244,24 @@ module _ (d : Board) (bytes : List ℕ) (hk : HasKernel bytes) (alike : IsSilent
       recast d (kernel_in true bytes) (has_rows true bytes hk) small low x2 m2 board2 ENTERED 23 23
       (λ a. Entered (240 ∷ code L ∷ []) g1 ring) (λ acc. AfterEdge held (stepped true false) m.a f ring)
       (begin_at d ENTER2 g1 ring m2 board2) (omega arith)
-      (λ a g r q. settles (stepped true false) q.pointer (code L) q.count (f 72) (f 74) (f 29) (f 78) a g r
+      (λ a g r q. settles (stepped true false) q.pointer (code L) q.count (f RINDEX) (f RCOUNT) (f R5) (f FN) a g r
       (ap (λ t. memory t r) q.now)
-      (ap (λ t. with_keys (f 29) t (repeat_of (f 74) (f 72))) q.queue
-      ∙ ap (λ t. with_keys (f 29) (enter (240 ∷ code L ∷ []) (queue_of f ring)) t)
-      (sym (stops (f 74) (f 72) (f 30) L li h.place false is (f 74 == 0) refl))
+      (ap (λ t. with_keys (f R5) t (repeat_of (f RCOUNT) (f RINDEX))) q.queue
+      ∙ ap (λ t. with_keys (f R5) (enter (240 ∷ code L ∷ []) (queue_of f ring)) t)
+      (sym (stops (f RCOUNT) (f RINDEX) (f R6) L li h.place false is (f RCOUNT == 0) refl))
       ∙ release_is false true false some oe) q.most q.more h.cell)
       (enters_two d bytes hk small low held x2 m2 board2 g1 ring safe2 h.most))
 
-  by_down : (on down : Bool) → m.f0 ≡ on → bit (7 - k) (f 31) ≡ down → EdgeLaw on down
+  by_down : (on down : Bool) → m.f0 ≡ on → bit (7 - k) (f R7) ≡ down → EdgeLaw on down
   by_down on true flag is = press_by (code F == 0) on refl flag is
   by_down on false flag is =
       seq_just_a d (kernel_in true bytes) (has_rows true bytes hk) small low x m board AT_INDEX 15 ENTERED 46 (index L)
-      g0 ring (λ acc. AfterEdge held (edge (image_keys bytes) on (f 30) (7 - k) false) m.a f ring)
+      g0 ring (λ acc. AfterEdge held (edge (image_keys bytes) on (f R6) (7 - k) false) m.a f ring)
       (begin_at d EDGE f ring m board) safe.1
       (finds d bytes hk alike small low held k x m board f ring h safe L refl is)
-      (λ x' m' board' same a safe'. release_by (code L == 0) on (f 72 == index L) (bit (7 - k) (f 24)) x' m' board' a
+      (λ x' m' board' same a safe'. release_by (code L == 0) on (f RINDEX == index L) (bit (7 - k) (f R0)) x' m' board' a
       safe' refl (ap (λ k. k.f0) same ∙ flag) refl refl)
 
   -- an edge of a row does a step of the model, in 61 cycles at most
-  pub edge_law : EdgeLaw m.f0 (bit (7 - k) (f 31))
-  edge_law = by_down m.f0 (bit (7 - k) (f 31)) refl refl
+  pub edge_law : EdgeLaw m.f0 (bit (7 - k) (f R7))
+  edge_law = by_down m.f0 (bit (7 - k) (f R7)) refl refl

@@ -16,9 +16,9 @@ use Rattle.law_fw_keys.proofs.Held.{layers_same}
 use Rattle.law_fw_keys.proofs.SameCells.{head_keeps}
 use Rattle.law_fw_keys.proofs.Offered.{unoffered}
 use Rattle.law_fw_keys.proofs.Testing.{testing_law}
-use Rattle.fw_kernel.specs.declared.cells.TheConstants.{LIGHTS}
+use Rattle.fw_kernel.specs.declared.cells.TheConstants.{LIGHTS, R3, COUNT, STARTED, TEST, HELD, CHANGED, PENDING, FN}
 use Rattle.fw_kernel.specs.Places.{HasKernel}
-use Rattle.fw_kernel.specs.declared.labels.TheConstants.{DONE, SCAN, TESTED}
+use Rattle.fw_kernel.specs.declared.labels.TheConstants.{DONE, SCAN, TESTED, P_SEEN, TICK}
 use Rattle.law_fw_keys.proofs.Block.{Ends, Safe}
 use Rattle.law_fw_keys.specs.Edges.{image_keys, IsSilentAlike}
 use Rattle.law_fw_keys.specs.State.{Inv, kbd_of, layers_of, debounces}
@@ -43,17 +43,17 @@ module _ (d : Board) (bytes : List ℕ) (hk : HasKernel bytes) (alike : IsSilent
     reads = look d bytes hk small low held y m board f ring
 
     abbrev pub differing : ℕ → ℕ
-    differing i = bit_xor (f (32 + i)) (reads i)
+    differing i = bit_xor (f (HELD + i)) (reads i)
 
     -- what is held then, what changed, and what is pending
     abbrev pub down : ℕ → ℕ
-    down i = holds_by (debounces bytes) (f (96 + i)) (differing i) (reads i)
+    down i = holds_by (debounces bytes) (f (PENDING + i)) (differing i) (reads i)
 
     abbrev pub changed : ℕ → ℕ
-    changed i = changes_by (debounces bytes) (f (96 + i)) (differing i)
+    changed i = changes_by (debounces bytes) (f (PENDING + i)) (differing i)
 
     abbrev pub pending : ℕ → ℕ
-    pending i = pends_by (debounces bytes) (f (96 + i)) (differing i)
+    pending i = pends_by (debounces bytes) (f (PENDING + i)) (differing i)
 
     abbrev pub begun : Stage d.State
     begun = started d bytes hk small low held y m board f ring
@@ -80,8 +80,8 @@ module _ (d : Board) (bytes : List ℕ) (hk : HasKernel bytes) (alike : IsSilent
       pub kbd : kbd_of held now last ≡ keyed (image_keys bytes) inhibited changed down (layers_of f)
           (step (kbd_of held f ring))
       pub layers : layers_of now ≡ after (image_keys bytes) changed down (layers_of f)
-      pub downs : (i : ℕ) → i < 12 → now (32 + i) ≡ down i
-      pub pendings : (i : ℕ) → i < 12 → now (96 + i) ≡ pending i
+      pub downs : (i : ℕ) → i < 12 → now (HELD + i) ≡ down i
+      pub pendings : (i : ℕ) → i < 12 → now (PENDING + i) ≡ pending i
       pub inv : Inv now
       pub stack : (now 8 ≡ f 8) × (now 9 ≡ f 9)
 
@@ -97,9 +97,9 @@ module _ (d : Board) (bytes : List ℕ) (hk : HasKernel bytes) (alike : IsSilent
     abbrev Shows : Bool → (Keyboard → Keyboard) → ℕ → (ℕ → ℕ) → List ℕ → Type 0
     Shows inhibited step a g r =
         (kbd_of held g r ≡ keyed (image_keys bytes) inhibited changed down (layers_of f) (step (kbd_of held f ring)))
-        × ((i : ℕ) → i < 12 → g (32 + i) ≡ down i) × Inv g × (g 8 ≡ f 8) × (g 9 ≡ f 9)
+        × ((i : ℕ) → i < 12 → g (HELD + i) ≡ down i) × Inv g × (g 8 ≡ f 8) × (g 9 ≡ f 9)
         × (layers_of g ≡ after (image_keys bytes) changed down (layers_of f))
-        × ((i : ℕ) → i < 12 → g (96 + i) ≡ pending i)
+        × ((i : ℕ) → i < 12 → g (PENDING + i) ≡ pending i)
 
     rest : (inhibited : Bool) (max : ℕ) (step : Keyboard → Keyboard) → Way inhibited max step
         → (m' : Cpu) (board' : d.State) (r4 r5 : ℕ) → m' ≡ scratched lit TESTED (memory (headed_by r4 r5) ring) m'
@@ -122,12 +122,12 @@ module _ (d : Board) (bytes : List ℕ) (hk : HasKernel bytes) (alike : IsSilent
         (Ends d x1 (record m1 { f0 = is_scanning (kbd_of held g r) }) board1 DONE (56 + (2 + edges_most bytes changed))
         (Scanned d bytes hk alike small low held m1.f1 changed down pending g r)) =
         scan_law d bytes hk alike small low held changed down pending x1 m1 board1 g r q.inv.most q.inv.fn safe1
-        (λ i l. changes_same b (g (96 + i)) (f (96 + i)) (g (48 + i)) (differing i) (was_pending g q.layers i l)
+        (λ i l. changes_same b (g (PENDING + i)) (f (PENDING + i)) (g (CHANGED + i)) (differing i) (was_pending g q.layers i l)
         (differs g q.cells i l))
-        (λ i l. holds_same b (g (96 + i)) (f (96 + i)) (g (48 + i)) (differing i) (g (32 + i)) (reads i)
+        (λ i l. holds_same b (g (PENDING + i)) (f (PENDING + i)) (g (CHANGED + i)) (differing i) (g (HELD + i)) (reads i)
         (was_pending g q.layers i l) (differs g q.cells i l)
-        (q.cells (32 + i) (omega arith) (omega (arith, l)) ∙ head_helds reads f r4 r5 i l))
-        (λ i l. pends_same b (g (96 + i)) (f (96 + i)) (g (48 + i)) (differing i) (was_pending g q.layers i l)
+        (q.cells (HELD + i) (omega arith) (omega (arith, l)) ∙ head_helds reads f r4 r5 i l))
+        (λ i l. pends_same b (g (PENDING + i)) (f (PENDING + i)) (g (CHANGED + i)) (differing i) (was_pending g q.layers i l)
         (differs g q.cells i l)) in
         subst (λ b. Leads d (kernel_in true bytes) x1 (begin_at d SCAN g r m1 board1)
         (Ends d x1 (record m1 { f0 = b }) board1 DONE (56 + (2 + edges_most bytes changed)) (Shows inhibited step))) flag
@@ -146,8 +146,8 @@ module _ (d : Board) (bytes : List ℕ) (hk : HasKernel bytes) (alike : IsSilent
             record {
               most = s.most;
               started = rw s.others.0 q.inv.started;
-              some = (let u : g 68 ≤ g 66 % 128 = q.inv.some in let v : g 66 % 128 ≤ s.w.p.count % 128 = s.more in
-                  let e : s.h 68 ≡ g 68 = s.others.0 in omega (arith, u, v, e));
+              some = (let u : g STARTED ≤ g COUNT % 128 = q.inv.some in let v : g COUNT % 128 ≤ s.w.p.count % 128 = s.more in
+                  let e : s.h STARTED ≡ g STARTED = s.others.0 in omega (arith, u, v, e));
               mode = rw s.others.1 q.inv.mode;
               lamps = rw s.others.2 q.inv.lamps;
               fn = s.cell;
@@ -160,24 +160,24 @@ module _ (d : Board) (bytes : List ℕ) (hk : HasKernel bytes) (alike : IsSilent
         })
         h))
       where
-        layers_kept : (g : ℕ → ℕ) → ((i : ℕ) → 78 ≤ i → i < 108 → g i ≡ headed_by r4 r5 i) → layers_of g ≡ layers_of f
+        layers_kept : (g : ℕ → ℕ) → ((i : ℕ) → FN ≤ i → i < PENDING + 12 → g i ≡ headed_by r4 r5 i) → layers_of g ≡ layers_of f
         layers_kept g e =
             layers_same g f (λ i l u. e i l (omega (arith, u)) ∙ head_keeps reads f r4 r5 i (omega (arith, l)))
 
-        was_pending : (g : ℕ → ℕ) → ((i : ℕ) → 78 ≤ i → i < 108 → g i ≡ headed_by r4 r5 i) → (i : ℕ) → i < 12
-            → g (96 + i) ≡ f (96 + i)
+        was_pending : (g : ℕ → ℕ) → ((i : ℕ) → FN ≤ i → i < PENDING + 12 → g i ≡ headed_by r4 r5 i) → (i : ℕ) → i < 12
+            → g (PENDING + i) ≡ f (PENDING + i)
         was_pending g e i l =
-            e (96 + i) (omega arith) (omega (arith, l)) ∙ head_keeps reads f r4 r5 (96 + i) (omega arith)
+            e (PENDING + i) (omega arith) (omega (arith, l)) ∙ head_keeps reads f r4 r5 (PENDING + i) (omega arith)
 
-        differs : (g : ℕ → ℕ) → ((i : ℕ) → 32 ≤ i → i < 60 → g i ≡ headed_by r4 r5 i) → (i : ℕ) → i < 12
-            → g (48 + i) ≡ differing i
-        differs g e i l = e (48 + i) (omega arith) (omega (arith, l)) ∙ head_changes reads f r4 r5 i l
+        differs : (g : ℕ → ℕ) → ((i : ℕ) → HELD ≤ i → i < CHANGED + 12 → g i ≡ headed_by r4 r5 i) → (i : ℕ) → i < 12
+            → g (CHANGED + i) ≡ differing i
+        differs g e i l = e (CHANGED + i) (omega arith) (omega (arith, l)) ∙ head_changes reads f r4 r5 i l
 
     -- a tick whose meeting does a step of the model does that step and then the keys' steps
-    pub tick_by : (inhibited : Bool) (max : ℕ) (step : Keyboard → Keyboard) → Way inhibited max step → Safe m 10 f ring
+    pub tick_by : (inhibited : Bool) (max : ℕ) (step : Keyboard → Keyboard) → Way inhibited max step → Safe m (TICK + 3) f ring
         → Leads d (kernel_in true bytes) y begun (Ticked inhibited max step)
     tick_by inhibited max step way safe =
-        let h = bytes_of m 10 f ring safe in
+        let h = bytes_of m (TICK + 3) f ring safe in
         let H = Headed d bytes hk small low held y m board f ring in
         chain d (kernel_in true bytes) (has_rows true bytes hk) y (λ e. H e × IsFine e.cpu) (Ticked inhibited max step)
         begun
@@ -235,7 +235,7 @@ module _ (d : Board) (bytes : List ℕ) (hk : HasKernel bytes) (alike : IsSilent
     abbrev pub same_kbd : Keyboard → Keyboard
     same_kbd k = k
 
-    idle_way : Inv f → (f 69 == 0) ≡ true → offer (kbd_of held f ring) ≡ None
+    idle_way : Inv f → (f TEST == 0) ≡ true → offer (kbd_of held f ring) ≡ None
         → (d.pins 44 (255 - f LIGHTS) (y + 231 + 22) (after_cycles 22 0 (λ o. d.cycle (255 - f LIGHTS) (y + 231 + o)) shining)).t0
         ≡ true
         → (d.pins 44 (255 - f LIGHTS) (y + 231 + 24) (after_cycles 24 0 (λ o. d.cycle (255 - f LIGHTS) (y + 231 + o)) shining)).t1
@@ -243,7 +243,7 @@ module _ (d : Board) (bytes : List ℕ) (hk : HasKernel bytes) (alike : IsSilent
         → Way false 31 same_kbd
     idle_way inv no_test nothing clock high m' board' r4 r5 is where_board offers safe =
         leaf d (kernel_in true bytes) (has_rows true bytes hk) small low (Keeps held same_kbd (headed_by r4 r5) ring)
-        (Until 65 ∷ Go false ∷ Until 81 ∷ Go false ∷ Go false ∷ Until 86 ∷ Go true ∷ Until SCAN ∷ []) TESTED SCAN 31
+        (Go false ∷ Go false ∷ Go false ∷ Go true ∷ Until SCAN ∷ []) TESTED SCAN 31
         (readied (headed_by r4 r5)) ring (y + 231) m' (record m' { f1 = false }) board' (headed_by r4 r5)
         ring safe.0
         (λ a. record {
@@ -273,11 +273,11 @@ module _ (d : Board) (bytes : List ℕ) (hk : HasKernel bytes) (alike : IsSilent
         × ((d.pins 44 (255 - f LIGHTS) (y + 231 + 52) (after_cycles 52 0 (λ o. d.cycle (255 - f LIGHTS) (y + 231 + o)) shining)).t1
         ≡ true)
 
-    glitch_way : Inv f → (f 69 == 0) ≡ true → IsGlitchAt → Way false 56 same_kbd
+    glitch_way : Inv f → (f TEST == 0) ≡ true → IsGlitchAt → Way false 56 same_kbd
     glitch_way inv no_test levels m' board' r4 r5 is where_board offers safe =
         leaf d (kernel_in true bytes) (has_rows true bytes hk) small low (Keeps held same_kbd (headed_by r4 r5) ring)
-        (Until 65 ∷ Go false ∷ Until 81 ∷ Go false ∷ Go true ∷ Until 260 ∷ Go true ∷ Until SCAN ∷ []) TESTED SCAN 56
-        (put (readied (headed_by r4 r5)) 27 8) ring (y + 231) m' (record m' { f1 = false }) board'
+        (Go false ∷ Go false ∷ Go true ∷ Go true ∷ Until SCAN ∷ []) TESTED SCAN 56
+        (put (readied (headed_by r4 r5)) R3 8) ring (y + 231) m' (record m' { f1 = false }) board'
         (headed_by r4 r5) ring safe.0
         (λ a. record {
           kbd = refl;
@@ -296,13 +296,13 @@ module _ (d : Board) (bytes : List ℕ) (hk : HasKernel bytes) (alike : IsSilent
           ),
         )
 
-    inhibited_way : Inv f → (f 69 == 0) ≡ true
+    inhibited_way : Inv f → (f TEST == 0) ≡ true
         → (d.pins 44 (255 - f LIGHTS) (y + 231 + 22) (after_cycles 22 0 (λ o. d.cycle (255 - f LIGHTS) (y + 231 + o)) shining)).t0
         ≡ false
         → Way true 31 same_kbd
     inhibited_way inv no_test clock m' board' r4 r5 is where_board offers safe =
         leaf d (kernel_in true bytes) (has_rows true bytes hk) small low (Keeps held same_kbd (headed_by r4 r5) ring)
-        (Until 65 ∷ Go false ∷ Until 81 ∷ Go true ∷ Fork 198 (passed 198) ∷ Until SCAN ∷ []) TESTED SCAN 31
+        (Go false ∷ Go true ∷ Fork P_SEEN (passed P_SEEN) ∷ Until SCAN ∷ []) TESTED SCAN 31
         (readied (headed_by r4 r5)) ring (y + 231) m' (record m' { f1 = true }) board' (headed_by r4 r5)
         ring safe.0
         (λ a. record {
@@ -319,7 +319,7 @@ module _ (d : Board) (bytes : List ℕ) (hk : HasKernel bytes) (alike : IsSilent
           ),
         )
 
-    test_way : Inv f → (f 69 == 0) ≡ false → Way false 36 (tested_if true)
+    test_way : Inv f → (f TEST == 0) ≡ false → Way false 36 (tested_if true)
     test_way inv runs m' board' r4 r5 is where_board offers safe =
         testing_law d bytes hk small low held (y + 231) m' board' (headed_by r4 r5) ring
         (still (refl, refl, refl, refl, refl) inv) runs
@@ -343,7 +343,7 @@ module _ (d : Board) (bytes : List ℕ) (hk : HasKernel bytes) (alike : IsSilent
         (λ e. Ticked inhibited max step e × IsTick meeting inhibited step) begun (λ e a. (a, same)) h
 
     -- with nothing offered and both wires high a tick is the model's idle one
-    pub idle_tick : Inv f → (f 69 == 0) ≡ true → offer (kbd_of held f ring) ≡ None → IsFreeAt → Safe m 10 f ring
+    pub idle_tick : Inv f → (f TEST == 0) ≡ true → offer (kbd_of held f ring) ≡ None → IsFreeAt → Safe m (TICK + 3) f ring
         → TickLaw Idle false 31 same_kbd
     idle_tick inv no_test nothing wires safe =
         with_model Idle false 31 same_kbd
@@ -352,7 +352,7 @@ module _ (d : Board) (bytes : List ℕ) (hk : HasKernel bytes) (alike : IsSilent
         (tick_by false 31 same_kbd (idle_way inv no_test nothing wires.0 wires.1) safe)
 
     -- if data is low at the first look alone, a tick is the model's idle one
-    pub glitch_tick : Inv f → (f 69 == 0) ≡ true → IsGlitchAt → Safe m 10 f ring → TickLaw Idle false 56 same_kbd
+    pub glitch_tick : Inv f → (f TEST == 0) ≡ true → IsGlitchAt → Safe m (TICK + 3) f ring → TickLaw Idle false 56 same_kbd
     glitch_tick inv no_test levels safe =
         with_model Idle false 56 same_kbd
         (sym (ap (λ b. keyed (image_keys bytes) false changed down (layers_of f)
@@ -360,9 +360,9 @@ module _ (d : Board) (bytes : List ℕ) (hk : HasKernel bytes) (alike : IsSilent
         (tick_by false 56 same_kbd (glitch_way inv no_test levels) safe)
 
     -- if the clock is low at its look, a tick is the model's inhibited one
-    pub inhibited_tick : Inv f → (f 69 == 0) ≡ true
+    pub inhibited_tick : Inv f → (f TEST == 0) ≡ true
         → (d.pins 44 (255 - f LIGHTS) (y + 231 + 22) (after_cycles 22 0 (λ o. d.cycle (255 - f LIGHTS) (y + 231 + o)) shining)).t0
-        ≡ false → Safe m 10 f ring → TickLaw Inhibited true 31 same_kbd
+        ≡ false → Safe m (TICK + 3) f ring → TickLaw Inhibited true 31 same_kbd
     inhibited_tick inv no_test low_clock safe =
         with_model Inhibited true 31 same_kbd
         (sym (ap (λ b. keyed (image_keys bytes) true changed down (layers_of f)
@@ -370,7 +370,7 @@ module _ (d : Board) (bytes : List ℕ) (hk : HasKernel bytes) (alike : IsSilent
         (tick_by true 31 same_kbd (inhibited_way inv no_test low_clock) safe)
 
     -- in the self-test a tick is the model's idle one
-    pub test_tick : Inv f → (f 69 == 0) ≡ false → Safe m 10 f ring → TickLaw Idle false 36 (tested_if true)
+    pub test_tick : Inv f → (f TEST == 0) ≡ false → Safe m (TICK + 3) f ring → TickLaw Idle false 36 (tested_if true)
     test_tick inv runs safe =
         with_model Idle false 36 (tested_if true)
         (sym (ap (λ b. keyed (image_keys bytes) false changed down (layers_of f)

@@ -10,6 +10,8 @@ use Rattle.std.proofs.Common.{◌&&◌, bit_or, Some, None}
 use Rattle.law_fw_keys.proofs.Enter.{Entered}
 use Rattle.law_fw_keys.proofs.Enter2.{again}
 use Rattle.law_fw_keys.proofs.Patch.{self}
+use Rattle.fw_kernel.specs.Tables.{codes_at}
+use Rattle.fw_kernel.specs.declared.cells.TheConstants.{R1, R2, COUNT, TEST, MODE, DISABLED, RINDEX, RATE, RCOUNT}
 use Rattle.fw_kernel.specs.Places.{HasKernel, is_table}
 use Rattle.fw_kernel.specs.declared.labels.TheConstants.{AGAIN, SETTLE, REPEAT, SCAN}
 use Rattle.law_fw_keys.proofs.Block.{Ends, Safe}
@@ -66,9 +68,9 @@ no_table : (b : ℕ) → b < 256 → is_table (978 + b % 32) ≡ false
 no_table = tests_by 256 (λ b. is_table (978 + b % 32)) (λ b. false) refl
 
 -- a read from the kernel's table of periods gives the model's period
-pub period_read : (bytes : List ℕ) → HasKernel bytes → (b : ℕ) → b < 256 → slice_index bytes (768 + (210 + b % 32))
+pub period_read : (bytes : List ℕ) → HasKernel bytes → (b : ℕ) → b < 256 → slice_index bytes (codes_at + (210 + b % 32))
     ≡ period b
-period_read bytes hk b l = let e : 768 + (210 + b % 32) ≡ 978 + b % 32 = omega arith in
+period_read bytes hk b l = let e : codes_at + (210 + b % 32) ≡ 978 + b % 32 = omega arith in
     rw e (hk (978 + b % 32) (no_table b l) ∙ sym (byte_is (978 + b % 32) (omega arith)) ∙ period_in b l)
 
 -- the key at an index, with a count
@@ -105,101 +107,101 @@ module _ (d : Board) (bytes : List ℕ) (hk : HasKernel bytes) (small : All IsBy
   abbrev RepeatLaw : ℕ → Cpu → (ℕ → ℕ) → List ℕ → d.State → Bool → Type 0
   RepeatLaw x m f ring board inhibited =
       Leads d (kernel_in true bytes) x (begin_at d REPEAT f ring m board)
-      (Ends d x m board SETTLE 45 (AfterStep (repeated (repeat_of (f 74) (f 72)) (image_keys bytes) inhibited) f ring))
+      (Ends d x m board SETTLE 45 (AfterStep (repeated (repeat_of (f RCOUNT) (f RINDEX)) (image_keys bytes) inhibited) f ring))
 
-  repeat_by : (b0 b1 b2 : Bool) (x : ℕ) (m : Cpu) (board : d.State) (f : ℕ → ℕ) (ring : List ℕ) → f 66 % 128 ≤ 16
-      → Safe m REPEAT f ring → (f 74 == 0) ≡ b0 → (f 74 == 1) ≡ b1 → m.f1 ≡ b2 → RepeatLaw x m f ring board b2
+  repeat_by : (b0 b1 b2 : Bool) (x : ℕ) (m : Cpu) (board : d.State) (f : ℕ → ℕ) (ring : List ℕ) → f COUNT % 128 ≤ 16
+      → Safe m REPEAT f ring → (f RCOUNT == 0) ≡ b0 → (f RCOUNT == 1) ≡ b1 → m.f1 ≡ b2 → RepeatLaw x m f ring board b2
   repeat_by true b1 b2 x m board f ring most safe e0 e1 e2 =
-      let p : Patch = record (self f) { r1 = 74 } in
+      let p : Patch = record (self f) { r1 = RCOUNT } in
       relax d (kernel_in true bytes) (has_rows true bytes hk) small low x m board SETTLE 7 45
-      (AfterStep (repeated (repeat_of (f 74) (f 72)) (image_keys bytes) b2) f ring)
-      (AfterStep (repeated (repeat_of (f 74) (f 72)) (image_keys bytes) b2) f ring) (begin_at d REPEAT f ring m board)
+      (AfterStep (repeated (repeat_of (f RCOUNT) (f RINDEX)) (image_keys bytes) b2) f ring)
+      (AfterStep (repeated (repeat_of (f RCOUNT) (f RINDEX)) (image_keys bytes) b2) f ring) (begin_at d REPEAT f ring m board)
       (omega arith) (λ a g rg h. h)
       (leaf d (kernel_in true bytes) (has_rows true bytes hk) small low
-      (AfterStep (repeated (repeat_of (f 74) (f 72)) (image_keys bytes) b2) f ring)
-      (Until 620 ∷ Go true ∷ Until SETTLE ∷ []) REPEAT SETTLE 7 (over f p) ring x m m board f ring safe.0
+      (AfterStep (repeated (repeat_of (f RCOUNT) (f RINDEX)) (image_keys bytes) b2) f ring)
+      (Go true ∷ Until SETTLE ∷ []) REPEAT SETTLE 7 (over f p) ring x m m board f ring safe.0
       (λ a. record { p = p; is = record { now = refl; kbd = rw e0 refl; most = most; more = omega arith } })
       (e0, (refl, refl, refl)))
   repeat_by false false b2 x m board f ring most safe e0 e1 e2 =
       let h = bytes_of m REPEAT f ring safe in
-      let p : Patch = record (self f) { r1 = 74; left = (f 74 + 255) % 256 } in
+      let p : Patch = record (self f) { r1 = RCOUNT; left = (f RCOUNT + 255) % 256 } in
       relax d (kernel_in true bytes) (has_rows true bytes hk) small low x m board SETTLE 11 45
-      (AfterStep (repeated (repeat_of (f 74) (f 72)) (image_keys bytes) b2) f ring)
-      (AfterStep (repeated (repeat_of (f 74) (f 72)) (image_keys bytes) b2) f ring) (begin_at d REPEAT f ring m board)
+      (AfterStep (repeated (repeat_of (f RCOUNT) (f RINDEX)) (image_keys bytes) b2) f ring)
+      (AfterStep (repeated (repeat_of (f RCOUNT) (f RINDEX)) (image_keys bytes) b2) f ring) (begin_at d REPEAT f ring m board)
       (omega arith) (λ a g rg h. h)
       (leaf d (kernel_in true bytes) (has_rows true bytes hk) small low
-      (AfterStep (repeated (repeat_of (f 74) (f 72)) (image_keys bytes) b2) f ring)
-      (Until 620 ∷ Go false ∷ Until 624 ∷ Go true ∷ Until SETTLE ∷ []) REPEAT SETTLE 11 (over f p) ring x m m board f ring
+      (AfterStep (repeated (repeat_of (f RCOUNT) (f RINDEX)) (image_keys bytes) b2) f ring)
+      (Go false ∷ Go true ∷ Until SETTLE ∷ []) REPEAT SETTLE 11 (over f p) ring x m m board f ring
       safe.0
       (λ a. record {
         p = p;
         is = record {
           now = refl;
           kbd = ap (λ t. record (kbd_of held f ring) { repeats = t })
-              (some_count (f 72) (f 74) (h.cell 74 (omega arith)) e0 e1) ∙ rw (e0, e1) refl;
+              (some_count (f RINDEX) (f RCOUNT) (h.cell RCOUNT (omega arith)) e0 e1) ∙ rw (e0, e1) refl;
           most = most;
           more = omega arith;
         };
       })
-      (e0, (ap not (last_count (f 74) (h.cell 74 (omega arith)) ∙ e1), (refl, refl, refl))))
+      (e0, (ap not (last_count (f RCOUNT) (h.cell RCOUNT (omega arith)) ∙ e1), (refl, refl, refl))))
   repeat_by false true true x m board f ring most safe e0 e1 e2 =
       let h = bytes_of m REPEAT f ring safe in
-      let p : Patch = record (self f) { r1 = 74; left = period (f 73) } in
+      let p : Patch = record (self f) { r1 = RCOUNT; left = period (f RATE) } in
       relax d (kernel_in true bytes) (has_rows true bytes hk) small low x m board SETTLE 24 45
-      (AfterStep (repeated (repeat_of (f 74) (f 72)) (image_keys bytes) true) f ring)
-      (AfterStep (repeated (repeat_of (f 74) (f 72)) (image_keys bytes) true) f ring) (begin_at d REPEAT f ring m board)
+      (AfterStep (repeated (repeat_of (f RCOUNT) (f RINDEX)) (image_keys bytes) true) f ring)
+      (AfterStep (repeated (repeat_of (f RCOUNT) (f RINDEX)) (image_keys bytes) true) f ring) (begin_at d REPEAT f ring m board)
       (omega arith) (λ a g rg h. h)
       (leaf d (kernel_in true bytes) (has_rows true bytes hk) small low
-      (AfterStep (repeated (repeat_of (f 74) (f 72)) (image_keys bytes) true) f ring)
-      (Until 620 ∷ Go false ∷ Until 624 ∷ Go false ∷ Until 633 ∷ Acc (210 + f 73 % 32) ∷ Run 1 ∷ Acc
-      (period (f 73)) ∷ Until 636 ∷ Go true ∷ Until SETTLE ∷ []) REPEAT SETTLE 24 (over f p) ring x m m board f ring
+      (AfterStep (repeated (repeat_of (f RCOUNT) (f RINDEX)) (image_keys bytes) true) f ring)
+      (Go false ∷ Go false ∷ Run 4 ∷ Acc (210 + f RATE % 32) ∷ Run 1 ∷ Acc (period (f RATE)) ∷ Go true
+      ∷ Until SETTLE ∷ []) REPEAT SETTLE 24 (over f p) ring x m m board f ring
       safe.0
       (λ a. record {
         p = p;
         is = record {
           now = refl;
           kbd = ap (λ t. record (kbd_of held f ring) { repeats = t })
-              (some_period (f 72) (f 73) (h.cell 73 (omega arith))) ∙ rw (e0, e1) refl;
+              (some_period (f RINDEX) (f RATE) (h.cell RATE (omega arith))) ∙ rw (e0, e1) refl;
           most = most;
           more = omega arith;
         };
       }) (
         e0,
         (
-          ap not (last_count (f 74) (h.cell 74 (omega arith)) ∙ e1),
+          ap not (last_count (f RCOUNT) (h.cell RCOUNT (omega arith)) ∙ e1),
           (
-            period_place (f 73) (h.cell 73 (omega arith)),
-            (period_read bytes hk (f 73) (h.cell 73 (omega arith)), (e2, (refl, refl, refl))),
+            period_place (f RATE) (h.cell RATE (omega arith)),
+            (period_read bytes hk (f RATE) (h.cell RATE (omega arith)), (e2, (refl, refl, refl))),
           ),
         ),
       ))
   repeat_by false true false x m board f ring most safe e0 e1 e2 =
       let h = bytes_of m REPEAT f ring safe in
-      let code : ℕ = slice_index bytes (768 + f 72) in
-      let g1 : ℕ → ℕ = put (put (put f 74 (period (f 73))) 25 72) 26 code in
+      let code : ℕ = slice_index bytes (codes_at + f RINDEX) in
+      let g1 : ℕ → ℕ = put (put (put f RCOUNT (period (f RATE))) R1 RINDEX) R2 code in
       seq_just d (kernel_in true bytes) (has_rows true bytes hk) small low x m board AGAIN 28 SETTLE 17 g1 ring
-      (AfterStep (repeated (repeat_of (f 74) (f 72)) (image_keys bytes) false) f ring)
+      (AfterStep (repeated (repeat_of (f RCOUNT) (f RINDEX)) (image_keys bytes) false) f ring)
       (begin_at d REPEAT f ring m board) safe.1
       (leaf d (kernel_in true bytes) (has_rows true bytes hk) small low (Just g1 ring)
-      (Until 620 ∷ Go false ∷ Until 624 ∷ Go false ∷ Until 633 ∷ Acc (210 + f 73 % 32) ∷ Run 1 ∷ Acc
-      (period (f 73)) ∷ Until 636 ∷ Go false ∷ Until AGAIN ∷ []) REPEAT AGAIN 28 g1 ring x m m board f ring safe.0
+      (Go false ∷ Go false ∷ Run 4 ∷ Acc (210 + f RATE % 32) ∷ Run 1 ∷ Acc (period (f RATE)) ∷ Go false
+      ∷ Until AGAIN ∷ []) REPEAT AGAIN 28 g1 ring x m m board f ring safe.0
       (λ a. (refl, refl)) (
         e0,
         (
-          ap not (last_count (f 74) (h.cell 74 (omega arith)) ∙ e1),
+          ap not (last_count (f RCOUNT) (h.cell RCOUNT (omega arith)) ∙ e1),
           (
-            period_place (f 73) (h.cell 73 (omega arith)),
-            (period_read bytes hk (f 73) (h.cell 73 (omega arith)), (e2, (refl, refl, refl))),
+            period_place (f RATE) (h.cell RATE (omega arith)),
+            (period_read bytes hk (f RATE) (h.cell RATE (omega arith)), (e2, (refl, refl, refl))),
           ),
         ),
       ))
       (λ x1 m1 board1 same1 safe1.
       recast d (kernel_in true bytes) (has_rows true bytes hk) small low x1 m1 board1 SETTLE 17 17
       (λ a. Entered (code ∷ []) g1 ring)
-      (AfterStep (repeated (repeat_of (f 74) (f 72)) (image_keys bytes) false) f ring)
+      (AfterStep (repeated (repeat_of (f RCOUNT) (f RINDEX)) (image_keys bytes) false) f ring)
       (begin_at d AGAIN g1 ring m1 board1) (omega arith)
       (λ a g rg q. let p : Patch = record (self
-      f) { r1 = q.pointer; r2 = code; count = q.count; left = period (f 73) } in record {
+      f) { r1 = q.pointer; r2 = code; count = q.count; left = period (f RATE) } in record {
         cells = over f p;
         same = ap (λ t. memory t rg) q.now;
         facts = record {
@@ -210,11 +212,11 @@ module _ (d : Board) (bytes : List ℕ) (hk : HasKernel bytes) (small : All IsBy
                 ∙ ap (λ t. record (kbd_of held f ring) {
                   queue = enter (code ∷ []) (queue_of f ring);
                   repeats = t;
-                }) (some_period (f 72) (f 73) (h.cell 73 (omega arith)))
+                }) (some_period (f RINDEX) (f RATE) (h.cell RATE (omega arith)))
                 ∙ ap (λ c. record (kbd_of held f ring) {
                   queue = enter (c ∷ []) (queue_of f ring);
-                  repeats = counting (f 72) (period (f 73));
-                }) (sym (code_of_index bytes (f 72) (is_upper (f 72)) refl)) ∙ rw (e0, e1) refl;
+                  repeats = counting (f RINDEX) (period (f RATE));
+                }) (sym (code_of_index bytes (f RINDEX) (is_upper (f RINDEX)) refl)) ∙ rw (e0, e1) refl;
             most = q.most;
             more = q.more;
           };
@@ -223,20 +225,20 @@ module _ (d : Board) (bytes : List ℕ) (hk : HasKernel bytes) (small : All IsBy
       (again d bytes hk small low held x1 m1 board1 g1 ring safe1 most))
 
   -- step 4 finds whether scanning is on, and does with the key that repeats what the model does
-  pub step4_law : (b : Bool) (x : ℕ) (m : Cpu) (board : d.State) (f : ℕ → ℕ) (ring : List ℕ) → f 66 % 128 ≤ 16
+  pub step4_law : (b : Bool) (x : ℕ) (m : Cpu) (board : d.State) (f : ℕ → ℕ) (ring : List ℕ) → f COUNT % 128 ≤ 16
       → Safe m SCAN f ring → is_scanning (kbd_of held f ring) ≡ b
       → Leads d (kernel_in true bytes) x (begin_at d SCAN f ring m board)
       (Ends d x (record m { f0 = b }) board SETTLE 56 (AfterStep (repeating (image_keys bytes) m.f1) f ring))
   step4_law false x m board f ring most safe is =
       let h = bytes_of m SCAN f ring safe in
-      let p : Patch = record (self f) { r1 = 74; left = 0 } in
-      let la = h.cell 69 (omega arith) in
-      let lb = h.cell 70 (omega arith) in
+      let p : Patch = record (self f) { r1 = RCOUNT; left = 0 } in
+      let la = h.cell TEST (omega arith) in
+      let lb = h.cell MODE (omega arith) in
       relax d (kernel_in true bytes) (has_rows true bytes hk) small low x (record m { f0 = false }) board SETTLE 16 56
       (AfterStep (repeating (image_keys bytes) m.f1) f ring) (AfterStep (repeating (image_keys bytes) m.f1) f ring)
       (begin_at d SCAN f ring m board) (omega arith) (λ a g rg h. h)
       (leaf d (kernel_in true bytes) (has_rows true bytes hk) small low
-      (AfterStep (repeating (image_keys bytes) m.f1) f ring) (Until 608 ∷ Go false ∷ Until SETTLE ∷ []) SCAN SETTLE 16
+      (AfterStep (repeating (image_keys bytes) m.f1) f ring) (Go false ∷ Until SETTLE ∷ []) SCAN SETTLE 16
       (over f p) ring x m (record m { f0 = false }) board f ring safe.0
       (λ a. record {
         p = p;
@@ -247,25 +249,25 @@ module _ (d : Board) (bytes : List ℕ) (hk : HasKernel bytes) (small : All IsBy
           more = omega arith;
         };
       }) (
-        scan_test (f 69) (f 70) (f 71) la lb (h.cell 71 (omega arith)) (or_small (f 69) (f 70) la lb) ∙ is,
+        scan_test (f TEST) (f MODE) (f DISABLED) la lb (h.cell DISABLED (omega arith)) (or_small (f TEST) (f MODE) la lb) ∙ is,
         (refl, refl, refl),
       ))
   step4_law true x m board f ring most safe is =
       let h = bytes_of m SCAN f ring safe in
-      let la = h.cell 69 (omega arith) in
-      let lb = h.cell 70 (omega arith) in
-      let g1 : ℕ → ℕ = put f 25 71 in
+      let la = h.cell TEST (omega arith) in
+      let lb = h.cell MODE (omega arith) in
+      let g1 : ℕ → ℕ = put f R1 DISABLED in
       let n : Cpu = record m { f0 = true } in
       seq_just d (kernel_in true bytes) (has_rows true bytes hk) small low x n board REPEAT 11 SETTLE 45 g1 ring
       (AfterStep (repeating (image_keys bytes) m.f1) f ring) (begin_at d SCAN f ring m board) safe.1
       (leaf d (kernel_in true bytes) (has_rows true bytes hk) small low (Just g1 ring)
-      (Until 608 ∷ Go true ∷ Until REPEAT ∷ []) SCAN REPEAT 11 g1 ring x m n board f ring safe.0 (λ a. (refl, refl)) (
-        scan_test (f 69) (f 70) (f 71) la lb (h.cell 71 (omega arith)) (or_small (f 69) (f 70) la lb) ∙ is,
+      (Go true ∷ Until REPEAT ∷ []) SCAN REPEAT 11 g1 ring x m n board f ring safe.0 (λ a. (refl, refl)) (
+        scan_test (f TEST) (f MODE) (f DISABLED) la lb (h.cell DISABLED (omega arith)) (or_small (f TEST) (f MODE) la lb) ∙ is,
         (refl, refl, refl),
       ))
       (λ x1 m1 board1 same1 safe1.
       recast d (kernel_in true bytes) (has_rows true bytes hk) small low x1 m1 board1 SETTLE 45 45
-      (AfterStep (repeated (repeat_of (f 74) (f 72)) (image_keys bytes) m.f1) g1 ring)
+      (AfterStep (repeated (repeat_of (f RCOUNT) (f RINDEX)) (image_keys bytes) m.f1) g1 ring)
       (AfterStep (repeating (image_keys bytes) m.f1) f ring) (begin_at d REPEAT g1 ring m1 board1) (omega arith)
       (λ a g rg q. record {
         cells = over f q.p;
@@ -280,4 +282,4 @@ module _ (d : Board) (bytes : List ℕ) (hk : HasKernel bytes) (small : All IsBy
           };
         };
       })
-      (repeat_by (f 74 == 0) (f 74 == 1) m.f1 x1 m1 board1 g1 ring most safe1 refl refl (ap (λ k. k.f1) same1)))
+      (repeat_by (f RCOUNT == 0) (f RCOUNT == 1) m.f1 x1 m1 board1 g1 ring most safe1 refl refl (ap (λ k. k.f1) same1)))

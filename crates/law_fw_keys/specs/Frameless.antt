@@ -5,6 +5,8 @@ use Rattle.std.specs.declared.option.Option.{Option}
 use Rattle.mcs48_core.specs.declared.levels.Pins.{Pins}
 use Rattle.mcs48_core.specs.Cpu.{Cpu}
 use Rattle.mcs48_core.specs.Step.{takes_timer}
+use Rattle.fw_kernel.specs.Tables.{rate_at}
+use Rattle.fw_kernel.specs.declared.cells.TheConstants.{HELD, PENDING}
 use Rattle.fw_kernel.specs.declared.labels.TheConstants.{TICK}
 use Rattle.fw_kernel.specs.Places.{HasKernel}
 use Rattle.joint_run.specs.Run.{Board, World}
@@ -60,7 +62,7 @@ pub record IsStarted (m : Cpu) : Type 0 where
 
 -- the keys that a column shows otherwise than held
 abbrev pub differing_now : (d : Board) → World d.State → ℕ → ℕ
-differing_now d w c = bit_xor (slice_index w.cpu.ram (32 + c)) (column_read d w c)
+differing_now d w c = bit_xor (slice_index w.cpu.ram (HELD + c)) (column_read d w c)
 
 -- those of them that change: all, or with a debounce those that the last reading showed so too
 abbrev pub changed_by : Bool → ℕ → ℕ → ℕ
@@ -68,7 +70,7 @@ changed_by false pending differing = differing
 changed_by true pending differing = bit_and differing pending
 
 abbrev pub changed_now : List ℕ → (d : Board) → World d.State → ℕ → ℕ
-changed_now bytes d w c = changed_by (debounces bytes) (slice_index w.cpu.ram (96 + c)) (differing_now d w c)
+changed_now bytes d w c = changed_by (debounces bytes) (slice_index w.cpu.ram (PENDING + c)) (differing_now d w c)
 
 -- and the edges that they are
 abbrev pub edges_now : List ℕ → (d : Board) → World d.State → List (ℕ × Bool)
@@ -134,7 +136,7 @@ FramelessLaw = (bytes : List ℕ) → HasKernel bytes → IsSilentAlike bytes �
 -- light is lit
 pub record FromPowerOn (bytes : List ℕ) (m : Cpu) : Type 0 where
   pub started : IsStarted m
-  pub keyboard : shown_by m.ram ≡ at_power_on (slice_index bytes 864)
+  pub keyboard : shown_by m.ram ≡ at_power_on (slice_index bytes rate_at)
   pub layers : layers_by m.ram ≡ no_layers
   pub read : read_by bytes m.ram ≡ all_up
   pub latch : m.p2 ≡ 255

@@ -2,7 +2,7 @@
 use Rattle.std.specs.Prelude.{◌≡◌, ◌≤◌, ◌<◌, ℕ, ◌+◌, Bool, true, false, List, All, drop, slice_index, slice_index_or}
 use Rattle.std.specs.Prelude.{bit_and, bit_xor}
 use Rattle.bits.specs.Bits.{bit}
-use Rattle.fw_kernel.specs.declared.cells.TheConstants.{HELD, REPLYDUE, HEAD, STARTED}
+use Rattle.fw_kernel.specs.declared.cells.TheConstants.{HELD, REPLYDUE, HEAD, STARTED, CHANGED}
 use Rattle.fw_kernel.specs.declared.labels.TheConstants.{TICK, DROP, SCAN}
 use Rattle.fw_kernel.specs.Places.{HasKernel}
 use Rattle.fw_kernel.specs.Tables.{fn_place_at}
@@ -26,7 +26,7 @@ started_queue f ring = queue_by (bit_and (f STARTED) 1) (f HEAD) (bit_and (f STA
 -- the keys that were held before this tick's edges: what the columns showed, by HELD, but for what has changed, by the
 -- cells 30 to 3B (hexadecimal)
 abbrev pub held_before : (ℕ → ℕ) → List Bool
-held_before f = held_by (λ c. bit_xor (f (HELD + c)) (f (48 + c)))
+held_before f = held_by (λ c. bit_xor (f (HELD + c)) (f (CHANGED + c)))
 
 -- the reset: memory shows a keyboard of the model, in which all is as a reset makes it; the Fn key is down if its place
 -- was held; the layers of the last presses stay

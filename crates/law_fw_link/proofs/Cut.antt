@@ -5,6 +5,7 @@ use Rattle.std.proofs.Common.{bit_and, bit_or, refl, ap, sym, ◌∙◌, subst, 
 use Rattle.std.proofs.lemmas.Bool.Decides.{nat_tests}
 use Rattle.mcs48_core.specs.Cpu.{Cpu}
 use Rattle.mcs48_core.specs.Status.{digit}
+use Rattle.fw_kernel.specs.declared.cells.TheConstants.{R0, R1, R2, R3, R4, R5, R6}
 use Rattle.fw_kernel.specs.Places.{HasKernel}
 use Rattle.fw_kernel.specs.declared.labels.TheConstants.{SEND, S_CELL, S_STOP, SCAN}
 use Rattle.law_fw_logic.proofs.Block.{memory, put, scratched, begin_at, At}
@@ -34,7 +35,7 @@ as_cut v byte look i = let a : nat_lt (look + 2 + i) (look + 2) ≡ false = grin
 
 -- the cell, the cells left and R0 where a frame is cut at a look
 abbrev pub left_at_cut : (f : ℕ → ℕ) (byte look : ℕ) → IsLook look → ℕ × ℕ × ℕ
-left_at_cut f byte look (inl first) = (0, 10, f 24)
+left_at_cut f byte look (inl first) = (0, 10, f R0)
 left_at_cut f byte look (inr (inl second)) = (0, 10, in_quarters byte)
 left_at_cut f byte look (inr (inr (k, few, inl here))) = (suc k, 10 - k, in_quarters byte)
 left_at_cut f byte look (inr (inr (k, few, inr here))) = (suc k, 9 - k, in_quarters byte)
@@ -72,21 +73,21 @@ module _ (d : Board) (bytes : List ℕ) (has : HasKernel bytes) (x : ℕ) (m : C
   Cut look left e =
       At d m SCAN (sending f v byte left.0 left.1 left.2) ring (cut_after look) (cut_board look (cut_after look)) e
 
-  module _ (free : IsFree m) (out : m.p2 ≡ v) (data_low : f 26 ≡ bit_and v 253) (whole : f 30 ≡ byte) (is : f 28 ≡ byte)
-      (some : (f 29 == 0) ≡ false) where
+  module _ (free : IsFree m) (out : m.p2 ≡ v) (data_low : f R2 ≡ bit_and v 253) (whole : f R6 ≡ byte) (is : f R4 ≡ byte)
+      (some : (f R5 == 0) ≡ false) where
     -- at the first look
-    cut_before : is_high 8 ≡ false → Leads d (kernel_in true bytes) x (begin_at d SEND f ring m board) (Cut 8 (0, 10, f 24))
+    cut_before : is_high 8 ≡ false → Leads d (kernel_in true bytes) x (begin_at d SEND f ring m board) (Cut 8 (0, 10, f R0))
     cut_before low =
         let u = bit_or m.p2 3 in
         let again : u ≡ v = ap (λ w. bit_or w 3) (out ∙ sym (both_high v released)) ∙ releases true v released in
-        let g = put (put f 25 (f 26)) 27 10 in
-        let cells : memory g ring ≡ memory (sending f v byte 0 10 (f 24)) ring =
-        ap (λ r. memory (put (put (put (put (put f 25 (f 26)) 26 (f 26)) 27 10) 30 r) 24 (f 24)) ring) whole
-        ∙ ap (λ r. memory (put (put (put (put (put f 25 r) 26 r) 27 10) 30 byte) 24 (f 24)) ring) data_low in
+        let g = put (put f R1 (f R2)) R3 10 in
+        let cells : memory g ring ≡ memory (sending f v byte 0 10 (f R0)) ring =
+        ap (λ r. memory (put (put (put (put (put f R1 (f R2)) R2 (f R2)) R3 10) R6 r) R0 (f R0)) ring) whole
+        ∙ ap (λ r. memory (put (put (put (put (put f R1 r) R2 r) R3 10) R6 byte) R0 (f R0)) ring) data_low in
         weaken d (kernel_in true bytes) (has_rows true bytes has) x
         (At d (record m { p2 = u }) SCAN g ring 14
         (after_cycles 4 10 (λ o. d.cycle u (x + o)) (after_cycles 10 0 (λ o. d.cycle m.p2 (x + o)) board)))
-        (Cut 8 (0, 10, f 24)) (begin_at d SEND f ring m board)
+        (Cut 8 (0, 10, f R0)) (begin_at d SEND f ring m board)
         (λ e a. record {
           cpu = a.cpu ∙ ap (λ w. scratched (record m { p2 = w }) SCAN (memory g ring) e.cpu) (again ∙ sym out)
               ∙ ap (λ r. scratched m SCAN r e.cpu) cells;
@@ -101,10 +102,10 @@ module _ (d : Board) (bytes : List ℕ) (has : HasKernel bytes) (x : ℕ) (m : C
     cut_at_fall : is_high 8 ≡ true → is_high 26 ≡ false
         → Leads d (kernel_in true bytes) x (begin_at d SEND f ring m board) (Cut 26 (0, 10, in_quarters byte))
     cut_at_fall high low =
-        let u = bit_or (f 26) 3 in
+        let u = bit_or (f R2) 3 in
         let again : u ≡ v = ap (λ w. bit_or w 3) data_low ∙ releases false v released in
         let g = readied d bytes has x m board f ring in
-        let less : f 28 < 256 = subst (λ b. b < 256) (sym is) small in
+        let less : f R4 < 256 = subst (λ b. b < 256) (sym is) small in
         weaken d (kernel_in true bytes) (has_rows true bytes has) x
         (At d (record m { p2 = u }) SCAN g ring 32
         (after_cycles 4 28 (λ o. d.cycle u (x + o)) (board_started d bytes has x m board f ring 18)))
@@ -164,7 +165,7 @@ module _ (d : Board) (bytes : List ℕ) (has : HasKernel bytes) (x : ℕ) (m : C
         ∙ ap (λ (z : Cpu). scratched (record z { p2 = u }) SCAN
         (memory (half_turned d bytes has (x + t.off) t.cpu t.board g ring next) ring) e.cpu) q.cpu
         ∙ ap (λ z. scratched (record m { p2 = u }) SCAN
-        (memory (put (put g 30 (128 * digit z + left_at byte q.k / 2)) 25 next) ring) e.cpu) q.carry
+        (memory (put (put g R6 (128 * digit z + left_at byte q.k / 2)) R1 next) ring) e.cpu) q.carry
         ∙ ap (λ z. scratched (record m { p2 = z }) SCAN (memory (sending f v byte (suc q.k) (suc n) (in_quarters byte)) ring) e.cpu)
         (again ∙ sym out)
         ∙ ap (λ i. scratched m SCAN (memory (sending f v byte (suc i) (suc n) (in_quarters byte)) ring) e.cpu) same
@@ -244,7 +245,7 @@ module _ (d : Board) (bytes : List ℕ) (has : HasKernel bytes) (x : ℕ) (m : C
         put2 refl refl q.board_now ∙ ap (λ i. is_high (56 + 32 * i)) is ∙ low))
 
   -- the looks before one show the clock high, and it shows it low
-  pub cut_frame : IsFree m → m.p2 ≡ v → f 26 ≡ bit_and v 253 → f 30 ≡ byte → f 28 ≡ byte → (f 29 == 0) ≡ false
+  pub cut_frame : IsFree m → m.p2 ≡ v → f R2 ≡ bit_and v 253 → f R6 ≡ byte → f R4 ≡ byte → (f R5 == 0) ≡ false
       → (look : ℕ) (is : IsLook look) → ((earlier : ℕ) → IsLook earlier → earlier < look → is_high earlier ≡ true)
       → is_high look ≡ false
       → Leads d (kernel_in true bytes) x (begin_at d SEND f ring m board) (Cut look (left_at_cut f byte look is))
@@ -272,7 +273,7 @@ module _ (d : Board) (bytes : List ℕ) (has : HasKernel bytes) (x : ℕ) (m : C
       by : (here : IsLook look)
           → Leads d (kernel_in true bytes) x (begin_at d SEND f ring m board) (Cut look (left_at_cut f byte look here))
       by (inl e) =
-          subst (λ o. Leads d (kernel_in true bytes) x (begin_at d SEND f ring m board) (Cut o (0, 10, f 24))) (sym e)
+          subst (λ o. Leads d (kernel_in true bytes) x (begin_at d SEND f ring m board) (Cut o (0, 10, f R0))) (sym e)
           (cut_before free out data_low whole is some (ap is_high (sym e) ∙ low))
       by (inr (inl e)) =
           subst (λ o. Leads d (kernel_in true bytes) x (begin_at d SEND f ring m board) (Cut o (0, 10, in_quarters byte))) (sym e)

@@ -5,6 +5,7 @@ use Rattle.mcs48_core.specs.Cpu.{Cpu}
 use Rattle.bits.specs.Bits.{bit}
 use Rattle.mcs48_core.specs.Status.{digit}
 use Rattle.board_terms.specs.Frame.{parity_of}
+use Rattle.fw_kernel.specs.declared.cells.TheConstants.{R0, R1, R2, R3, R4, R5}
 use Rattle.fw_kernel.specs.Places.{HasKernel}
 use Rattle.fw_kernel.specs.declared.labels.TheConstants.{SEND, S_CELL, S_STOP, SENT, SCAN}
 use Rattle.law_fw_logic.proofs.Block.{memory, put, scratched, begin_at, At}
@@ -43,69 +44,69 @@ module _ (d : Board) (bytes : List ℕ) (has : HasKernel bytes) (y : ℕ) (m : C
     (ring : List ℕ) where
   -- the registers of a sent frame at its first cell; R2 is the latch with data low
   abbrev pub readied : ℕ → ℕ
-  readied = put (put (put f 24 (in_quarters (f 28))) 25 (f 26)) 27 10
+  readied = put (put (put f R0 (in_quarters (f R4))) R1 (f R2)) R3 10
 
   abbrev pub lit_low : Cpu
-  lit_low = record m { p2 = f 26 }
+  lit_low = record m { p2 = f R2 }
 
   -- the board so many cycles after the start bit
   abbrev pub board_started : ℕ → d.State
-  board_started n = after_cycles n 10 (λ o. d.cycle (f 26) (y + o)) (after_cycles 10 0 (λ o. d.cycle m.p2 (y + o)) board)
+  board_started n = after_cycles n 10 (λ o. d.cycle (f R2) (y + o)) (after_cycles 10 0 (λ o. d.cycle m.p2 (y + o)) board)
 
   -- the clock wire at the looks before the first fall: before the start bit is put, and 2 cycles before the fall
   abbrev pub clock_first : Bool
   clock_first = (d.pins m.p1 m.p2 (y + 8) (after_cycles 8 0 (λ o. d.cycle m.p2 (y + o)) board)).t0
 
   abbrev pub clock_second : Bool
-  clock_second = (d.pins m.p1 (f 26) (y + 26) (board_started 16)).t0
+  clock_second = (d.pins m.p1 (f R2) (y + 26) (board_started 16)).t0
 
   abbrev pub Readied : Stage d.State → Type 0
   Readied e =
-      (e.cpu ≡ scratched lit_low S_CELL (memory readied ring) e.cpu) × (e.cpu.c ≡ parity_of (f 28)) × (e.off ≡ 28)
+      (e.cpu ≡ scratched lit_low S_CELL (memory readied ring) e.cpu) × (e.cpu.c ≡ parity_of (f R4)) × (e.off ≡ 28)
       × (e.board ≡ board_started 18)
 
   abbrev ByBit : Stage d.State → Type 0
   ByBit e =
       (e.cpu ≡ scratched lit_low S_CELL (memory readied ring) e.cpu) ×
-      (e.cpu.c ≡ bit 0 (255 * digit (parity_of (f 28))))
+      (e.cpu.c ≡ bit 0 (255 * digit (parity_of (f R4))))
       × (e.off ≡ 28) × (e.board ≡ board_started 18)
 
   -- 28 cycles in which the parity is made; data falls in the tenth, and the clock is high at both looks
-  pub readies : IsFree m → f 28 < 256 → (f 29 == 0) ≡ false → clock_first ≡ true → clock_second ≡ true
+  pub readies : IsFree m → f R4 < 256 → (f R5 == 0) ≡ false → clock_first ≡ true → clock_second ≡ true
       → Leads d (kernel_in true bytes) y (begin_at d SEND f ring m board) Readied
   readies free small some high high' =
       weaken d (kernel_in true bytes) (has_rows true bytes has) y ByBit Readied (begin_at d SEND f ring m board)
-      (λ e h. (h.0, h.1 ∙ lowest (parity_of (f 28)), h.2, h.3))
+      (λ e h. (h.0, h.1 ∙ lowest (parity_of (f R4)), h.2, h.3))
       (sound d (kernel_in true bytes) (has_rows true bytes has) y
-      (Run 1 ∷ Go false ∷ Until 93 ∷ Go false ∷ Until 107 ∷ Acc (255 * digit (parity_of (f 28))) ∷ Until 110 ∷ Go false ∷ [])
+      (Go false ∷ Go false ∷ Run 12 ∷ Acc (255 * digit (parity_of (f R4))) ∷ Go false ∷ [])
       ByBit
       (begin_at d SEND f ring m board)
-      (some, (ap not high, (parity_is (f 28) small, (ap not high', (refl, refl, refl, refl))))) free)
+      (some, (ap not high, (parity_is (f R4) small, (ap not high', (refl, refl, refl, refl))))) free)
 
   -- the clock is low at the first of them: nothing was pulled
-  pub cut_first : IsFree m → (f 29 == 0) ≡ false → clock_first ≡ false
+  pub cut_first : IsFree m → (f R5 == 0) ≡ false → clock_first ≡ false
       → Leads d (kernel_in true bytes) y (begin_at d SEND f ring m board)
-      (At d (record m { p2 = bit_or m.p2 3 }) SCAN (put (put f 25 (f 26)) 27 10) ring 14
+      (At d (record m { p2 = bit_or m.p2 3 }) SCAN (put (put f R1 (f R2)) R3 10) ring 14
       (after_cycles 4 10 (λ o. d.cycle (bit_or m.p2 3) (y + o)) (after_cycles 10 0 (λ o. d.cycle m.p2 (y + o)) board)))
   cut_first free some low =
       straight d (kernel_in true bytes) (has_rows true bytes has)
-      (Run 1 ∷ Go false ∷ Until 93 ∷ Go true ∷ Until SCAN ∷ []) y m SEND SCAN 14 f (put (put f 25 (f 26)) 27 10) ring
+      (Go false ∷ Go true ∷ Until SCAN ∷ []) y m SEND SCAN 14 f (put (put f R1 (f R2)) R3 10) ring
       (record m { p2 = bit_or m.p2 3 }) board
       (after_cycles 4 10 (λ o. d.cycle (bit_or m.p2 3) (y + o)) (after_cycles 10 0 (λ o. d.cycle m.p2 (y + o)) board))
       free (some, (ap not low, (refl, refl, refl)))
 
   -- or at the second: data is let go, and the clock hasn't fallen
-  pub cut_second : IsFree m → f 28 < 256 → (f 29 == 0) ≡ false → clock_first ≡ true → clock_second ≡ false
+  pub cut_second : IsFree m → f R4 < 256 → (f R5 == 0) ≡ false → clock_first ≡ true → clock_second ≡ false
       → Leads d (kernel_in true bytes) y (begin_at d SEND f ring m board)
-      (At d (record m { p2 = bit_or (f 26) 3 }) SCAN readied ring 32
-      (after_cycles 4 28 (λ o. d.cycle (bit_or (f 26) 3) (y + o)) (board_started 18)))
+      (At d (record m { p2 = bit_or (f R2) 3 }) SCAN readied ring 32
+      (after_cycles 4 28 (λ o. d.cycle (bit_or (f R2) 3) (y + o)) (board_started 18)))
   cut_second free small some high low =
       straight d (kernel_in true bytes) (has_rows true bytes has)
-      (Run 1 ∷ Go false ∷ Until 93 ∷ Go false ∷ Until 107 ∷ Acc (255 * digit (parity_of (f 28))) ∷ Until 110 ∷ Go true ∷
-      Until SCAN ∷ []) y m SEND SCAN 32 f readied ring
-      (record m { p2 = bit_or (f 26) 3 }) board
-      (after_cycles 4 28 (λ o. d.cycle (bit_or (f 26) 3) (y + o)) (board_started 18))
-      free (some, (ap not high, (parity_is (f 28) small, (ap not low, (refl, refl, refl)))))
+      (Go false ∷ Go false ∷ Run 12 ∷ Acc (255 * digit (parity_of (f R4))) ∷ Go true
+      ∷ Until SCAN ∷ []) y m SEND SCAN 32 f readied ring
+      (record m { p2 = bit_or (f R2) 3 }) board
+      (after_cycles 4 28 (λ o. d.cycle (bit_or (f R2) 3) (y + o)) (board_started 18))
+      free (some, (ap not high, (parity_is (f R4) small, (ap not low, (refl, refl, refl)))))
 
   -- the eleventh fall: 16 cycles with the clock low, and 4 more
   abbrev pub board_stopped : d.State
@@ -116,8 +117,8 @@ module _ (d : Board) (bytes : List ℕ) (has : HasKernel bytes) (y : ℕ) (m : C
   -- the eleventh fall of a sent frame holds the clock low for 16 cycles, and then the frame is sent
   pub stops : IsFree m
       → Leads d (kernel_in true bytes) y (begin_at d S_STOP f ring m board)
-      (At d (record m { p2 = bit_or (bit_and m.p2 254) 1 }) SENT (put f 24 0) ring 20 board_stopped)
+      (At d (record m { p2 = bit_or (bit_and m.p2 254) 1 }) SENT (put f R0 0) ring 20 board_stopped)
   stops free =
       straight d (kernel_in true bytes) (has_rows true bytes has) (Until SENT ∷ []) y m S_STOP SENT 20 f
-      (put f 24 0) ring
+      (put f R0 0) ring
       (record m { p2 = bit_or (bit_and m.p2 254) 1 }) board board_stopped free (refl, refl, refl)

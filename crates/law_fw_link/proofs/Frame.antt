@@ -4,6 +4,7 @@ use Rattle.std.proofs.Common.{bit_and, bit_or, refl, ap, sym, ◌∙◌, subst, 
 use Rattle.std.proofs.lemmas.Bool.Decides.{nat_tests}
 use Rattle.mcs48_core.specs.Cpu.{Cpu}
 use Rattle.board_terms.specs.Frame.{parity_of}
+use Rattle.fw_kernel.specs.declared.cells.TheConstants.{R0, R1, R2, R3, R4, R5, R6}
 use Rattle.fw_kernel.specs.Places.{HasKernel}
 use Rattle.fw_kernel.specs.declared.labels.TheConstants.{SEND, S_CELL, S_STOP, SENT}
 use Rattle.law_fw_logic.proofs.Block.{memory, put, scratched, begin_at, At}
@@ -34,14 +35,14 @@ start_put v byte i l =
 
 -- the registers at the first cell, in the frame's words
 abbrev first : ℕ → ℕ → ℕ → (ℕ → ℕ) → ℕ → ℕ
-first r2 r6 b f = put (put (put (put (put f 26 r2) 30 r6) 24 (in_quarters b)) 25 r2) 27 10
+first r2 r6 b f = put (put (put (put (put f R2 r2) R6 r6) R0 (in_quarters b)) R1 r2) R3 10
 
 -- at its first cell a sent frame has the byte, the latch and the ten cells that are left in its registers
-pub first_cells : (f : ℕ → ℕ) (ring : List ℕ) (v byte : ℕ) → f 26 ≡ bit_and v 253 → f 30 ≡ byte → f 28 ≡ byte
-    → memory (first (f 26) (f 30) (f 28) f) ring ≡ memory (sending f v byte 0 10 (in_quarters byte)) ring
+pub first_cells : (f : ℕ → ℕ) (ring : List ℕ) (v byte : ℕ) → f R2 ≡ bit_and v 253 → f R6 ≡ byte → f R4 ≡ byte
+    → memory (first (f R2) (f R6) (f R4) f) ring ≡ memory (sending f v byte 0 10 (in_quarters byte)) ring
 first_cells f ring v byte low whole is =
-    ap (λ b. memory (first (f 26) (f 30) b f) ring) is
-    ∙ ap (λ b. memory (first (f 26) b byte f) ring) whole
+    ap (λ b. memory (first (f R2) (f R6) b f) ring) is
+    ∙ ap (λ b. memory (first (f R2) b byte f) ring) whole
     ∙ ap (λ r. memory (first r byte byte f) ring) low
 
 module _ (d : Board) (bytes : List ℕ) (has : HasKernel bytes) (x : ℕ) (m : Cpu) (board : d.State) (f : ℕ → ℕ)
@@ -60,11 +61,11 @@ module _ (d : Board) (bytes : List ℕ) (has : HasKernel bytes) (x : ℕ) (m : C
   to_start out = spans d x (sent_latch v byte) 10 0 x 0 m.p2 board board refl (λ i l. before_start v byte i l ∙ sym out) refl
 
   -- the board up to the first cell is the board under the latch of a sent frame
-  pub from_start : m.p2 ≡ v → f 26 ≡ bit_and v 253 → (n : ℕ) → n ≤ 18
-      → after_cycles n 10 (λ o. d.cycle (f 26) (x + o)) (after_cycles 10 0 (λ o. d.cycle m.p2 (x + o)) board)
+  pub from_start : m.p2 ≡ v → f R2 ≡ bit_and v 253 → (n : ℕ) → n ≤ 18
+      → after_cycles n 10 (λ o. d.cycle (f R2) (x + o)) (after_cycles 10 0 (λ o. d.cycle m.p2 (x + o)) board)
       ≡ at_offset (10 + n)
   from_start out low n few =
-      spans d x (sent_latch v byte) n 10 x 10 (f 26)
+      spans d x (sent_latch v byte) n 10 x 10 (f R2)
       (after_cycles 10 0 (λ o. d.cycle m.p2 (x + o)) board) board refl
       (λ i l. start_put v byte i (omega (arith, l, few)) ∙ sym low) (to_start out)
 
@@ -78,18 +79,18 @@ module _ (d : Board) (bytes : List ℕ) (has : HasKernel bytes) (x : ℕ) (m : C
       ap (λ t. (d.pins m.p1 m.p2 (x + 8) t).t0) at ∙ ap (λ q. (d.pins m.p1 q (x + 8) (at_offset 8)).t0) put
 
   -- the second look before the first fall finds the clock at offset 26 of the frame
-  pub second_is : m.p2 ≡ v → f 26 ≡ bit_and v 253 → clock_second d bytes has x m board f ring ≡ is_high 26
+  pub second_is : m.p2 ≡ v → f R2 ≡ bit_and v 253 → clock_second d bytes has x m board f ring ≡ is_high 26
   second_is out low =
-      let put : f 26 ≡ sent_latch v byte 26 = low ∙ sym (start_put v byte 16 (omega arith)) in
-      ap (λ t. (d.pins m.p1 (f 26) (x + 26) t).t0) (from_start out low 16 (omega arith))
+      let put : f R2 ≡ sent_latch v byte 26 = low ∙ sym (start_put v byte 16 (omega arith)) in
+      ap (λ t. (d.pins m.p1 (f R2) (x + 26) t).t0) (from_start out low 16 (omega arith))
       ∙ ap (λ q. (d.pins m.p1 q (x + 26) (at_offset 26)).t0) put
 
   -- from the look at data to the first cell, where the clock is high at both looks
-  pub begins : IsFree m → m.p2 ≡ v → f 26 ≡ bit_and v 253 → f 30 ≡ byte → f 28 ≡ byte → (f 29 == 0) ≡ false
+  pub begins : IsFree m → m.p2 ≡ v → f R2 ≡ bit_and v 253 → f R6 ≡ byte → f R4 ≡ byte → (f R5 == 0) ≡ false
       → is_high 8 ≡ true → is_high 26 ≡ true
       → Leads d (kernel_in true bytes) x (begin_at d SEND f ring m board) (In 10)
   begins free out data_low whole is some high high' =
-      let low : f 28 < 256 = subst (λ b. b < 256) (sym is) small in
+      let low : f R4 < 256 = subst (λ b. b < 256) (sym is) small in
       weaken d (kernel_in true bytes) (has_rows true bytes has) x (Readied d bytes has x m board f ring) (In 10)
       (begin_at d SEND f ring m board)
       (λ e h. record {
@@ -122,7 +123,7 @@ module _ (d : Board) (bytes : List ℕ) (has : HasKernel bytes) (x : ℕ) (m : C
       one_cell d bytes has x m board f ring v byte released small (i + rest) t p highs.0 highs.1 free) n s h free
 
   -- a frame that isn't cut
-  pub sent_frame : IsFree m → m.p2 ≡ v → f 26 ≡ bit_and v 253 → f 30 ≡ byte → f 28 ≡ byte → (f 29 == 0) ≡ false
+  pub sent_frame : IsFree m → m.p2 ≡ v → f R2 ≡ bit_and v 253 → f R6 ≡ byte → f R4 ≡ byte → (f R5 == 0) ≡ false
       → ((look : ℕ) → IsLook look → is_high look ≡ true)
       → Leads d (kernel_in true bytes) x (begin_at d SEND f ring m board)
       (At d m SENT (sending f v byte 10 0 0) ring 368 (at_offset 368))
@@ -151,15 +152,15 @@ module _ (d : Board) (bytes : List ℕ) (has : HasKernel bytes) (x : ℕ) (m : C
       ∙ ap (λ j. wired v true (frame_bit byte j)) k ∙ both_high v released ∙ sym out in
       from_stage d (kernel_in true bytes) (has_rows true bytes has) x S_STOP
       (record m { p2 = wired v true (frame_bit byte q.k) }) g ring t
-      (At d (record t.cpu { p2 = bit_or (bit_and t.cpu.p2 254) 1 }) SENT (put g 24 0) ring 20
+      (At d (record t.cpu { p2 = bit_or (bit_and t.cpu.p2 254) 1 }) SENT (put g R0 0) ring 20
       (board_stopped d bytes has (x + t.off) t.cpu t.board g ring))
       (At d m SENT (sending f v byte 10 0 0) ring 368 (at_offset 368)) q.cpu
       (λ e a. record {
         cpu =
             a.cpu
             ∙ ap (λ (z : Cpu). scratched (record z { p2 = bit_or (bit_and t.cpu.p2 254) 1 }) SENT
-            (memory (put g 24 0) ring) e.cpu) q.cpu
-            ∙ ap (λ w. scratched (record m { p2 = w }) SENT (memory (put g 24 0) ring) e.cpu) free_again
+            (memory (put g R0 0) ring) e.cpu) q.cpu
+            ∙ ap (λ w. scratched (record m { p2 = w }) SENT (memory (put g R0 0) ring) e.cpu) free_again
             ∙ ap (λ j. scratched m SENT (memory (sending f v byte j 0 0) ring) e.cpu) k;
         off = (let c : e.off ≡ 20 = a.off in omega (arith, c, o, k));
         now =

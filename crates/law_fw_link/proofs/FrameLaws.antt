@@ -7,6 +7,7 @@ use Rattle.board_terms.specs.declared.event.Edge.{Edge}
 use Rattle.board_terms.specs.declared.event.HostEvent.{HostEvent}
 use Rattle.board_terms.specs.declared.lines.Lines.{Lines}
 use Rattle.ctl_wire.specs.Wire.{drive}
+use Rattle.fw_kernel.specs.declared.cells.TheConstants.{R0, R1, R2, R3, R4, R5, R6}
 use Rattle.fw_kernel.specs.Places.{HasKernel}
 use Rattle.fw_kernel.specs.declared.labels.TheConstants.{TICK, SEND, SENT, SCAN, GOT, COMMAND}
 use Rattle.law_fw_logic.proofs.Block.{memory, scratched, begin_at, At}
@@ -51,12 +52,12 @@ none_of_five false false false false true h = absurd cc
 -- cells that a frame leaves alone
 sent_others : (f : ℕ → ℕ) (v byte k n r0 i : ℕ) → is_sending i ≡ false → sending f v byte k n r0 i ≡ f i
 sent_others f v byte k n r0 i out =
-    let h = none_of_five (i == 24) (i == 25) (i == 26) (i == 27) (i == 30) out in
+    let h = none_of_five (i == R0) (i == R1) (i == R2) (i == R3) (i == R6) out in
     rw (h.0, h.1, h.2, h.3, h.4) refl
 
 got_others : (f : ℕ → ℕ) (byte i : ℕ) → is_receiving i ≡ false → got_cells f byte true i ≡ f i
 got_others f byte i out =
-    let h = none_of_five (i == 24) (i == 25) (i == 27) (i == 28) (i == 29) out in
+    let h = none_of_five (i == R0) (i == R1) (i == R3) (i == R4) (i == R5) out in
     rw (h.0, h.1, h.2, h.3, h.4) refl
 
 abbrev released_of : (start byte : ℕ) (w : World Beside) → Offers start byte w → IsReleased w.cpu.p2
@@ -200,8 +201,8 @@ module _ (bytes : List ℕ) (has : HasKernel bytes) (edges : List Edge) (events 
               (ap to board ∙ at_start latch 366 h.cycle
               (got_offset edges events d to over bytes has start m w.board f ring free h.acc lines byte small h.shown
               drives 366 (omega arith)));
-          r4 = ap (λ (c : Cpu). slice_index c.ram 28) cpu ∙ cell g ring 28 (omega arith);
-          r5 = ap (λ (c : Cpu). slice_index c.ram 29) cpu ∙ cell g ring 29 (omega arith);
+          r4 = ap (λ (c : Cpu). slice_index c.ram R4) cpu ∙ cell g ring R4 (omega arith);
+          r5 = ap (λ (c : Cpu). slice_index c.ram R5) cpu ∙ cell g ring R5 (omega arith);
         },
         board,
       ))

@@ -1,5 +1,6 @@
 -- What a received frame reads on any board, in the words of the joint run.
 use Rattle.std.proofs.Common.{◌≡◌, ◌<◌, ℕ, ◌+◌, true, false, List, drop, slice_index, ap, ◌∙◌, arith}
+use Rattle.fw_kernel.specs.declared.cells.TheConstants.{R0, R3, R4, R5}
 use Rattle.fw_kernel.specs.Places.{HasKernel}
 use Rattle.fw_kernel.specs.declared.labels.TheConstants.{TICK, GOT, COMMAND, SCAN}
 use Rattle.law_fw_logic.proofs.Block.{put}
@@ -32,8 +33,8 @@ reads d bytes has w at acc released still =
     (λ e cpu free cycle board. record {
       to = at_end d bytes has w e m COMMAND g at.memory cpu free;
       cycle = cycle;
-      r4 = ap (λ (c : Cpu). slice_index c.ram 28) cpu ∙ cell g ring 28 (omega arith);
-      r5 = ap (λ (c : Cpu). slice_index c.ram 29) cpu ∙ cell g ring 29 (omega arith);
+      r4 = ap (λ (c : Cpu). slice_index c.ram R4) cpu ∙ cell g ring R4 (omega arith);
+      r5 = ap (λ (c : Cpu). slice_index c.ram R5) cpu ∙ cell g ring R5 (omega arith);
       p2 = ap (λ (c : Cpu). c.p2) cpu;
     })
 
@@ -49,7 +50,7 @@ dropped d bytes has w at high =
     let m : Cpu = w.cpu in
     let f : ℕ → ℕ = cells_of m.ram in
     let ring : List ℕ = drop 112 m.ram in
-    let g : ℕ → ℕ = put (put f 27 8) 24 0 in
+    let g : ℕ → ℕ = put (put f R3 8) R0 0 in
     from_world d bytes has w GOT at f (memory_is m.ram at.memory) m SCAN 30 g
     (after_cycles 30 0 (λ o. d.cycle m.p2 (w.cycle + o)) w.board) (Drops d w)
     (drops d bytes has w.cycle m w.board f ring at.free high)

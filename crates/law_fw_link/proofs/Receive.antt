@@ -3,18 +3,19 @@ use Rattle.std.proofs.Common.{arith, ◌≡◌, ◌<◌, ℕ, suc, ◌+◌, ◌-
 use Rattle.std.proofs.Common.{◌==◌, if◌then◌else◌}
 use Rattle.std.proofs.Common.{bit_and, bit_or, refl, ap}
 use Rattle.mcs48_core.specs.Cpu.{Cpu}
-use Rattle.bits.specs.Bits.{bit}
 use Rattle.mcs48_core.specs.Status.{digit}
 use Rattle.board_terms.specs.Frame.{parity_of}
+use Rattle.fw_kernel.specs.declared.cells.TheConstants.{R0, R1, R3, R4, R5}
 use Rattle.fw_kernel.specs.Places.{HasKernel}
-use Rattle.fw_kernel.specs.declared.labels.TheConstants.{GOT, R_CELL, R_PARITY, R_STOP, R_ACK, COMMAND, SCAN}
+use Rattle.fw_kernel.specs.declared.labels.TheConstants.{GOT, R_CELL, R_PARITY, R_STOP, R_ACK, COMMAND, SCAN, R_BIT}
+use Rattle.fw_kernel.specs.declared.labels.TheConstants.{R_HIGH, P_BIT, T_ON}
 use Rattle.law_fw_logic.proofs.Block.{memory, put, scratched, begin_at, At}
 use Rattle.law_fw_logic.proofs.Blocks.{straight}
 use Rattle.bits.proofs.Every.{by_byte}
 use Rattle.law_fw_logic.proofs.TimerParts.{IsFree}
 use Rattle.law_fw_logic.proofs.Kernel.{kernel_in}
 use Rattle.law_fw_logic.proofs.Leads.{Leads}
-use Rattle.law_fw_logic.proofs.Path.{Stage, Until, Go, Acc, Ram, Fork}
+use Rattle.law_fw_logic.proofs.Path.{Stage, Until, Go, Acc, Ram, Fork, Run, Count}
 use Rattle.law_fw_logic.proofs.Short.{has_rows}
 use Rattle.law_fw_logic.proofs.Sound.{sound}
 use Rattle.law_fw_link.proofs.Cell.{fallen, risen, board_at_look, one_less, asks}
@@ -64,50 +65,51 @@ module _ (d : Board) (bytes : List ℕ) (has : HasKernel bytes) (y : ℕ) (m : C
   -- from the looks to the first cell, where data is still low: 28 cycles
   abbrev pub Awaits : Stage d.State → Type 0
   Awaits e =
-      (e.cpu ≡ scratched m R_CELL (memory (put (put f 27 8) 24 0) ring) e.cpu) × (e.cpu.a ≡ m.a) × (e.off ≡ 28)
+      (e.cpu ≡ scratched m R_CELL (memory (put (put f R3 8) R0 0) ring) e.cpu) × (e.cpu.a ≡ m.a) × (e.off ≡ 28)
       × (e.board ≡ after_cycles 28 0 (λ o. d.cycle m.p2 (y + o)) board)
 
   -- if data is still low before the first cell, the kernel waits for the first bit
   pub awaits : IsFree m → seen_again ≡ false → Leads d (kernel_in true bytes) y (begin_at d GOT f ring m board) Awaits
   awaits free low =
-      sound d (kernel_in true bytes) (has_rows true bytes has) y (Until 260 ∷ Go false ∷ []) Awaits
+      sound d (kernel_in true bytes) (has_rows true bytes has) y (Go false ∷ []) Awaits
       (begin_at d GOT f ring m board)
       (low, (refl, refl, refl, refl)) free
 
   -- where it is high there was no request: 30 cycles
   pub drops : IsFree m → seen_again ≡ true
       → Leads d (kernel_in true bytes) y (begin_at d GOT f ring m board)
-      (At d m SCAN (put (put f 27 8) 24 0) ring 30 (after_cycles 30 0 (λ o. d.cycle m.p2 (y + o)) board))
+      (At d m SCAN (put (put f R3 8) R0 0) ring 30 (after_cycles 30 0 (λ o. d.cycle m.p2 (y + o)) board))
   drops free high =
-      straight d (kernel_in true bytes) (has_rows true bytes has) (Until 260 ∷ Go true ∷ Until SCAN ∷ []) y m GOT SCAN 30 f
-      (put (put f 27 8) 24 0) ring m board (after_cycles 30 0 (λ o. d.cycle m.p2 (y + o)) board) free
+      straight d (kernel_in true bytes) (has_rows true bytes has) (Go true ∷ Until SCAN ∷ []) y m GOT SCAN 30 f
+      (put (put f R3 8) R0 0) ring m board (after_cycles 30 0 (λ o. d.cycle m.p2 (y + o)) board) free
       (high, (refl, refl, refl))
 
   -- a data bit
   abbrev pub TakesBit : ℕ → ℕ → Stage d.State → Type 0
   TakesBit n place e =
-      (e.cpu ≡ scratched (record m { p2 = (risen m) }) place (memory (put (put f 24 0) 27 n) ring) e.cpu)
+      (e.cpu ≡ scratched (record m { p2 = (risen m) }) place (memory (put (put f R0 0) R3 n) ring) e.cpu)
       × (e.cpu.a ≡ m.a / 2 + 128 * digit bit_seen) × (e.off ≡ 32) × (e.board ≡ board_after_bit)
 
   -- in a cell of a data bit the kernel reads the bit into A, and goes on with the next one, or with the parity
-  pub takes_bit : (n : ℕ) → IsFree m → m.a < 256 → f 27 ≡ suc n → n < 255 → (more : Bool) → not (n == 0) ≡ more
+  pub takes_bit : (n : ℕ) → IsFree m → m.a < 256 → f R3 ≡ suc n → n < 255 → (more : Bool) → not (n == 0) ≡ more
       → Leads d (kernel_in true bytes) y (begin_at d R_CELL f ring m board)
       (TakesBit n (if more then R_CELL else R_PARITY))
   takes_bit n free small count few more left = go more left
     where
-      less : (f 27 + 255) % 256 ≡ n
-      less = one_less (f 27) n count few
+      less : (f R3 + 255) % 256 ≡ n
+      less = one_less (f R3) n count few
 
-      cells : memory (put (put f 24 0) 27 ((f 27 + 255) % 256)) ring ≡ memory (put (put f 24 0) 27 n) ring
-      cells = ap (λ k. memory (put (put f 24 0) 27 k) ring) less
+      cells : memory (put (put f R0 0) R3 ((f R3 + 255) % 256)) ring ≡ memory (put (put f R0 0) R3 n) ring
+      cells = ap (λ k. memory (put (put f R0 0) R3 k) ring) less
 
       go : (more : Bool) → not (n == 0) ≡ more
           → Leads d (kernel_in true bytes) y (begin_at d R_CELL f ring m board)
           (TakesBit n (if more then R_CELL else R_PARITY))
       go true left =
           sound d (kernel_in true bytes) (has_rows true bytes has) y
-          (Until 266 ∷ Acc (m.a / 2) ∷ Until 272 ∷ Fork 278 (looked 278 (λ a b. if b then bit_or a 128 else a)) ∷ Acc
-          (m.a / 2 + 128 * digit bit_seen) ∷ Until 282 ∷ Go true ∷ Ram (memory (put (put f 24 0) 27 n) ring) ∷ [])
+          (Run 3 ∷ Acc (m.a / 2) ∷ Fork R_BIT (looked R_BIT (λ a b. if b then bit_or a 128 else a))
+          ∷ Acc (m.a / 2 + 128 * digit bit_seen) ∷ Until (R_HIGH + 2) ∷ Count true
+          ∷ Ram (memory (put (put f R0 0) R3 n) ring) ∷ [])
           (TakesBit n R_CELL) (begin_at d R_CELL f ring m board) (
             turned_down m.a,
             (
@@ -116,14 +118,15 @@ module _ (d : Board) (bytes : List ℕ) (has : HasKernel bytes) (y : ℕ) (m : C
                 refl,
                 refl,
                 refl,
-                λ e. (bit_in m.a bit_seen small, (asks (f 27) n less true left, (cells, (refl, refl, refl, refl)))),
+                λ e. (bit_in m.a bit_seen small, (asks (f R3) n less true left, (cells, (refl, refl, refl, refl)))),
               ),
             ),
           ) free
       go false left =
           sound d (kernel_in true bytes) (has_rows true bytes has) y
-          (Until 266 ∷ Acc (m.a / 2) ∷ Until 272 ∷ Fork 278 (looked 278 (λ a b. if b then bit_or a 128 else a)) ∷ Acc
-          (m.a / 2 + 128 * digit bit_seen) ∷ Until 282 ∷ Go false ∷ Ram (memory (put (put f 24 0) 27 n) ring) ∷ [])
+          (Run 3 ∷ Acc (m.a / 2) ∷ Fork R_BIT (looked R_BIT (λ a b. if b then bit_or a 128 else a))
+          ∷ Acc (m.a / 2 + 128 * digit bit_seen) ∷ Until (R_HIGH + 2) ∷ Count false
+          ∷ Ram (memory (put (put f R0 0) R3 n) ring) ∷ [])
           (TakesBit n R_PARITY) (begin_at d R_CELL f ring m board) (
             turned_down m.a,
             (
@@ -132,14 +135,14 @@ module _ (d : Board) (bytes : List ℕ) (has : HasKernel bytes) (y : ℕ) (m : C
                 refl,
                 refl,
                 refl,
-                λ e. (bit_in m.a bit_seen small, (asks (f 27) n less false left, (cells, (refl, refl, refl, refl)))),
+                λ e. (bit_in m.a bit_seen small, (asks (f R3) n less false left, (cells, (refl, refl, refl, refl)))),
               ),
             ),
           ) free
 
   -- the parity bit: R4 is the byte, R5 is 255 where the bit is right and else 0
   abbrev pub with_parity : ℕ → ℕ
-  with_parity = put (put (put (put f 28 m.a) 25 (in_quarters m.a)) 24 0) 29 (255 * digit (is_parity bit_seen m.a))
+  with_parity = put (put (put (put f R4 m.a) R1 (in_quarters m.a)) R0 0) R5 (255 * digit (is_parity bit_seen m.a))
 
   -- in the parity's cell the kernel keeps the byte, and whether its parity was right
   pub takes_parity : IsFree m → m.a < 256
@@ -147,8 +150,8 @@ module _ (d : Board) (bytes : List ℕ) (has : HasKernel bytes) (y : ℕ) (m : C
       (At d (record m { p2 = (risen m) }) R_STOP with_parity ring 32 board_after_bit)
   takes_parity free small =
       straight d (kernel_in true bytes) (has_rows true bytes has)
-      (Until 296 ∷ Acc (255 * digit (not (parity_of m.a))) ∷ Until 302 ∷ Fork 308
-      (looked 308 (λ a b. if b then 255 - a else a)) ∷ Acc (255 * digit (is_parity bit_seen m.a)) ∷ Until R_STOP ∷ [])
+      (Run 11 ∷ Acc (255 * digit (not (parity_of m.a))) ∷ Fork P_BIT (looked P_BIT (λ a b. if b then 255 - a else a))
+      ∷ Acc (255 * digit (is_parity bit_seen m.a)) ∷ Until R_STOP ∷ [])
       y m R_PARITY R_STOP 32 f with_parity ring (record m { p2 = (risen m) }) board board_after_bit free
       (odd_is m.a small, (refl, (refl, refl, refl, λ e. (weighed bit_seen (parity_of m.a), (refl, refl, refl)))))
 
@@ -161,11 +164,11 @@ module _ (d : Board) (bytes : List ℕ) (has : HasKernel bytes) (y : ℕ) (m : C
   -- in the stop bit's cell the kernel reads it without an effect, and then pulls data
   pub takes_stop : IsFree m
       → Leads d (kernel_in true bytes) y (begin_at d R_STOP f ring m board)
-      (At d (record m { p2 = bit_and (risen m) 253 }) R_ACK (put f 24 0) ring 32 board_pulled)
+      (At d (record m { p2 = bit_and (risen m) 253 }) R_ACK (put f R0 0) ring 32 board_pulled)
   takes_stop free =
       straight d (kernel_in true bytes) (has_rows true bytes has)
-      (Until 322 ∷ Fork 324 (looked 324 (λ a b. a)) ∷ Until R_ACK ∷ [])
-      y m R_STOP R_ACK 32 f (put f 24 0) ring (record m { p2 = bit_and (risen m) 253 }) board board_pulled free
+      (Fork T_ON (looked T_ON (λ a b. a)) ∷ Until R_ACK ∷ [])
+      y m R_STOP R_ACK 32 f (put f R0 0) ring (record m { p2 = bit_and (risen m) 253 }) board board_pulled free
       (refl, (refl, refl, refl, λ e. (refl, refl, refl)))
 
   -- the eleventh fall: the clock is low for 16 cycles, and then both wires are let go
@@ -177,8 +180,8 @@ module _ (d : Board) (bytes : List ℕ) (has : HasKernel bytes) (y : ℕ) (m : C
   -- with the eleventh fall the kernel holds the clock low for 16 cycles and then lets both wires go
   pub acks : IsFree m
       → Leads d (kernel_in true bytes) y (begin_at d R_ACK f ring m board)
-      (At d (record m { p2 = bit_or (fallen m) 3 }) COMMAND (put f 24 0) ring 18 board_acked)
+      (At d (record m { p2 = bit_or (fallen m) 3 }) COMMAND (put f R0 0) ring 18 board_acked)
   acks free =
       straight d (kernel_in true bytes) (has_rows true bytes has) (Until COMMAND ∷ []) y m R_ACK COMMAND 18 f
-      (put f 24 0) ring
+      (put f R0 0) ring
       (record m { p2 = bit_or (fallen m) 3 }) board board_acked free (refl, refl, refl)

@@ -5,6 +5,7 @@ use Rattle.std.proofs.lemmas.Bool.Decides.{nat_tests}
 use Rattle.mcs48_core.specs.Cpu.{Cpu}
 use Rattle.mcs48_core.specs.Status.{digit}
 use Rattle.board_terms.specs.Bits.{value}
+use Rattle.fw_kernel.specs.declared.cells.TheConstants.{R0, R1, R3, R4, R5}
 use Rattle.fw_kernel.specs.Places.{HasKernel}
 use Rattle.fw_kernel.specs.declared.labels.TheConstants.{GOT, R_PARITY, R_STOP, R_ACK, COMMAND}
 use Rattle.law_fw_logic.proofs.Block.{memory, put, scratched, begin_at, At}
@@ -28,7 +29,7 @@ use Rattle.joint_run.specs.Run.{Board, after_cycles}
 
 -- the registers after a received frame: R4 is the byte, R5 is 255 where its parity was right and else 0
 abbrev pub got_cells : (ℕ → ℕ) → ℕ → Bool → ℕ → ℕ
-got_cells cells byte right = put (put (put (put (put cells 24 0) 27 0) 28 byte) 25 (in_quarters byte)) 29 (255 * digit right)
+got_cells cells byte right = put (put (put (put (put cells R0 0) R3 0) R4 byte) R1 (in_quarters byte)) R5 (255 * digit right)
 
 -- the eleventh fall: both wires are low, and then let go
 last_low : (latch cycle : ℕ) → cycle < 16 → received_latch latch (28 + 32 * 10 + cycle) ≡ bit_and latch 252
@@ -102,7 +103,7 @@ module _ (outside : Board) (bytes : List ℕ) (has : HasKernel bytes) (start : �
       let same_latch : stage.cpu.p2 ≡ begun.p2 = ap (λ (cpu : Cpu). cpu.p2) held.cpu in
       let one : stage.cpu.p1 ≡ begun.p1 = ap (λ (cpu : Cpu). cpu.p1) held.cpu in
       let let_go = bit_or (bit_and stage.cpu.p2 254) 1 in
-      let counted = put (put cells 24 held.r0) 27 0 in
+      let counted = put (put cells R0 held.r0) R3 0 in
       let byte : stage.cpu.a ≡ byte_read = held.acc ∙ ap (λ bits. taken wire begun.a bits) eighth ∙ taken_is wire begun.a small in
       let low : stage.cpu.a < 256 = subst (λ acc. acc < 256) (sym held.acc) (taken_small wire begun.a held.k small) in
       let seen =
@@ -122,10 +123,11 @@ module _ (outside : Board) (bytes : List ℕ) (has : HasKernel bytes) (start : �
             (memory (with_parity outside bytes has (start + stage.off) stage.cpu stage.board counted ring) ring) end.cpu)
             (risen_is outside bytes has start begun board cells ring released small stage.cpu.p2 same_latch)
             ∙ ap (λ bit. scratched begun R_STOP
-            (memory (put (put (put (put counted 28 stage.cpu.a) 25 (in_quarters stage.cpu.a)) 24 0) 29
+            (memory (put (put (put (put counted R4 stage.cpu.a) R1 (in_quarters stage.cpu.a)) R0 0) R5
             (255 * digit (is_parity bit stage.cpu.a))) ring) end.cpu) seen
             ∙ ap (λ read. scratched begun R_STOP
-            (memory (put (put (put (put counted 28 read) 25 (in_quarters read)) 24 0) 29 (255 * digit (is_parity (wire 8) read))) ring)
+            (memory (put (put (put (put counted R4 read) R1 (in_quarters read)) R0 0) R5
+            (255 * digit (is_parity (wire 8) read))) ring)
             end.cpu) byte;
         off = (let count : end.off ≡ 32 = arrives.off in omega (arith, count, off_is, eighth));
         now =
@@ -144,13 +146,14 @@ module _ (outside : Board) (bytes : List ℕ) (has : HasKernel bytes) (start : �
       let same_latch : stage.cpu.p2 ≡ begun.p2 = ap (λ (cpu : Cpu). cpu.p2) held.cpu in
       let falls = bit_and (bit_or (bit_and stage.cpu.p2 254) 1) 253 in
       from_stage outside (kernel_in true bytes) (has_rows true bytes has) start R_STOP begun got ring stage
-      (At outside (record stage.cpu { p2 = falls }) R_ACK (put got 24 0) ring 32
+      (At outside (record stage.cpu { p2 = falls }) R_ACK (put got R0 0) ring 32
       (board_pulled outside bytes has (start + stage.off) stage.cpu stage.board got ring))
       (At outside pulled R_ACK got ring (28 + 32 * 10) (at_offset (28 + 32 * 10))) held.cpu
       (λ end arrives. record {
         cpu =
-            arrives.cpu ∙ ap (λ (cpu : Cpu). scratched (record cpu { p2 = falls }) R_ACK (memory (put got 24 0) ring) end.cpu) held.cpu
-            ∙ ap (λ latch. scratched (record begun { p2 = bit_and latch 253 }) R_ACK (memory (put got 24 0) ring) end.cpu)
+            arrives.cpu ∙ ap (λ (cpu : Cpu). scratched (record cpu { p2 = falls }) R_ACK (memory (put got R0 0) ring)
+            end.cpu) held.cpu
+            ∙ ap (λ latch. scratched (record begun { p2 = bit_and latch 253 }) R_ACK (memory (put got R0 0) ring) end.cpu)
             (risen_is outside bytes has start begun board cells ring released small stage.cpu.p2 same_latch);
         off = (let count : end.off ≡ 32 = arrives.off in omega (arith, count, off_is));
         now =
@@ -175,13 +178,14 @@ module _ (outside : Board) (bytes : List ℕ) (has : HasKernel bytes) (start : �
       (omega (arith, off_is))
       (λ cycle within. last_low begun.p2 cycle within ∙ sym both_low) held.now in
       from_stage outside (kernel_in true bytes) (has_rows true bytes has) start R_ACK pulled got ring stage
-      (At outside (record stage.cpu { p2 = let_go }) COMMAND (put got 24 0) ring 18
+      (At outside (record stage.cpu { p2 = let_go }) COMMAND (put got R0 0) ring 18
       (board_acked outside bytes has (start + stage.off) stage.cpu stage.board got ring))
       (At outside begun COMMAND got ring 366 (at_offset 366)) held.cpu
       (λ end arrives. record {
         cpu =
-            arrives.cpu ∙ ap (λ (cpu : Cpu). scratched (record cpu { p2 = let_go }) COMMAND (memory (put got 24 0) ring) end.cpu) held.cpu
-            ∙ ap (λ latch. scratched (record begun { p2 = latch }) COMMAND (memory (put got 24 0) ring) end.cpu) free_again;
+            arrives.cpu ∙ ap (λ (cpu : Cpu). scratched (record cpu { p2 = let_go }) COMMAND (memory (put got R0 0) ring)
+            end.cpu) held.cpu
+            ∙ ap (λ latch. scratched (record begun { p2 = latch }) COMMAND (memory (put got R0 0) ring) end.cpu) free_again;
         off = (let count : end.off ≡ 18 = arrives.off in omega (arith, count, off_is));
         now =
             arrives.now

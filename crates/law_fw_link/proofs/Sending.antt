@@ -6,6 +6,7 @@ use Rattle.mcs48_core.specs.Cpu.{Cpu}
 use Rattle.bits.specs.Bits.{bit}
 use Rattle.mcs48_core.specs.Status.{digit}
 use Rattle.board_terms.specs.Frame.{parity_of}
+use Rattle.fw_kernel.specs.declared.cells.TheConstants.{R0, R1, R2, R3, R6}
 use Rattle.fw_kernel.specs.Places.{HasKernel}
 use Rattle.fw_kernel.specs.declared.labels.TheConstants.{S_CELL, S_STOP}
 use Rattle.law_fw_logic.proofs.Block.{memory, put, scratched}
@@ -39,7 +40,7 @@ next_is = pair_tests 10 256 (λ k byte. bit 0 (left_at byte k)) (λ k byte. fram
 -- the registers of a sent frame at cell k with n cells left; R0 is any, R1 the latch with bit k
 abbrev pub sending : (ℕ → ℕ) → ℕ → ℕ → ℕ → ℕ → ℕ → ℕ → ℕ
 sending f v byte k n r0 =
-    put (put (put (put (put f 25 (wired v true (frame_bit byte k))) 26 (bit_and v 253)) 27 n) 30 (left_at byte k)) 24 r0
+    put (put (put (put (put f R1 (wired v true (frame_bit byte k))) R2 (bit_and v 253)) R3 n) R6 (left_at byte k)) R0 r0
 
 module _ (d : Board) (bytes : List ℕ) (has : HasKernel bytes) (x : ℕ) (m : Cpu) (board : d.State) (f : ℕ → ℕ)
     (ring : List ℕ) (v byte : ℕ) (released : IsReleased v) (small : byte < 256) where

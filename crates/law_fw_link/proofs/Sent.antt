@@ -7,6 +7,7 @@ use Rattle.board_terms.specs.declared.event.Edge.{Edge}
 use Rattle.board_terms.specs.declared.event.HostEvent.{HostEvent}
 use Rattle.board_terms.specs.declared.lines.Lines.{Lines}
 use Rattle.ctl_wire.specs.Wire.{drive}
+use Rattle.fw_kernel.specs.declared.cells.TheConstants.{R2, R4, R5, R6}
 use Rattle.fw_kernel.specs.Places.{HasKernel}
 use Rattle.fw_kernel.specs.declared.labels.TheConstants.{SEND, SENT}
 use Rattle.law_fw_logic.proofs.Block.{begin_at, At}
@@ -31,9 +32,9 @@ use Rattle.law_wires_agree.specs.Cycles.{board_cycles}
 module _ (edges : List Edge) (events : List HostEvent) (d : Board) (to : d.State → Beside)
     (over : IsOver edges events d to) (bytes : List ℕ) (has : HasKernel bytes) (start : ℕ) (m : Cpu) (s : d.State)
     (f : ℕ → ℕ) (ring : List ℕ) (v byte : ℕ) (released : IsReleased v) (small : byte < 256) (lines : ℕ → Lines)
-    (shown : lights_of v ≡ (to s).shown) (out : m.p2 ≡ v) (data_low : f 26 ≡ bit_and v 253) (ready : f 30 ≡ byte)
-    (offered : f 28 ≡ byte)
-    (some : (f 29 == 0) ≡ false) where
+    (shown : lights_of v ≡ (to s).shown) (out : m.p2 ≡ v) (data_low : f R2 ≡ bit_and v 253) (ready : f R6 ≡ byte)
+    (offered : f R4 ≡ byte)
+    (some : (f R5 == 0) ≡ false) where
   -- the PC's side after so many cycles of the frame, and what is beside the processor then
   abbrev pub pc_in : ℕ → Pc
   pc_in n = board_cycles events lines n (260 + start) (to s).pc

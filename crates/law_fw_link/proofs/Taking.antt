@@ -7,6 +7,7 @@ use Rattle.mcs48_core.specs.Cpu.{Cpu}
 use Rattle.mcs48_core.specs.Status.{digit}
 use Rattle.mcs48_ranges.proofs.Parts.{digit_small}
 use Rattle.board_terms.specs.Bits.{value}
+use Rattle.fw_kernel.specs.declared.cells.TheConstants.{R0, R3}
 use Rattle.fw_kernel.specs.Places.{HasKernel}
 use Rattle.fw_kernel.specs.declared.labels.TheConstants.{R_CELL, R_PARITY}
 use Rattle.law_fw_logic.proofs.Block.{memory, put, scratched}
@@ -212,7 +213,7 @@ module _ (d : Board) (bytes : List ℕ) (has : HasKernel bytes) (x : ℕ) (m : C
     pub k : ℕ
     pub count : k + n ≡ 8
     pub r0 : ℕ
-    pub cpu : s.cpu ≡ scratched m (if not (n == 0) then R_CELL else R_PARITY) (memory (put (put f 24 r0) 27 n) ring)
+    pub cpu : s.cpu ≡ scratched m (if not (n == 0) then R_CELL else R_PARITY) (memory (put (put f R0 r0) R3 n) ring)
         s.cpu
     pub acc : s.cpu.a ≡ taken bit_read m.a k
     pub off : s.off ≡ 28 + 32 * k
@@ -228,7 +229,7 @@ module _ (d : Board) (bytes : List ℕ) (has : HasKernel bytes) (x : ℕ) (m : C
       let o : s.off ≡ 28 + 32 * k = h.off in
       let y : x + s.off ≡ x + (28 + 32 * k) = ap (λ i. x + i) o in
       let more : not (suc n == 0) ≡ true = grind (arith, nat_tests) in
-      let g = put (put f 24 h.r0) 27 (suc n) in
+      let g = put (put f R0 h.r0) R3 (suc n) in
       let is : s.cpu ≡ scratched m R_CELL (memory g ring) s.cpu =
       h.cpu ∙ ap (λ b. scratched m (if b then R_CELL else R_PARITY) (memory g ring) s.cpu) more in
       let w : s.cpu.p2 ≡ m.p2 = ap (λ (q : Cpu). q.p2) h.cpu in
@@ -245,8 +246,8 @@ module _ (d : Board) (bytes : List ℕ) (has : HasKernel bytes) (x : ℕ) (m : C
         r0 = 0;
         cpu =
             q.0 ∙ ap
-            (λ (z : Cpu). scratched (record z { p2 = u }) place (memory (put (put g 24 0) 27 n) ring) e.cpu) h.cpu
-            ∙ ap (λ z. scratched (record m { p2 = z }) place (memory (put (put g 24 0) 27 n) ring) e.cpu)
+            (λ (z : Cpu). scratched (record z { p2 = u }) place (memory (put (put g R0 0) R3 n) ring) e.cpu) h.cpu
+            ∙ ap (λ z. scratched (record m { p2 = z }) place (memory (put (put g R0 0) R3 n) ring) e.cpu)
             (risen_is s.cpu.p2 w);
         acc = q.1 ∙ ap (λ b. s.cpu.a / 2 + 128 * digit b) seen ∙ ap (λ a. a / 2 + 128 * digit (bit_read k)) h.acc;
         off = (let t : e.off ≡ 32 = q.2 in omega (arith, t, o));

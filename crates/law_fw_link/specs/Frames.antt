@@ -6,6 +6,7 @@ use Rattle.board_terms.specs.declared.lines.Lines.{Lines}
 use Rattle.ctl_link.specs.Pulls.{pulled}
 use Rattle.ctl_link.specs.declared.link.Link.TheVariants.{Request}
 use Rattle.ctl_wire.specs.Wire.{drive}
+use Rattle.fw_kernel.specs.declared.cells.TheConstants.{R0, R1, R2, R3, R4, R5, R6}
 use Rattle.fw_kernel.specs.Places.{HasKernel}
 use Rattle.fw_kernel.specs.declared.labels.TheConstants.{TICK, SEND, SENT, SCAN, GOT, COMMAND}
 use Rattle.law_fw_logic.specs.Blocks.{IsAt}
@@ -19,11 +20,11 @@ use Rattle.law_fw_link.specs.Latch.{IsLook, sent_latch, cut_latch, cut_after, re
 
 -- R0 to R3 and R6 are written if a byte is sent
 abbrev pub is_sending : ℕ → Bool
-is_sending i = (i == 24) || (i == 25) || (i == 26) || (i == 27) || (i == 30)
+is_sending i = (i == R0) || (i == R1) || (i == R2) || (i == R3) || (i == R6)
 
 -- R0, R1, R3, R4 and R5 if one is received
 abbrev pub is_receiving : ℕ → Bool
-is_receiving i = (i == 24) || (i == 25) || (i == 27) || (i == 28) || (i == 29)
+is_receiving i = (i == R0) || (i == R1) || (i == R3) || (i == R4) || (i == R5)
 
 -- a frame has passed: both latches and F1 are as before, and so is memory but for these registers
 pub record Passed
@@ -48,10 +49,10 @@ pub record Offers (start byte : ℕ) (w : World Beside) : Type 0 where
   pub data_wire : bit 1 w.cpu.p2 ≡ true
   pub shown : lights_of w.cpu.p2 ≡ w.board.shown
   pub small : byte < 256
-  pub offered : slice_index w.cpu.ram 28 ≡ byte
-  pub ready : slice_index w.cpu.ram 30 ≡ byte
-  pub data_low : slice_index w.cpu.ram 26 ≡ bit_and w.cpu.p2 253
-  pub some : (slice_index w.cpu.ram 29 == 0) ≡ false
+  pub offered : slice_index w.cpu.ram R4 ≡ byte
+  pub ready : slice_index w.cpu.ram R6 ≡ byte
+  pub data_low : slice_index w.cpu.ram R2 ≡ bit_and w.cpu.p2 253
+  pub some : (slice_index w.cpu.ram R5 == 0) ≡ false
 
 -- what is on the PC's side at the first edge, 28 cycles after
 abbrev pub at_edge : List HostEvent → (ℕ → Lines) → World Beside → Pc
@@ -98,8 +99,8 @@ PulledLaw =
 -- a byte was received: R4 is the byte, R5 says that its parity was right
 pub record Received (events : List HostEvent) (lines : ℕ → Lines) (byte : ℕ) (w e : World Beside) : Type 0 where
   pub passed : Passed events lines is_receiving COMMAND 366 w e
-  pub r4 : slice_index e.cpu.ram 28 ≡ byte
-  pub r5 : slice_index e.cpu.ram 29 ≡ 255
+  pub r4 : slice_index e.cpu.ram R4 ≡ byte
+  pub r5 : slice_index e.cpu.ram R5 ≡ 255
 
 -- the controller requests to send
 pub record Awaits (start : ℕ) (w : World Beside) : Type 0 where

@@ -3,6 +3,7 @@ use Rattle.std.specs.Prelude.{◌≡◌, ◌<◌, ℕ, ◌+◌, ◌*◌, Bool, t
 use Rattle.bits.specs.Bits.{bit}
 use Rattle.board_terms.specs.Bits.{value}
 use Rattle.board_terms.specs.Frame.{parity_of}
+use Rattle.fw_kernel.specs.declared.cells.TheConstants.{R4, R5}
 use Rattle.fw_kernel.specs.Places.{HasKernel}
 use Rattle.fw_kernel.specs.declared.labels.TheConstants.{TICK, GOT, COMMAND, SCAN}
 use Rattle.law_fw_logic.specs.Blocks.{IsAt}
@@ -33,8 +34,8 @@ right_in level = if level 8 then parity_of (byte_in level) else not (parity_of (
 pub record Reads (d : Board) (w e : World d.State) : Type 0 where
   pub to : IsAt COMMAND e.cpu
   pub cycle : e.cycle ≡ w.cycle + 366
-  pub r4 : slice_index e.cpu.ram 28 ≡ byte_in (data_read d w)
-  pub r5 : slice_index e.cpu.ram 29 ≡ 255 * digit (right_in (data_read d w))
+  pub r4 : slice_index e.cpu.ram R4 ≡ byte_in (data_read d w)
+  pub r5 : slice_index e.cpu.ram R5 ≡ 255 * digit (right_in (data_read d w))
   pub p2 : e.cpu.p2 ≡ w.cpu.p2
 
 -- the level of the data wire at the second look at it, two cycles before the first cell

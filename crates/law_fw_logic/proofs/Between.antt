@@ -145,7 +145,7 @@ module _ (d : Board) (bytes : List ℕ) where
     main_place w h at =
         let low = (main_at w.cpu.pc h.place).low in
         let here = start_place w at in
-        let tick : w.cpu.pc ≡ 7 = omega (arith, low, here) in
+        let tick : w.cpu.pc ≡ TICK = omega (arith, low, here) in
         let none : true ≡ false = sym h.place ∙ ap in_main tick in
         cc
 

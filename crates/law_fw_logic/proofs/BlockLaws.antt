@@ -4,7 +4,7 @@ use Rattle.std.proofs.Common.{nat_le, nat_lt, leb, length, drop, get_or, slice_i
 use Rattle.std.proofs.Common.{subst, arith, add-zero}
 use Rattle.std.proofs.lemmas.Bool.Decides.{nat_tests}
 use Rattle.mcs48_core.specs.Cpu.{Cpu}
-use Rattle.fw_kernel.specs.declared.cells.TheConstants.{LIGHTS}
+use Rattle.fw_kernel.specs.declared.cells.TheConstants.{LIGHTS, R0, R1, R2, R3, R6, HELD, CHANGED}
 use Rattle.fw_kernel.specs.declared.labels.TheConstants.{TICK, READ, OFFER, LAMPS, TESTED, LOOKS}
 use Rattle.fw_kernel.specs.Places.{HasKernel}
 use Rattle.joint_run.specs.Run.{Board, World, after_cycles}
@@ -33,7 +33,7 @@ none_of_four false false false true h = absurd cc
 
 readied_others : (f : ℕ → ℕ) (i : ℕ) → is_looking i ≡ false → readied f i ≡ f i
 readied_others f i out =
-    let h = none_of_four (i == 24) (i == 25) (i == 26) (i == 30) out in
+    let h = none_of_four (i == R0) (i == R1) (i == R2) (i == R6) out in
     rw (h.0, h.1, h.2, h.3) refl
 
 -- data memory as cells, and what is behind them
@@ -90,11 +90,12 @@ module _ (d : Board) (bytes : List ℕ) (has : HasKernel bytes) where
   -- the columns
   read_others : (look f : ℕ → ℕ) (i : ℕ) → is_read i ≡ false → scanned look f i ≡ f i
   read_others look f i out =
-      by (i == 24) (i == 25) (i == 27) (nat_le 32 i && nat_lt i 44) (nat_le 48 i && nat_lt i 60) refl refl refl refl
+      by (i == R0) (i == R1) (i == R3) (nat_le HELD i && nat_lt i (HELD + 12)) (nat_le CHANGED i
+      && nat_lt i (CHANGED + 12)) refl refl refl refl
       refl out
     where
-      by : (a b c p q : Bool) → (i == 24) ≡ a → (i == 25) ≡ b → (i == 27) ≡ c → (nat_le 32 i && nat_lt i 44) ≡ p
-          → (nat_le 48 i && nat_lt i 60) ≡ q
+      by : (a b c p q : Bool) → (i == R0) ≡ a → (i == R1) ≡ b → (i == R3) ≡ c → (nat_le HELD i && nat_lt i (HELD + 12)) ≡ p
+          → (nat_le CHANGED i && nat_lt i (CHANGED + 12)) ≡ q
           → (a || b || c || p || q) ≡ false → scanned look f i ≡ f i
       by false false false false false ea eb ec ep eq h = rw (ep, eq, ea, eb, ec) refl
       by true b c p q ea eb ec ep eq h = absurd cc
@@ -104,17 +105,17 @@ module _ (d : Board) (bytes : List ℕ) (has : HasKernel bytes) where
       by false false false false true ea eb ec ep eq h = absurd cc
 
   -- with its registers set, the block of the columns reads them in 192 cycles
-  pub columns_law : (w : World d.State) → IsAt READ w.cpu → slice_index w.cpu.ram 24 ≡ 32
-      → slice_index w.cpu.ram 25 ≡ 48
-      → slice_index w.cpu.ram 27 ≡ 12 → w.cpu.p1 ≡ 32 → Comes d TICK bytes w (ReadsColumns d w)
+  pub columns_law : (w : World d.State) → IsAt READ w.cpu → slice_index w.cpu.ram R0 ≡ HELD
+      → slice_index w.cpu.ram R1 ≡ CHANGED
+      → slice_index w.cpu.ram R3 ≡ 12 → w.cpu.p1 ≡ 32 → Comes d TICK bytes w (ReadsColumns d w)
   columns_law w is r0 r1 r3 p1 =
       let m = w.cpu in
       let f = cells_of m.ram in
       let ring = drop 112 m.ram in
       let ram : m.ram ≡ memory f ring = memory_is m.ram is.memory in
       let set : m.ram ≡ memory (ready f) ring =
-      ram ∙ ap (λ v. memory (put f 24 v) ring) r0 ∙ ap (λ v. memory (put (put f 24 32) 25 v) ring) r1
-      ∙ ap (λ v. memory (put (put (put f 24 32) 25 48) 27 v) ring) r3 in
+      ram ∙ ap (λ v. memory (put f R0 v) ring) r0 ∙ ap (λ v. memory (put (put f R0 HELD) R1 v) ring) r1
+      ∙ ap (λ v. memory (put (put (put f R0 HELD) R1 CHANGED) R3 v) ring) r3 in
       let look = shows d w.cycle m.p2 w.board in
       let g = scanned look f in
       from_world w READ is (ready f) set (record m { p1 = 44 }) OFFER 192 g (in_tick d w 192) (ReadsColumns d w)
@@ -123,8 +124,8 @@ module _ (d : Board) (bytes : List ℕ) (has : HasKernel bytes) where
       (sym p1) (columns d bytes has w.cycle m f ring w.board is.free))
       (λ e cpu free cycle board.
       let now : e.cpu.ram ≡ memory g ring = ap (λ (c : Cpu). c.ram) cpu in
-      let held : (c : ℕ) → c < 12 → slice_index e.cpu.ram (32 + c) ≡ look c = λ c l.
-      ap (λ r. slice_index r (32 + c)) now ∙ cell g ring (32 + c) (omega (arith, l)) ∙ held_cell look f c l in
+      let held : (c : ℕ) → c < 12 → slice_index e.cpu.ram (HELD + c) ≡ look c = λ c l.
+      ap (λ r. slice_index r (HELD + c)) now ∙ cell g ring (HELD + c) (omega (arith, l)) ∙ held_cell look f c l in
       record {
         to = record {
           pc = ap (λ (c : Cpu). c.pc) cpu;
@@ -139,8 +140,8 @@ module _ (d : Board) (bytes : List ℕ) (has : HasKernel bytes) where
         f1 = ap (λ (c : Cpu). c.f1) cpu;
         held = λ c l. held c l ∙ shows_is d w.cycle m.p2 w.board c;
         changed = λ c l.
-            ap (λ r. slice_index r (48 + c)) now ∙ cell g ring (48 + c) (omega (arith, l)) ∙ changed_cell look f c l
-            ∙ ap (λ b. bit_xor b (look c)) refl ∙ ap (λ b. bit_xor (slice_index m.ram (32 + c)) b) (sym (held c l));
+            ap (λ r. slice_index r (CHANGED + c)) now ∙ cell g ring (CHANGED + c) (omega (arith, l)) ∙ changed_cell look f c l
+            ∙ ap (λ b. bit_xor b (look c)) refl ∙ ap (λ b. bit_xor (slice_index m.ram (HELD + c)) b) (sym (held c l));
         others = λ i out.
             ap (λ r. slice_index r i) now ∙ others_are f g ring is_read (λ j l n. read_others look f j n) i out
             ∙ ap (λ r. slice_index r i) (sym ram);
@@ -178,19 +179,19 @@ module _ (d : Board) (bytes : List ℕ) (has : HasKernel bytes) where
       let f = cells_of m.ram in
       let ring = drop 112 m.ram in
       let lit : ℕ = 255 - f LIGHTS in
-      from_world w LAMPS is f (memory_is m.ram is.memory) (record m { p2 = lit }) TESTED 6 (put f 25 LIGHTS)
+      from_world w LAMPS is f (memory_is m.ram is.memory) (record m { p2 = lit }) TESTED 6 (put f R1 LIGHTS)
       (after_cycles 2 (w.cycle + 4) (d.cycle lit) (in_tick d w 4)) (PutsLights d w)
       (lamps d bytes has w.cycle m f ring w.board is.free)
       (λ e cpu free cycle board.
       let p2 : e.cpu.p2 ≡ lit = ap (λ (c : Cpu). c.p2) cpu in
       record {
-        to = at_end w e (record m { p2 = lit }) TESTED (put f 25 LIGHTS) is.memory cpu free;
+        to = at_end w e (record m { p2 = lit }) TESTED (put f R1 LIGHTS) is.memory cpu free;
         cycle = cycle;
         p1 = ap (λ (c : Cpu). c.p1) cpu;
         p2 = p2;
         f1 = ap (λ (c : Cpu). c.f1) cpu;
         board = board ∙ ap (λ p. after_cycles 2 (w.cycle + 4) (d.cycle p) (in_tick d w 4)) (sym p2);
-        others = kept_cell w e (record m { p2 = lit }) TESTED 25 LIGHTS is.memory cpu;
+        others = kept_cell w e (record m { p2 = lit }) TESTED R1 LIGHTS is.memory cpu;
       })
 
   -- the looks
@@ -224,8 +225,8 @@ module _ (d : Board) (bytes : List ℕ) (has : HasKernel bytes) where
         p1 = ap (λ (c : Cpu). c.p1) cpu;
         p2 = ap (λ (c : Cpu). c.p2) cpu;
         f1 = ap (λ (c : Cpu). c.f1) cpu;
-        r2 = ap (λ (c : Cpu). slice_index c.ram 26) cpu ∙ cell (readied f) (drop 112 m.ram) 26 (omega arith);
-        r6 = ap (λ (c : Cpu). slice_index c.ram 30) cpu ∙ cell (readied f) (drop 112 m.ram) 30 (omega arith);
+        r2 = ap (λ (c : Cpu). slice_index c.ram R2) cpu ∙ cell (readied f) (drop 112 m.ram) R2 (omega arith);
+        r6 = ap (λ (c : Cpu). slice_index c.ram R6) cpu ∙ cell (readied f) (drop 112 m.ram) R6 (omega arith);
         others = λ i other.
             ap (λ (c : Cpu). slice_index c.ram i) cpu
             ∙ others_are f (readied f) (drop 112 m.ram) is_looking (λ j l n. readied_others f j n) i other

@@ -67,7 +67,7 @@ module _ (d : Board) (bytes : List ℕ) (has : HasKernel bytes) (from : World d.
         let p = passes k w run h.1 in
         let low : w.cpu.pc < 2048 = (service_fit bytes has w.cpu h.0).place in
         let place : w.cpu.pc % 2048 ≡ 7 = start_place d bytes w h.1 in
-        let at : w.cpu.pc ≡ 7 = omega (arith, low, place) in
+        let at : w.cpu.pc ≡ TICK = omega (arith, low, place) in
         inl
         (subst Works (same_next d bytes w p.first next p.step step) (begins_work d bytes has false w h.0 at p))
 

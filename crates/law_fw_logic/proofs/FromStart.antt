@@ -3,6 +3,7 @@ use Rattle.std.proofs.Common.{◌≡◌, ◌≤◌, ◌<◌, ℕ, ◌+◌, ◌-�
 use Rattle.std.proofs.Common.{List, length, drop, slice_index, bit_xor, inl, inr, refl, ap, sym, ◌∙◌, subst, arith}
 use Rattle.std.proofs.lemmas.Bool.Decides.{nat_tests}
 use Rattle.mcs48_core.specs.Cpu.{Cpu}
+use Rattle.fw_kernel.specs.declared.cells.TheConstants.{R0, R1, R3, HELD, CHANGED}
 use Rattle.fw_kernel.specs.declared.labels.TheConstants.{TICK, WAIT, DONE}
 use Rattle.fw_kernel.specs.Places.{HasKernel}
 use Rattle.joint_run.specs.Run.{Board, World, after_cycles}
@@ -27,7 +28,8 @@ use Rattle.law_fw_logic.proofs.Timers.{TimerState, on_time}
 
 -- what the reading leaves alone the head does, too
 counting_out : (i : ℕ) → is_read i ≡ false → is_counting i ≡ false
-counting_out i out = by (i == 24) (i == 25) (i == 27) (nat_le 32 i && nat_lt i 44) (nat_le 48 i && nat_lt i 60) out
+counting_out i out = by (i == R0) (i == R1) (i == R3) (nat_le HELD i && nat_lt i (HELD + 12)) (nat_le CHANGED i
+    && nat_lt i (CHANGED + 12)) out
   where
     by : (a b c p q : Bool) → (a || b || c || p || q) ≡ false → (a || b || c) ≡ false
     by false false false p q h = refl
@@ -35,11 +37,11 @@ counting_out i out = by (i == 24) (i == 25) (i == 27) (nat_le 32 i && nat_lt i 4
     by false true c p q h = absurd cc
     by false false true p q h = absurd cc
 
-held_out : (c : ℕ) → is_counting (32 + c) ≡ false
+held_out : (c : ℕ) → is_counting (HELD + c) ≡ false
 held_out c =
-    let e0 : (32 + c == 24) ≡ false = grind (arith, nat_tests) in
-    let e1 : (32 + c == 25) ≡ false = grind (arith, nat_tests) in
-    let e3 : (32 + c == 27) ≡ false = grind (arith, nat_tests) in
+    let e0 : (HELD + c == R0) ≡ false = grind (arith, nat_tests) in
+    let e1 : (HELD + c == R1) ≡ false = grind (arith, nat_tests) in
+    let e3 : (HELD + c == R3) ≡ false = grind (arith, nat_tests) in
     rw (e0, e1, e3) refl
 
 module _ (d : Board) (bytes : List ℕ) (has : HasKernel bytes) (w : World d.State) (s : IsEntered w.cpu) where
@@ -54,7 +56,7 @@ module _ (d : Board) (bytes : List ℕ) (has : HasKernel bytes) (w : World d.Sta
   reads_so v e h r =
       let cycle : v.cycle ≡ x + 16 = h.cycle in
       let later : e.cycle ≡ v.cycle + 192 = r.cycle in
-      let held : (c : ℕ) → c < 12 → slice_index e.cpu.ram (32 + c) ≡ column_read d w c = λ c l.
+      let held : (c : ℕ) → c < 12 → slice_index e.cpu.ram (HELD + c) ≡ column_read d w c = λ c l.
       let at : v.cycle + 16 * c ≡ x + (16 + 16 * c) = omega (arith, cycle) in
       r.held c l ∙ ap (λ p. downs d v.cycle p v.board c) h.p2 ∙ ap (λ b. downs d v.cycle w.cpu.p2 b c) h.board
       ∙ ap (λ b. 255 - (d.pins (32 + c) w.cpu.p2 (v.cycle + 16 * c) b).bus) (joined 16 (16 * c) x v.cycle f w.board cycle)
@@ -69,8 +71,8 @@ module _ (d : Board) (bytes : List ℕ) (has : HasKernel bytes) (w : World d.Sta
         held = held;
         changed = λ c l.
             r.changed c l
-            ∙ ap (λ b. bit_xor b (slice_index e.cpu.ram (32 + c))) (h.others (32 + c) (held_out c))
-            ∙ ap (λ b. bit_xor (slice_index w.cpu.ram (32 + c)) b) (held c l);
+            ∙ ap (λ b. bit_xor b (slice_index e.cpu.ram (HELD + c))) (h.others (HELD + c) (held_out c))
+            ∙ ap (λ b. bit_xor (slice_index w.cpu.ram (HELD + c)) b) (held c l);
         others = λ i out. r.others i out ∙ h.others i (counting_out i out);
       }
 

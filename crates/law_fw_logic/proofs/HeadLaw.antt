@@ -10,6 +10,7 @@ use Rattle.mcs48_core.specs.declared.processor.Count.TheVariants.{Timer}
 use Rattle.mcs48_core.specs.Cpu.{Cpu}
 use Rattle.mcs48_core.specs.Timer.{after_timer}
 use Rattle.mcs48_core.specs.Step.{takes_timer}
+use Rattle.fw_kernel.specs.declared.cells.TheConstants.{R0, R1, R3}
 use Rattle.fw_kernel.specs.declared.labels.TheConstants.{TICK, READ}
 use Rattle.fw_kernel.specs.Places.{HasKernel}
 use Rattle.joint_run.specs.Run.{Board, World, after_cycles, seen, joint_step, after_step}
@@ -36,9 +37,9 @@ timer_on : (c : ℕ) (k : Cpu) (pins : Pins) → nat_le 32 (k.pre + c) ≡ false
 timer_on c k pins e = rw e refl
 
 ready_others : (f : ℕ → ℕ) (i : ℕ) → is_counting i ≡ false → ready f i ≡ f i
-ready_others f i out = by (i == 24) (i == 25) (i == 27) refl refl refl out
+ready_others f i out = by (i == R0) (i == R1) (i == R3) refl refl refl out
   where
-    by : (a b c : Bool) → (i == 24) ≡ a → (i == 25) ≡ b → (i == 27) ≡ c → (a || b || c) ≡ false → ready f i ≡ f i
+    by : (a b c : Bool) → (i == R0) ≡ a → (i == R1) ≡ b → (i == R3) ≡ c → (a || b || c) ≡ false → ready f i ≡ f i
     by false false false ea eb ec h = rw (ea, eb, ec) refl
     by true b c ea eb ec h = absurd cc
     by false true c ea eb ec h = absurd cc
@@ -56,13 +57,13 @@ module _ (d : Board) (bytes : List ℕ) (has : HasKernel bytes) (x : ℕ) (k : C
   abbrev second : Bool → Stage d.State
   second last =
       record {
-        cpu = record at_cpu { pc = 9; a = 192; pre = k.pre + 2; last_t1 = last };
+        cpu = record at_cpu { pc = TICK + 2; a = 192; pre = k.pre + 2; last_t1 = last };
         board = after_cycles 2 x (d.cycle k.p2) board;
         off = 2;
       }
 
   abbrev third : Bool → Cpu
-  third last = record at_cpu { pc = 10; a = 192; t = 192; pre = k.pre + 2 + 1; last_t1 = last }
+  third last = record at_cpu { pc = TICK + 3; a = 192; t = 192; pre = k.pre + 2 + 1; last_t1 = last }
 
   is_start : at_tick d TICK start ≡ true
   is_start =
@@ -77,7 +78,7 @@ module _ (d : Board) (bytes : List ℕ) (has : HasKernel bytes) (x : ℕ) (k : C
       (stepped_is bytes pins at_cpu (record { op = Moves (MovAN 192); len = 2; cycles = 2 }) free
       (has_rows true bytes has TICK (record { op = Moves (MovAN 192); len = 2; cycles = 2 }) refl).0)
       ∙ ap (λ c. after_step d start (Some (record { cpu = c; cycles = 2 })))
-      (timer_on 2 (record at_cpu { pc = 9; a = 192 }) pins e)
+      (timer_on 2 (record at_cpu { pc = TICK + 2; a = 192 }) pins e)
 
   abbrev IsSet : Stage d.State → Type 0
   IsSet e = (last : Bool) × (e.cpu ≡ third last) × (e.off ≡ 3)
@@ -88,7 +89,7 @@ module _ (d : Board) (bytes : List ℕ) (has : HasKernel bytes) (x : ℕ) (k : C
       let s : Stage d.State = second last in
       let pins : Pins = d.pins k.p1 k.p2 (x + 2) s.board in
       let e : nat_le 32 (k.pre + 2 + 1) ≡ false = grind (arith, nat_tests, few) in
-      let Q : Stage d.State → Type 0 = λ e. (e.cpu ≡ after_timer Timer 1 pins (record s.cpu { pc = 10; t = 192 }))
+      let Q : Stage d.State → Type 0 = λ e. (e.cpu ≡ after_timer Timer 1 pins (record s.cpu { pc = TICK + 3; t = 192 }))
       × (e.off ≡ 3)
       × (e.board ≡ after_cycles 1 2 (λ o. d.cycle k.p2 (x + o)) (after_cycles 2 x (d.cycle k.p2) board)) in
       let h = sound d (kernel_in false bytes) (has_rows false bytes has) x (Run 1 ∷ []) Q s (refl, refl, refl) free in
@@ -96,7 +97,7 @@ module _ (d : Board) (bytes : List ℕ) (has : HasKernel bytes) (x : ℕ) (k : C
         steps = h.steps;
         end = h.end;
         run = h.run;
-        goal = (pins.t1, h.goal.0 ∙ timer_on 1 (record s.cpu { pc = 10; t = 192 }) pins e, h.goal.1, h.goal.2);
+        goal = (pins.t1, h.goal.0 ∙ timer_on 1 (record s.cpu { pc = TICK + 3; t = 192 }) pins e, h.goal.1, h.goal.2);
         each = h.each;
         free = h.free;
         order = h.order;
@@ -143,9 +144,9 @@ module _ (d : Board) (bytes : List ℕ) (has : HasKernel bytes) (x : ℕ) (k : C
         column = ap (λ (c : Cpu). c.p1) h.0;
         p2 = ap (λ (c : Cpu). c.p2) h.0;
         f1 = ap (λ (c : Cpu). c.f1) h.0;
-        r0 = ap (λ r. slice_index r 24) now;
-        r1 = ap (λ r. slice_index r 25) now;
-        r3 = ap (λ r. slice_index r 27) now;
+        r0 = ap (λ r. slice_index r R0) now;
+        r1 = ap (λ r. slice_index r R1) now;
+        r3 = ap (λ r. slice_index r R3) now;
         others = λ i out.
             ap (λ r. slice_index r i) now ∙ others_are f (ready f) ring is_counting (λ j l n. ready_others f j n) i out;
       }

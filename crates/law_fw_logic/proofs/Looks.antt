@@ -1,7 +1,7 @@
 -- The lights, and the looks at both wires. Each law counts cycles from its block's head.
 use Rattle.std.proofs.Common.{◌≡◌, ℕ, ◌+◌, ◌-◌, List, [], ◌∷◌, Bool, true, false, not, bit_and, refl, ap, sym, ◌∙◌}
 use Rattle.mcs48_core.specs.Cpu.{Cpu}
-use Rattle.fw_kernel.specs.declared.cells.TheConstants.{LIGHTS}
+use Rattle.fw_kernel.specs.declared.cells.TheConstants.{LIGHTS, R0, R1, R2, R4, R6}
 use Rattle.fw_kernel.specs.declared.labels.TheConstants.{LAMPS, TESTED, LOOKS, SEND, GOT, PULLED}
 use Rattle.fw_kernel.specs.Places.{HasKernel}
 use Rattle.joint_run.specs.Run.{Board, after_cycles}
@@ -17,7 +17,7 @@ use Rattle.law_fw_logic.proofs.Short.{has_rows}
 
 -- what the looks leave in R0, R1, R2 and R6: the latch with data low, and the byte
 abbrev pub readied : (ℕ → ℕ) → ℕ → ℕ
-readied f = put (put (put (put f 25 LIGHTS) 26 (bit_and (255 - f LIGHTS) 253)) 30 (f 28)) 24 0
+readied f = put (put (put (put f R1 LIGHTS) R2 (bit_and (255 - f LIGHTS) 253)) R6 (f R4)) R0 0
 
 module _ (d : Board) (bytes : List ℕ) (has : HasKernel bytes) (y : ℕ) (k : Cpu) (f : ℕ → ℕ) (ring : List ℕ)
     (board : d.State) (free : IsFree k) where
@@ -33,9 +33,9 @@ module _ (d : Board) (bytes : List ℕ) (has : HasKernel bytes) (y : ℕ) (k : C
 
   -- the block of the lights puts them on port 2 in six cycles
   pub lamps : Leads d (kernel_in true bytes) y (begin_at d LAMPS f ring k board)
-      (At d lit TESTED (put f 25 LIGHTS) ring 6 lit_board)
+      (At d lit TESTED (put f R1 LIGHTS) ring 6 lit_board)
   lamps =
-      straight d (kernel_in true bytes) (has_rows true bytes has) (Until TESTED ∷ []) y k LAMPS TESTED 6 f (put f 25 LIGHTS)
+      straight d (kernel_in true bytes) (has_rows true bytes has) (Until TESTED ∷ []) y k LAMPS TESTED 6 f (put f R1 LIGHTS)
       ring
       lit board lit_board free (
         refl,
@@ -62,7 +62,7 @@ module _ (d : Board) (bytes : List ℕ) (has : HasKernel bytes) (y : ℕ) (k : C
       → Leads d (kernel_in true bytes) y (begin_at d LOOKS f ring k board)
       (At d k PULLED (readied f) ring 18 (after_cycles 18 y step board))
   looks_pulled low =
-      straight d (kernel_in true bytes) (has_rows true bytes has) (Until 81 ∷ Go true ∷ []) y k LOOKS PULLED 18 f
+      straight d (kernel_in true bytes) (has_rows true bytes has) (Go true ∷ []) y k LOOKS PULLED 18 f
       (readied f) ring
       k board (after_cycles 18 y step board) free (ap not (clock_is ∙ low), (refl, refl, absolute 18 y step board))
 
@@ -71,7 +71,7 @@ module _ (d : Board) (bytes : List ℕ) (has : HasKernel bytes) (y : ℕ) (k : C
       → Leads d (kernel_in true bytes) y (begin_at d LOOKS f ring k board)
       (At d k GOT (readied f) ring 20 (after_cycles 20 y step board))
   looks_got high low =
-      straight d (kernel_in true bytes) (has_rows true bytes has) (Until 81 ∷ Go false ∷ Go true ∷ []) y k LOOKS GOT 20
+      straight d (kernel_in true bytes) (has_rows true bytes has) (Go false ∷ Go true ∷ []) y k LOOKS GOT 20
       f
       (readied f) ring
       k board (after_cycles 20 y step board) free
@@ -82,7 +82,7 @@ module _ (d : Board) (bytes : List ℕ) (has : HasKernel bytes) (y : ℕ) (k : C
       → Leads d (kernel_in true bytes) y (begin_at d LOOKS f ring k board)
       (At d k SEND (readied f) ring 20 (after_cycles 20 y step board))
   looks_free high high' =
-      straight d (kernel_in true bytes) (has_rows true bytes has) (Until 81 ∷ Go false ∷ Go false ∷ []) y k LOOKS SEND
+      straight d (kernel_in true bytes) (has_rows true bytes has) (Go false ∷ Go false ∷ []) y k LOOKS SEND
       20 f
       (readied f) ring
       k board (after_cycles 20 y step board) free

@@ -73,13 +73,14 @@ answered (Jni to) b m = branch b to m
 answered (Jtf to) b m = branch b to (record m { tf = false })
 answered op b m = m
 
--- notes of a path: so many instructions; instructions up to a place; a jump with its answer; A, or the data memory, in
--- other
--- words; both ways of a jump, which meet at a place in one state, by the state before, the answer and the timer
+-- notes of a path: so many instructions; instructions up to a place; instructions up to a test, and its answer; a count
+-- (DJNZ), and its answer; A, or the data memory, in other words; instructions up to a test, both ways of which meet
+-- at a place in one state, by the state before, the answer and the timer
 pub data Note : Type 0 where
   Run : ℕ → Note
   Until : ℕ → Note
   Go : Bool → Note
+  Count : Bool → Note
   Acc : ℕ → Note
   Ram : List ℕ → Note
   Fork : ℕ → (Cpu → Bool → Cpu → Cpu) → Note
@@ -115,10 +116,34 @@ abbrev pub Runs : (d : Board) → Code → ℕ → ℕ → Stage d.State → (St
 Runs d code x zero s K = K s
 Runs d code x (suc n) s K = Quiet d code x s (λ t. Runs d code x n t K)
 
-abbrev pub Untils : (d : Board) → Code → ℕ → ℕ → ℕ → Stage d.State → (Stage d.State → Type 0) → Type 0
-Untils d code x place zero s K = ⊥
-Untils d code x place (suc n) s K =
-    elim (s.cpu.pc == place) [ true ↦ K s | false ↦ Quiet d code x s (λ t. Untils d code x place n t K) ]
+-- such instructions up to one that is the last by its place
+abbrev pub Untils : (d : Board) → Code → ℕ → (ℕ → Bool) → ℕ → Stage d.State → (Stage d.State → Type 0) → Type 0
+Untils d code x last zero s K = ⊥
+Untils d code x last (suc n) s K =
+    elim (last s.cpu.pc) [ true ↦ K s | false ↦ Quiet d code x s (λ t. Untils d code x last n t K) ]
+
+-- a test: a jump with a condition that isn't a count
+abbrev pub is_test : Op → Bool
+is_test (Flow (Jb b to)) = true
+is_test (Flow (Jc to)) = true
+is_test (Flow (Jnc to)) = true
+is_test (Flow (Jz to)) = true
+is_test (Flow (Jnz to)) = true
+is_test (Flow (Jt0 to)) = true
+is_test (Flow (Jnt0 to)) = true
+is_test (Flow (Jt1 to)) = true
+is_test (Flow (Jnt1 to)) = true
+is_test (Flow (Jf0 to)) = true
+is_test (Flow (Jf1 to)) = true
+is_test op = false
+
+abbrev pub is_tested : Option Decoded → Bool
+is_tested None = false
+is_tested (Some r) = is_test r.op
+
+-- whether a place has a test
+abbrev pub tests_at : Code → ℕ → Bool
+tests_at code pc = is_tested (code.row pc)
 
 abbrev pub Is : Option Bool → Bool → Type 0 → Type 0
 Is None o P = ⊥
@@ -153,8 +178,8 @@ abbrev pub Meets : (d : Board) → Code → ℕ → ℕ → (Cpu → Bool → Cp
     → (Stage d.State → Type 0) → Type 0
 Meets d code x p F cycles op s None K = ⊥
 Meets d code x p F cycles op s (Some b) K =
-    Untils d code x p 200 (jumped d x cycles op true s) (λ t.
-    (t.cpu ≡ F s.cpu true t.cpu) × Untils d code x p 200 (jumped d x cycles op false s) (λ u.
+    Untils d code x (λ pc. pc == p) 200 (jumped d x cycles op true s) (λ t.
+    (t.cpu ≡ F s.cpu true t.cpu) × Untils d code x (λ pc. pc == p) 200 (jumped d x cycles op false s) (λ u.
     (u.cpu ≡ F s.cpu false u.cpu) × (u.board ≡ t.board) × (u.off ≡ t.off)
     × ((e : Cpu) → K (record { cpu = F s.cpu b e; board = t.board; off = t.off }))))
 
@@ -179,9 +204,12 @@ Parts d code x p F s K = elim (s.cpu.pc % 2048
 abbrev pub Path : (d : Board) → Code → ℕ → List Note → Stage d.State → (Stage d.State → Type 0) → Type 0
 Path d code x [] s Q = Q s
 Path d code x (Run n ∷ rest) s Q = Runs d code x n s (λ t. Path d code x rest t Q)
-Path d code x (Until p ∷ rest) s Q = Untils d code x p 1000 s (λ t. Path d code x rest t Q)
-Path d code x (Go b ∷ rest) s Q = Answers d code x b s (λ t. Path d code x rest t Q)
+Path d code x (Until p ∷ rest) s Q = Untils d code x (λ pc. pc == p) 1000 s (λ t. Path d code x rest t Q)
+Path d code x (Go b ∷ rest) s Q =
+    Untils d code x (tests_at code) 1000 s (λ t. Answers d code x b t (λ u. Path d code x rest u Q))
+Path d code x (Count b ∷ rest) s Q = Answers d code x b s (λ t. Path d code x rest t Q)
 Path d code x (Acc v ∷ rest) s Q = (s.cpu.a ≡ v) × Path d code x rest (record s { cpu = record s.cpu { a = v } }) Q
 Path d code x (Ram ram ∷ rest) s Q =
     (s.cpu.ram ≡ ram) × Path d code x rest (record s { cpu = record s.cpu { ram = ram } }) Q
-Path d code x (Fork p F ∷ rest) s Q = Parts d code x p F s (λ t. Path d code x rest t Q)
+Path d code x (Fork p F ∷ rest) s Q =
+    Untils d code x (tests_at code) 1000 s (λ t. Parts d code x p F t (λ u. Path d code x rest u Q))

@@ -25,7 +25,7 @@ use Rattle.law_fw_logic.proofs.Returning.{IsOver, IsTimed, Next, ends}
 
 -- where a tick's work begins, whatever the timer is: it has just been written
 abbrev pub work_cpu : TimerState → (ℕ → ℕ) → List ℕ → Cpu → Cpu
-work_cpu l f ring m = record (entering l f ring m) { pc = 10; a = 192 }
+work_cpu l f ring m = record (entering l f ring m) { pc = TICK + 3; a = 192 }
 
 abbrev pub work_at : (d : Board) → ℕ → TimerState → (ℕ → ℕ) → List ℕ → Cpu → d.State → Stage d.State
 work_at d x l f ring m board =
@@ -36,7 +36,7 @@ module _ (d : Board) (bytes : List ℕ) (has : HasKernel bytes) where
   abbrev pub second : ℕ → TimerState → Bool → (ℕ → ℕ) → List ℕ → Cpu → d.State → Stage d.State
   second x b t1 f ring m board =
       record {
-        cpu = record (entering (run_on 2 t1 b) f ring m) { pc = 9; a = 192 };
+        cpu = record (entering (run_on 2 t1 b) f ring m) { pc = TICK + 2; a = 192 };
         board = after_cycles 2 x (d.cycle m.p2) board;
         off = 2;
       }

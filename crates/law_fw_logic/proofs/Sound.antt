@@ -15,9 +15,9 @@ use Rattle.mcs48_core.specs.Flow.{branch, flow}
 use Rattle.mcs48_core.specs.Timer.{after_timer}
 use Rattle.joint_run.specs.Run.{Board}
 use Rattle.law_fw_logic.proofs.TimerParts.{IsFree}
-use Rattle.law_fw_logic.proofs.Path.{Stage, Code, Note, Run, Until, Go, Acc, Ram, Fork, Path, jumped, Meets, Forks, Runs}
-use Rattle.law_fw_logic.proofs.Path.{Untils, Quiet, Plainly, Jumps, Is, condition, answered, pins_at, moved}
-use Rattle.law_fw_logic.proofs.Path.{left, is_taken}
+use Rattle.law_fw_logic.proofs.Path.{Stage, Code, Note, Run, Until, Go, Count, Acc, Ram, Fork, Path, jumped, Meets, Forks}
+use Rattle.law_fw_logic.proofs.Path.{Runs, Untils, Quiet, Plainly, Answers, Jumps, Parts, Is, condition, answered, pins_at}
+use Rattle.law_fw_logic.proofs.Path.{moved, left, is_taken, tests_at}
 use Rattle.law_fw_logic.proofs.Leads.{Leads, HasRows}
 pub use Rattle.law_fw_logic.proofs.Chain.{stepped_is, ticks_from, chain, stay, weaken}
 use Rattle.law_fw_logic.proofs.Chain.{then, here, by_row}
@@ -56,18 +56,19 @@ module _ (d : Board) (code : Code) (has : HasRows code) (x : ℕ) where
   steps_lead (suc n) K s h =
       then d code has x (λ t. Runs d code x n t K) K s (step_leads (λ t. Runs d code x n t K) s h) (λ t g. steps_lead n K t g)
 
-  -- such steps up to a place lead on, as `Until` notes: none at the place, else one and then the others
-  until_leads_by : (place n : ℕ) (K : Stage d.State → Type 0) (s : Stage d.State)
-      → ((t : Stage d.State) → Untils d code x place n t K → To t K) → (b : Bool)
-      → (elim b as (λ v. Type 0) [ true ↦ K s | false ↦ Quiet d code x s (λ t. Untils d code x place n t K) ])
+  -- such steps up to the last place lead on, as `Until`, `Go` and `Fork` notes: none at the place, else one and then
+  -- the others
+  until_leads_by : (last : ℕ → Bool) (n : ℕ) (K : Stage d.State → Type 0) (s : Stage d.State)
+      → ((t : Stage d.State) → Untils d code x last n t K → To t K) → (b : Bool)
+      → (elim b as (λ v. Type 0) [ true ↦ K s | false ↦ Quiet d code x s (λ t. Untils d code x last n t K) ])
       → To s K
-  until_leads_by place n K s ih true h = here d code has x K s h
-  until_leads_by place n K s ih false h =
-      then d code has x (λ t. Untils d code x place n t K) K s (step_leads (λ t. Untils d code x place n t K) s h) ih
+  until_leads_by last n K s ih true h = here d code has x K s h
+  until_leads_by last n K s ih false h =
+      then d code has x (λ t. Untils d code x last n t K) K s (step_leads (λ t. Untils d code x last n t K) s h) ih
 
-  until_leads : (place n : ℕ) (K : Stage d.State → Type 0) (s : Stage d.State) → Untils d code x place n s K → To s K
-  until_leads place zero K s h = absurd h
-  until_leads place (suc n) K s h = until_leads_by place n K s (λ t g. until_leads place n K t g) (s.cpu.pc == place) h
+  until_leads : (last : ℕ → Bool) (n : ℕ) (K : Stage d.State → Type 0) (s : Stage d.State) → Untils d code x last n s K → To s K
+  until_leads last zero K s h = absurd h
+  until_leads last (suc n) K s h = until_leads_by last n K s (λ t g. until_leads last n K t g) (last s.cpu.pc) h
 
   -- an answered jump is the jump
   answered_is_jump : (op : FlowOp) (pins : Pins) (m : Cpu) (b : Bool) (P : Type 0) → Is (condition op pins m) b P
@@ -93,7 +94,7 @@ module _ (d : Board) (code : Code) (has : HasRows code) (x : ℕ) where
   answered_is_jump Jmpp pins m b P h = absurd h
   answered_is_jump (Jtf to) pins m b P h = (ap (λ b. branch b to (record m { tf = false })) (sym h.0), h.1)
 
-  -- a jump whose condition has the answer b, as `Go b` notes: the instruction may be on a path
+  -- a jump whose condition has the answer b, as `Go b` and `Count b` notes: the instruction may be on a path
   answer_leads_by : (b : Bool) (K : Stage d.State → Type 0) (s : Stage d.State) (len cycles : ℕ) (op : FlowOp)
       → code.row s.cpu.pc ≡ Some (record { op = Flow op; len = len; cycles = cycles })
       → (s.cpu.pc % 2048 == code.tick) ≡ false
@@ -169,17 +170,19 @@ module _ (d : Board) (code : Code) (has : HasRows code) (x : ℕ) where
   both_ways_lead p F K s len cycles op row taken off None is h free = absurd h
   both_ways_lead p F K s len cycles op row taken off (Some true) is h free =
       jump_leads K s len cycles op true row taken off is
-      (chain d code has x (λ t. (t.cpu ≡ F s.cpu true t.cpu) × Untils d code x p 200 (jumped d x cycles op false s)
+      (chain d code has x (λ t. (t.cpu ≡ F s.cpu true t.cpu)
+      × Untils d code x (λ pc. pc == p) 200 (jumped d x cycles op false s)
       (λ u. (u.cpu ≡ F s.cpu false u.cpu) × (u.board ≡ t.board) × (u.off ≡ t.off)
       × ((e : Cpu) → K (record { cpu = F s.cpu true e; board = t.board; off = t.off })))) K
       (jumped d x cycles op true s)
-      (until_leads p 200 (λ t. (t.cpu ≡ F s.cpu true t.cpu) × Untils d code x p 200 (jumped d x cycles op false s)
+      (until_leads (λ pc. pc == p) 200 (λ t. (t.cpu ≡ F s.cpu true t.cpu)
+      × Untils d code x (λ pc. pc == p) 200 (jumped d x cycles op false s)
       (λ u. (u.cpu ≡ F s.cpu false u.cpu) × (u.board ≡ t.board) × (u.off ≡ t.off)
       × ((e : Cpu) → K (record { cpu = F s.cpu true e; board = t.board; off = t.off })))) (jumped d x cycles op true s)
       h (answered_stays_free op true (past s.cpu) free))
       (λ t g f.
       let other =
-      until_leads p 200
+      until_leads (λ pc. pc == p) 200
       (λ u. (u.cpu ≡ F s.cpu false u.cpu) × (u.board ≡ t.board) × (u.off ≡ t.off)
       × ((e : Cpu) → K (record { cpu = F s.cpu true e; board = t.board; off = t.off })))
       (jumped d x cycles op false s) g.1 (answered_stays_free op false (past s.cpu) free) in
@@ -188,8 +191,8 @@ module _ (d : Board) (code : Code) (has : HasRows code) (x : ℕ) where
       free
   both_ways_lead p F K s len cycles op row taken off (Some false) is h free =
       let first =
-      until_leads p 200
-      (λ t. (t.cpu ≡ F s.cpu true t.cpu) × Untils d code x p 200 (jumped d x cycles op false s)
+      until_leads (λ pc. pc == p) 200
+      (λ t. (t.cpu ≡ F s.cpu true t.cpu) × Untils d code x (λ pc. pc == p) 200 (jumped d x cycles op false s)
       (λ u. (u.cpu ≡ F s.cpu false u.cpu) × (u.board ≡ t.board) × (u.off ≡ t.off)
       × ((e : Cpu) → K (record { cpu = F s.cpu false e; board = t.board; off = t.off }))))
       (jumped d x cycles op true s) h (answered_stays_free op true (past s.cpu) free) in
@@ -199,7 +202,8 @@ module _ (d : Board) (code : Code) (has : HasRows code) (x : ℕ) where
       ((e : Cpu) → K (record { cpu = F s.cpu false e; board = t.board; off = t.off })) in
       jump_leads K s len cycles op false row taken off is
       (chain d code has x Q K (jumped d x cycles op false s)
-      (until_leads p 200 Q (jumped d x cycles op false s) first.goal.1 (answered_stays_free op false (past s.cpu) free))
+      (until_leads (λ pc. pc == p) 200 Q (jumped d x cycles op false s) first.goal.1
+      (answered_stays_free op false (past s.cpu) free))
       (λ u g f.
       stay d code has x K u
       (subst (λ c. K (record { cpu = c; board = u.board; off = u.off })) (sym g.0)
@@ -254,9 +258,15 @@ module _ (d : Board) (code : Code) (has : HasRows code) (x : ℕ) where
       then d code has x (λ t. Path d code x rest t Q) Q s (steps_lead n (λ t. Path d code x rest t Q) s h)
       (λ t g. sound rest Q t g)
   sound (Until p ∷ rest) Q s h =
-      then d code has x (λ t. Path d code x rest t Q) Q s (until_leads p 1000 (λ t. Path d code x rest t Q) s h)
+      then d code has x (λ t. Path d code x rest t Q) Q s (until_leads (λ pc. pc == p) 1000 (λ t. Path d code x rest t Q) s h)
       (λ t g. sound rest Q t g)
   sound (Go b ∷ rest) Q s h =
+      then d code has x (λ t. Answers d code x b t (λ u. Path d code x rest u Q)) Q s
+      (until_leads (tests_at code) 1000 (λ t. Answers d code x b t (λ u. Path d code x rest u Q)) s h)
+      (λ t g.
+      then d code has x (λ u. Path d code x rest u Q) Q t
+      (answer_leads b (λ u. Path d code x rest u Q) t (t.cpu.pc % 2048 == code.tick) refl g) (λ u k. sound rest Q u k))
+  sound (Count b ∷ rest) Q s h =
       then d code has x (λ t. Path d code x rest t Q) Q s
       (answer_leads b (λ t. Path d code x rest t Q) s (s.cpu.pc % 2048 == code.tick) refl h) (λ t g. sound rest Q t g)
   sound (Acc v ∷ rest) Q s h =
@@ -266,5 +276,8 @@ module _ (d : Board) (code : Code) (has : HasRows code) (x : ℕ) where
       subst (λ a. To (record s { cpu = record s.cpu { ram = a } }) Q) (sym h.0)
       (sound rest Q (record s { cpu = record s.cpu { ram = ram } }) h.1)
   sound (Fork p F ∷ rest) Q s h =
-      then d code has x (λ t. Path d code x rest t Q) Q s
-      (fork_leads p F (λ t. Path d code x rest t Q) s (s.cpu.pc % 2048 == code.tick) refl h) (λ t g. sound rest Q t g)
+      then d code has x (λ t. Parts d code x p F t (λ u. Path d code x rest u Q)) Q s
+      (until_leads (tests_at code) 1000 (λ t. Parts d code x p F t (λ u. Path d code x rest u Q)) s h)
+      (λ t g.
+      then d code has x (λ u. Path d code x rest u Q) Q t
+      (fork_leads p F (λ u. Path d code x rest u Q) t (t.cpu.pc % 2048 == code.tick) refl g) (λ u k. sound rest Q u k))

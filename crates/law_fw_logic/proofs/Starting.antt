@@ -9,7 +9,9 @@ use Rattle.mcs48_isa.specs.declared.operation.ControlOp.TheVariants.{EnTcnti, St
 use Rattle.mcs48_core.specs.Cpu.{Cpu}
 use Rattle.mcs48_core.specs.Reset.{reset_cpu, reset_in}
 use Rattle.mcs48_core.specs.Step.{executed}
-use Rattle.fw_kernel.specs.declared.labels.TheConstants.{TICK}
+use Rattle.fw_kernel.specs.Tables.{rate_at}
+use Rattle.fw_kernel.specs.declared.cells.TheConstants.{R1, TEST, RATE, LAST}
+use Rattle.fw_kernel.specs.declared.labels.TheConstants.{TICK, PAUSE, RESTART, BLANK}
 use Rattle.fw_kernel.specs.Places.{HasKernel}
 use Rattle.joint_run.specs.Run.{Board, World, after_cycles, seen}
 use Rattle.joint_run.specs.Starts.{Comes}
@@ -35,7 +37,7 @@ empty_ring = 0 ∷ 0 ∷ 0 ∷ 0 ∷ 0 ∷ 0 ∷ 0 ∷ 0 ∷ 0 ∷ 0 ∷ 0 ∷ 0
 
 -- and before the first tick: TEST, LAST and RATE are set
 abbrev pub powered : List ℕ → ℕ → ℕ
-powered bytes = put (put (put (put empty 69 64) 76 170) 73 (slice_index bytes 864)) 25 73
+powered bytes = put (put (put (put empty TEST 64) LAST 170) RATE (slice_index bytes rate_at)) R1 RATE
 
 -- a processor after reset, but for the bus latch, F1 and the timer's flag, which are another's
 abbrev pub reset_by : Cpu → Cpu
@@ -69,7 +71,7 @@ module _ (d : Board) (bytes : List ℕ) (has : HasKernel bytes) where
 
   abbrev pub back_cpu : Cpu → (ℕ → ℕ) → Bool → Cpu
   back_cpu m f last = record (reset_by m) {
-    pc = 698;
+    pc = RESTART + 14;
     a = 1;
     sp = 1;
     ram = before (back_cells f) 0 128 [];
@@ -87,7 +89,7 @@ module _ (d : Board) (bytes : List ℕ) (has : HasKernel bytes) where
   abbrev pub blank_at : Cpu → (ℕ → ℕ) → Bool → d.State → Stage d.State
   blank_at m f last board = record {
     cpu = record (reset_by m) {
-      pc = 699;
+      pc = BLANK;
       a = 1;
       ram = before (back_cells f) 0 128 [];
       t = m.t;
@@ -106,21 +108,21 @@ module _ (d : Board) (bytes : List ℕ) (has : HasKernel bytes) where
       let at : World d.State =
       record { cpu = back_cpu m f last; board = after_cycles 23 0 (d.cycle 255) board; cycle = 23 } in
       let r : Decoded = record { op = Flow Retr; len = 1; cycles = 2 } in
-      let row = (has_rows true bytes has 698 r refl).0 in
+      let row = (has_rows true bytes has (RESTART + 14) r refl).0 in
       comes_by d TICK bytes Q at (record { cpu = (blank_at m f (seen d at).t1 board).cpu; cycles = 2 }) refl
       (stepped_is bytes (seen d at) at.cpu r (inr (refl, refl)) row) (rest (seen d at).t1)
 
   -- the timer is written and stands still; its interrupt isn't enabled yet, and no request is latched
   abbrev set_cpu : Cpu → Bool → Cpu
   set_cpu k last =
-      record (plain (powered bytes) empty_ring (reset_by k)) { pc = 250; a = 142; t = 142; pre = k.pre; last_t1 = last }
+      record (plain (powered bytes) empty_ring (reset_by k)) { pc = PAUSE + 2; a = 142; t = 142; pre = k.pre; last_t1 = last }
 
   abbrev IsSet : Cpu → d.State → Stage d.State → Type 0
   IsSet k board e =
       (e.cpu ≡ set_cpu k e.cpu.last_t1) × (e.off ≡ 444) × (e.board ≡ after_cycles 444 0 (d.cycle 255) board)
 
   sets : (m : Cpu) (f : ℕ → ℕ) (board : d.State) (last : Bool)
-      → Path d (kernel_in false bytes) 0 (Until 250 ∷ []) (blank_at m f last board) (IsSet m board)
+      → Path d (kernel_in false bytes) 0 (Until (PAUSE + 2) ∷ []) (blank_at m f last board) (IsSet m board)
   sets m f board last = (refl, refl, refl)
 
   -- EN TCNTI and STRT T
@@ -136,10 +138,10 @@ module _ (d : Board) (bytes : List ℕ) (has : HasKernel bytes) where
       let at : World d.State =
       record { cpu = set_cpu k last; board = after_cycles 444 0 (d.cycle 255) board; cycle = 444 } in
       let pins = seen d at in
-      let on : Cpu = record (set_cpu k pins.t1) { pc = 251; tim_on = true } in
+      let on : Cpu = record (set_cpu k pins.t1) { pc = PAUSE + 3; tim_on = true } in
       let next : World d.State = record { cpu = on; board = after_cycles 445 0 (d.cycle 255) board; cycle = 445 } in
-      let row = (has_rows true bytes has 250 (record { op = Control EnTcnti; len = 1; cycles = 1 }) refl).0 in
-      let row' = (has_rows true bytes has 251 (record { op = Control StrtT; len = 1; cycles = 1 }) refl).0 in
+      let row = (has_rows true bytes has (PAUSE + 2) (record { op = Control EnTcnti; len = 1; cycles = 1 }) refl).0 in
+      let row' = (has_rows true bytes has (PAUSE + 3) (record { op = Control StrtT; len = 1; cycles = 1 }) refl).0 in
       comes_by d TICK bytes Q at (record { cpu = on; cycles = 1 }) refl
       (stepped_is bytes pins at.cpu (record { op = Control EnTcnti; len = 1; cycles = 1 }) (inr (refl, refl)) row)
       (comes_by d TICK bytes Q next (record {
@@ -152,7 +154,7 @@ module _ (d : Board) (bytes : List ℕ) (has : HasKernel bytes) where
       → Comes d TICK bytes (world_at 0 (blank_at m f last board)) (IsFirst d bytes board)
   from_blank m f board last =
       let h =
-      sound d (kernel_in false bytes) (has_rows false bytes has) 0 (Until 250 ∷ []) (IsSet m board)
+      sound d (kernel_in false bytes) (has_rows false bytes has) 0 (Until (PAUSE + 2) ∷ []) (IsSet m board)
       (blank_at m f last board) (sets m f board last) (inr (refl, refl)) in
       let k : Cpu = record (reset_by m) { a = 142 } in
       let b : d.State = after_cycles 446 0 (d.cycle 255) board in
@@ -201,10 +203,11 @@ module _ (d : Board) (bytes : List ℕ) (has : HasKernel bytes) where
 
   -- a stage whose path comes there
   pub by_back : (k : Cpu) (f : ℕ → ℕ) (board : d.State) (s : Stage d.State)
-      → Path d (kernel_in false bytes) 0 (Until 698 ∷ []) s (IsBack k f board) → IsFree s.cpu
+      → Path d (kernel_in false bytes) 0 (Until (RESTART + 14) ∷ []) s (IsBack k f board) → IsFree s.cpu
       → Comes d TICK bytes (world_at 0 s) (IsFirst d bytes board)
   by_back k f board s path free =
-      let h = sound d (kernel_in false bytes) (has_rows false bytes has) 0 (Until 698 ∷ []) (IsBack k f board) s path free in
+      let h = sound d (kernel_in false bytes) (has_rows false bytes has) 0 (Until (RESTART + 14) ∷ []) (IsBack k f board)
+      s path free in
       let e = h.end in
       let there : World d.State =
       record { cpu = back_cpu k f e.cpu.last_t1; board = after_cycles 23 0 (d.cycle 255) board; cycle = 23 } in

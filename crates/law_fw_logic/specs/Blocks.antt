@@ -4,6 +4,7 @@ use Rattle.std.specs.Prelude.{List, length, slice_index, bit_and, bit_xor}
 use Rattle.mcs48_core.specs.declared.levels.Pins.{Pins}
 use Rattle.mcs48_core.specs.Cpu.{Cpu}
 use Rattle.mcs48_core.specs.declared.processor.Count.TheVariants.{Timer}
+use Rattle.fw_kernel.specs.declared.cells.TheConstants.{R0, R1, R2, R3, R4, R6, HELD, CHANGED}
 use Rattle.fw_kernel.specs.declared.labels.TheConstants.{TICK, READ, OFFER, LAMPS, TESTED, LOOKS, SEND, GOT, PULLED}
 use Rattle.fw_kernel.specs.Places.{HasKernel}
 use Rattle.joint_run.specs.Run.{Board, World, after_cycles}
@@ -22,7 +23,7 @@ pub record IsAt (place : ℕ) (m : Cpu) : Type 0 where
 
 -- R0, R1 and R3
 abbrev pub is_counting : ℕ → Bool
-is_counting i = (i == 24) || (i == 25) || (i == 27)
+is_counting i = (i == R0) || (i == R1) || (i == R3)
 
 -- the tick's head in 16 cycles: the timer is written, and the prescaler goes on; the first column is selected
 pub record Heads (d : Board) (w e : World d.State) : Type 0 where
@@ -34,14 +35,15 @@ pub record Heads (d : Board) (w e : World d.State) : Type 0 where
   pub column : e.cpu.p1 ≡ 32
   pub p2 : e.cpu.p2 ≡ w.cpu.p2
   pub f1 : e.cpu.f1 ≡ w.cpu.f1
-  pub r0 : slice_index e.cpu.ram 24 ≡ 32
-  pub r1 : slice_index e.cpu.ram 25 ≡ 48
-  pub r3 : slice_index e.cpu.ram 27 ≡ 12
+  pub r0 : slice_index e.cpu.ram R0 ≡ HELD
+  pub r1 : slice_index e.cpu.ram R1 ≡ CHANGED
+  pub r3 : slice_index e.cpu.ram R3 ≡ 12
   pub others : (i : ℕ) → is_counting i ≡ false → slice_index e.cpu.ram i ≡ slice_index w.cpu.ram i
 
 -- the reading's registers R0, R1 and R3, HELD and CHANGED
 abbrev pub is_read : ℕ → Bool
-is_read i = (i == 24) || (i == 25) || (i == 27) || (nat_le 32 i && nat_lt i 44) || (nat_le 48 i && nat_lt i 60)
+is_read i = (i == R0) || (i == R1) || (i == R3) || (nat_le HELD i && nat_lt i (HELD + 12))
+    || (nat_le CHANGED i && nat_lt i (CHANGED + 12))
 
 -- the columns in 192 cycles
 pub record ReadsColumns (d : Board) (w e : World d.State) : Type 0 where
@@ -50,9 +52,10 @@ pub record ReadsColumns (d : Board) (w e : World d.State) : Type 0 where
   pub board : e.board ≡ in_tick d w 192
   pub p2 : e.cpu.p2 ≡ w.cpu.p2
   pub f1 : e.cpu.f1 ≡ w.cpu.f1
-  pub held : (c : ℕ) → c < 12 → slice_index e.cpu.ram (32 + c) ≡ downs d w.cycle w.cpu.p2 w.board c
+  pub held : (c : ℕ) → c < 12 → slice_index e.cpu.ram (HELD + c) ≡ downs d w.cycle w.cpu.p2 w.board c
   pub changed : (c : ℕ) → c < 12
-      → slice_index e.cpu.ram (48 + c) ≡ bit_xor (slice_index w.cpu.ram (32 + c)) (slice_index e.cpu.ram (32 + c))
+      → slice_index e.cpu.ram (CHANGED + c)
+      ≡ bit_xor (slice_index w.cpu.ram (HELD + c)) (slice_index e.cpu.ram (HELD + c))
   pub others : (i : ℕ) → is_read i ≡ false → slice_index e.cpu.ram i ≡ slice_index w.cpu.ram i
 
 -- the lights in six cycles; the latch is put in the fifth
@@ -63,7 +66,7 @@ pub record PutsLights (d : Board) (w e : World d.State) : Type 0 where
   pub p2 : e.cpu.p2 ≡ 255 - slice_index w.cpu.ram lights_cell
   pub f1 : e.cpu.f1 ≡ w.cpu.f1
   pub board : e.board ≡ after_cycles 2 (w.cycle + 4) (d.cycle e.cpu.p2) (in_tick d w 4)
-  pub others : (i : ℕ) → (i == 25) ≡ false → slice_index e.cpu.ram i ≡ slice_index w.cpu.ram i
+  pub others : (i : ℕ) → (i == R1) ≡ false → slice_index e.cpu.ram i ≡ slice_index w.cpu.ram i
 
 -- the clock in cycle 16 of the looks, data in cycle 18
 abbrev pub clock_seen : (d : Board) → World d.State → Bool
@@ -74,7 +77,7 @@ data_seen d w = (levels_in d w.cycle w.cpu.p1 w.cpu.p2 w.board 18).t1
 
 -- R0, R1, R2 and R6
 abbrev pub is_looking : ℕ → Bool
-is_looking i = (i == 24) || (i == 25) || (i == 26) || (i == 30)
+is_looking i = (i == R0) || (i == R1) || (i == R2) || (i == R6)
 
 -- where the looks go, and when they are there
 abbrev pub way : Bool → Bool → ℕ
@@ -94,8 +97,8 @@ pub record Looks (d : Board) (w e : World d.State) : Type 0 where
   pub p1 : e.cpu.p1 ≡ w.cpu.p1
   pub p2 : e.cpu.p2 ≡ w.cpu.p2
   pub f1 : e.cpu.f1 ≡ w.cpu.f1
-  pub r2 : slice_index e.cpu.ram 26 ≡ bit_and (255 - slice_index w.cpu.ram lights_cell) 253
-  pub r6 : slice_index e.cpu.ram 30 ≡ slice_index w.cpu.ram 28
+  pub r2 : slice_index e.cpu.ram R2 ≡ bit_and (255 - slice_index w.cpu.ram lights_cell) 253
+  pub r6 : slice_index e.cpu.ram R6 ≡ slice_index w.cpu.ram R4
   pub others : (i : ℕ) → is_looking i ≡ false → slice_index e.cpu.ram i ≡ slice_index w.cpu.ram i
 
 -- the head's law: it begins with the tick's instruction, while the prescaler is 15 at most
@@ -108,7 +111,8 @@ HeadLaw = (bytes : List ℕ) → HasKernel bytes
 abbrev pub ColumnsLaw : Type 0
 ColumnsLaw = (bytes : List ℕ) → HasKernel bytes
     → (pins : ℕ → ℕ → ℕ → ℕ → Pins) (tick : ℕ → ℕ → ℕ → ℕ) (w : World ℕ) → IsAt READ w.cpu
-    → slice_index w.cpu.ram 24 ≡ 32 → slice_index w.cpu.ram 25 ≡ 48 → slice_index w.cpu.ram 27 ≡ 12 → w.cpu.p1 ≡ 32
+    → slice_index w.cpu.ram R0 ≡ HELD → slice_index w.cpu.ram R1 ≡ CHANGED → slice_index w.cpu.ram R3 ≡ 12
+    → w.cpu.p1 ≡ 32
     → Comes (numbered pins tick) TICK bytes w (ReadsColumns (numbered pins tick) w)
 
 abbrev pub LampsLaw : Type 0

@@ -4,6 +4,7 @@ use Rattle.board_terms.specs.Cadence.{IsNear}
 use Rattle.mcs48_core.specs.declared.levels.Pins.{Pins}
 use Rattle.mcs48_core.specs.declared.processor.Count.TheVariants.{Timer}
 use Rattle.mcs48_core.specs.Cpu.{Cpu}
+use Rattle.fw_kernel.specs.declared.cells.TheConstants.{HELD, CHANGED}
 use Rattle.fw_kernel.specs.declared.labels.TheConstants.{TICK, WAIT, OFFER, DONE}
 use Rattle.fw_kernel.specs.Places.{HasKernel}
 use Rattle.joint_run.specs.Run.{Board, World, after_cycles}
@@ -48,9 +49,9 @@ pub record ReadsTick (d : Board) (w e : World d.State) : Type 0 where
   pub cycle : e.cycle ≡ w.cycle + 208
   pub board : e.board ≡ in_tick d w 208
   pub p2 : e.cpu.p2 ≡ w.cpu.p2
-  pub held : (c : ℕ) → c < 12 → slice_index e.cpu.ram (32 + c) ≡ column_read d w c
+  pub held : (c : ℕ) → c < 12 → slice_index e.cpu.ram (HELD + c) ≡ column_read d w c
   pub changed : (c : ℕ) → c < 12
-      → slice_index e.cpu.ram (48 + c) ≡ bit_xor (slice_index w.cpu.ram (32 + c)) (column_read d w c)
+      → slice_index e.cpu.ram (CHANGED + c) ≡ bit_xor (slice_index w.cpu.ram (HELD + c)) (column_read d w c)
   pub others : (i : ℕ) → is_read i ≡ false → slice_index e.cpu.ram i ≡ slice_index w.cpu.ram i
 
 -- the work of a tick has come to its end by offset 2,040: RETR is next, in the service that the start entered, with the

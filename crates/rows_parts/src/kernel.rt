@@ -1,8 +1,8 @@
 //! The kernel: its labels, its cells, and its ticks.
 
 use fw_kernel::cells::{
-    AADUE, COUNT, DISABLED, FN, HEAD, HELD, LAST, LAYER, LIGHTS, MODE, PENDING, RATE, RCOUNT,
-    REPLY, REPLYDUE, RINDEX, STARTED, TEST,
+    AADUE, CHANGED, COUNT, DISABLED, FN, HEAD, HELD, LAST, LAYER, LIGHTS, MODE, PENDING, R0, R1,
+    R2, R3, R4, R5, R6, R7, RATE, RCOUNT, REPLY, REPLYDUE, RINDEX, STARTED, TEST,
 };
 use fw_kernel::{KERNEL, SOURCE, TICK};
 use mcs48_asm::assemble;
@@ -22,8 +22,9 @@ pub fn assembled(alloc: Global, after: &str) -> Result<Image, Fail> {
 }
 
 /// The cells that the source names, each with its name.
-static CELLS: [(&str, u8); 15] = [
+static CELLS: [(&str, u8); 16] = [
     ("HELD", HELD),
+    ("CHANGED", CHANGED),
     ("REPLYDUE", REPLYDUE),
     ("AADUE", AADUE),
     ("COUNT", COUNT),
@@ -78,6 +79,27 @@ fn is_in_table(alloc: Global, name: &str, cell: u8) -> Result<bool, AllocError> 
 fn each_cell_is_in_the_sources_table(rt: HostRuntime) -> Result<(), Fail> {
     for (name, cell) in CELLS.iter().chain(&TOLD) {
         assert!(rt; is_in_table(rt.alloc(), name, *cell)?, "{}", name);
+    }
+    Ok(())
+}
+
+/// The registers of a tick, and a program that writes 1 to 8 into them, in its register bank.
+static REGISTERS: [u8; 8] = [R0, R1, R2, R3, R4, R5, R6, R7];
+
+static FILLS: &str =
+    "\n ORG 700H\n SEL RB1\n MOV R0,#1\n MOV R1,#2\n MOV R2,#3\n MOV R3,#4\n MOV R4,#5\n MOV R5,#6\n \
+    MOV R6,#7\n MOV R7,#8\n";
+
+#[test]
+fn each_register_is_its_cell(rt: HostRuntime) -> Result<(), Fail> {
+    let image = assembled(rt.alloc(), FILLS)?;
+    let mut mcu = reset();
+    mcu.pc = 0x700;
+    for _step in 0..9 {
+        assert!(rt; mcu.step(&image, ALL_HIGH).is_ok());
+    }
+    for (cell, byte) in REGISTERS.iter().zip(1..) {
+        assert!(rt; mcu.ram[usize::from(*cell)] == byte, "{}", byte);
     }
     Ok(())
 }

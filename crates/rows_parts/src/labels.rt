@@ -3,12 +3,12 @@
 use crate::kernel::assembled;
 use fw_kernel::KERNEL;
 use fw_kernel::labels::{
-    AGAIN, BEGIN, BEGINS, BLANK, CLEAR, COLUMN, COMMAND, CUT, DEFAULT, DONE, DROP, EDGE, EDGES,
-    ENDS, ENTER, ENTER2, ENTERED, FIRE, FN_DOWN, FN_HELD, FN_UP, FOOT, GOT, HEAL, IDLE, INHIBITED,
-    LAMPS, LAYERS, LOOKS, MORE, MOVED, O_DUE, OFFER, PARAMETER, POWER, PRESS, PULLED, R_ACK,
-    R_CELL, R_PARITY, R_STOP, READ, READY, RECEIVE, RELEASE, REPEAT, RESET, REST, RESTART, ROW,
-    ROWS, S_CELL, S_STOP, SCAN, SEND, SENT, SETTLE, SILENT, START, TESTED, TESTING, TICK, WAIT,
-    WAITING,
+    AGAIN, BEGIN, BEGINS, BLANK, CLEAR, COLUMN, COMMAND, CUT, DEFAULT, DONE, DROP, E_CLOCK, E_DATA,
+    EDGE, EDGES, ENDS, ENTER, ENTER2, ENTERED, FIRE, FN_DOWN, FN_HELD, FN_UP, FOOT, GOT, HEAL,
+    IDLE, INHIBITED, LAMPS, LAYERS, LOOKS, LOWER, MORE, MOVED, O_DUE, OFFER, P_BIT, P_SEEN,
+    PARAMETER, PAUSE, POWER, PRESS, PULLED, R_ACK, R_BIT, R_CELL, R_HIGH, R_PARITY, R_STOP, READ,
+    READY, RECEIVE, RELEASE, REPEAT, RESET, REST, RESTART, ROW, ROWS, S_CELL, S_STOP, SCAN, SEND,
+    SENT, SETTLE, SILENT, START, T_ON, TESTED, TESTING, TICK, WAIT, WAITING,
 };
 use std::test::Fail;
 
@@ -20,7 +20,7 @@ fn the_source_is_the_kernels(rt: HostRuntime) -> Result<(), Fail> {
 }
 
 /// The labels' names and places.
-static LABELS: [(&str, u16); 64] = [
+static LABELS: [(&str, u16); 73] = [
     ("tick", TICK),
     ("read", READ),
     ("offer", OFFER),
@@ -36,14 +36,22 @@ static LABELS: [(&str, u16); 64] = [
     ("got", GOT),
     ("o_due", O_DUE),
     ("pulled", PULLED),
+    ("p_seen", P_SEEN),
     ("testing", TESTING),
+    ("e_clock", E_CLOCK),
+    ("e_data", E_DATA),
     ("start", START),
     ("begin", BEGIN),
+    ("pause", PAUSE),
     ("wait", WAIT),
     ("receive", RECEIVE),
     ("r_cell", R_CELL),
+    ("r_bit", R_BIT),
+    ("r_high", R_HIGH),
     ("r_parity", R_PARITY),
+    ("p_bit", P_BIT),
     ("r_stop", R_STOP),
+    ("t_on", T_ON),
     ("r_ack", R_ACK),
     ("command", COMMAND),
     ("parameter", PARAMETER),
@@ -78,6 +86,7 @@ static LABELS: [(&str, u16); 64] = [
     ("fn_down", FN_DOWN),
     ("fn_up", FN_UP),
     ("release", RELEASE),
+    ("lower", LOWER),
     ("ends", ENDS),
     ("silent", SILENT),
     ("enter2", ENTER2),
