@@ -10,11 +10,12 @@ use Rattle.live_board.specs.Calls.{IsActed, IsKeyed, GivesFirst}
 use Rattle.live_board.specs.Heard.{HasKeptAll, IsKeptLog}
 use Rattle.live_board.specs.Onward.{IsStepped, RunsOn, with_edge}
 use Rattle.live_board.specs.Pasts.{Past, acted}
-use Rattle.live_board.specs.RunCalls.{HasRun}
+use Rattle.live_board.specs.Running.{HasRun, at_rise}
 use Rattle.live_board.specs.States.{HasPast}
 use Rattle.live_board.specs.declared.parts.Parts.{Parts as Keyboard}
 use Rattle.live_board.specs.declared.ran.RunEnd.{RunEnd}
 use Rattle.live_board.specs.declared.refused.Refused.{Refused}
+use Rattle.live_board.specs.declared.stops.Stops.{Stops}
 use Rattle.kbd48_c.specs.Spots.{spot_after}
 use Rattle.kbd48_c.specs.Statuses.{done, no_such_place, no_such_port, no_word, not_open, refused_status, run_status}
 use Rattle.kbd48_c.specs.declared.going.Spot.{Spot}
@@ -101,13 +102,20 @@ HasTaken before word k status after =
     × IfOk answer (λ w. first_in (λ t. t.taken) after.seen.items.items ≡ Some w)
     × IfOk answer (λ w. (p : Past) → HasPast p k → GivesFirst (λ t. t.taken) p (acted p (k.joint.cycle - 4096) Take) w)
 
--- a run: so many cycles passed, and if the processor is stuck the place is written. Whatever past the keyboard has, these
--- are its steps from where it is
-abbrev pub HasGone : ℕ → Bool → ℕ → Spot → Spot → Keyboard → ℤ → Keyboard → Type 0
-HasGone cycles watched passed before spot k status after =
-    (end : RunEnd) × (status ≡ run_status end) × (k.joint.cycle + passed ≡ after.joint.cycle)
-    × (spot ≡ spot_after end before) × ((p : Past) → HasPast p k → HasRun p k cycles watched end after)
-    × ((p : Past) → HasPast p k → HasKeptAll p k after) × RunsOn k cycles watched end after
+-- a run that ended so: so many cycles passed, and if the processor is stuck the place is written. Whatever past the keyboard
+-- has, these are its steps from where it is
+pub record HasGone (stops : Stops) (cycles : ℕ) (steps : Option ℕ) (end : RunEnd) (passed : ℕ) (before spot : Spot)
+    (k after : Keyboard) : Type 0 where
+  pub counts : k.joint.cycle + passed ≡ after.joint.cycle
+  pub place : spot ≡ spot_after end before
+  pub ran : (p : Past) → HasPast p k → HasRun stops p k cycles steps end after
+  pub log_kept : (p : Past) → HasPast p k → HasKeptAll p k after
+  pub onward : RunsOn stops k cycles steps end after
+
+-- the run that stops for a rise of the line alone, if it is watched
+abbrev pub HasRunFor : ℕ → Bool → ℕ → Spot → Spot → Keyboard → ℤ → Keyboard → Type 0
+HasRunFor cycles watched passed before spot k status after =
+    (end : RunEnd) × (status ≡ run_status end) × HasGone (at_rise watched) cycles None end passed before spot k after
 
 -- the lights are those of the state in which the keyboard is
 abbrev pub HasShownLights : ℕ → Keyboard → ℤ → Keyboard → Type 0

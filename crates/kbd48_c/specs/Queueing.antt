@@ -8,15 +8,13 @@ use Rattle.edge_queue.specs.declared.refusal.NotQueued.{NotQueued}
 use Rattle.edge_queue.specs.declared.refusal.NotQueued.TheVariants as whys
 use Rattle.fw_kernel.specs.Tables.{debounce_at}
 use Rattle.live_board.specs.Calls.{pressed_now}
-use Rattle.live_board.specs.Heard.{HasKeptAll}
-use Rattle.live_board.specs.Onward.{RunsOn}
 use Rattle.live_board.specs.Pasts.{Past}
-use Rattle.live_board.specs.RunCalls.{HasRun}
+use Rattle.live_board.specs.Running.{at_rise}
 use Rattle.live_board.specs.States.{HasPast}
 use Rattle.live_board.specs.declared.parts.Parts.{Parts as Keyboard}
 use Rattle.live_board.specs.declared.ran.RunEnd.{RunEnd}
 use Rattle.live_board.specs.declared.ran.RunEnd.TheVariants as ends
-use Rattle.kbd48_c.specs.Spots.{spot_after}
+use Rattle.kbd48_c.specs.Exports.{HasGone}
 use Rattle.kbd48_c.specs.Statuses.{done, full, no_such_place, over, rose, stuck}
 use Rattle.kbd48_c.specs.declared.going.Spot.{Spot}
 
@@ -83,8 +81,8 @@ room_of cycles q k = room_until cycles (k.joint.cycle - 4096) (due_of q)
 -- why a run ended: the next edge is due before so many cycles have passed, or as any run
 abbrev pub keyed_status : ℕ → ℕ → RunEnd → ℤ
 keyed_status cycles passed ends.Passed = if nat_lt passed cycles then key_due else done
-keyed_status cycles passed ends.Rose = rose
-keyed_status cycles passed ends.Over = over
+keyed_status cycles passed (ends.Met what) = rose
+keyed_status cycles passed ends.LastCycle = over
 keyed_status cycles passed (ends.Stuck place) = stuck
 
 -- the edge that is due is handed over, and then a run goes on to the next one, or until so many cycles have passed
@@ -94,9 +92,4 @@ pub record HasGoneKeyed (cycles : ℕ) (watched : Bool) (passed : ℕ) (before s
   pub hands : HandsOver q k left middle
   pub end : RunEnd
   pub is_status : status ≡ keyed_status cycles passed end
-  pub counts : k.joint.cycle + passed ≡ after.joint.cycle
-  pub place : spot ≡ spot_after end before
-  pub ran : (p : Past) → HasPast p k
-      → HasRun (past_with (handed_now q k) k p) middle (room_of cycles left middle) watched end after
-  pub log_kept : (p : Past) → HasPast p k → HasKeptAll (past_with (handed_now q k) k p) middle after
-  pub onward : RunsOn middle (room_of cycles left middle) watched end after
+  pub gone : HasGone (at_rise watched) (room_of cycles left middle) None end passed before spot middle after

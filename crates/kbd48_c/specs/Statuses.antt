@@ -56,13 +56,13 @@ lost_some = pos 15
 -- why a call did nothing
 abbrev pub refused_status : Refused → ℤ
 refused_status refusals.Early = early
-refused_status refusals.Over = over
+refused_status refusals.LastCycle = over
 refused_status refusals.Full = full
 refused_status (refusals.Stuck place) = stuck
 
--- why a run ended
+-- why a run ended that stops for a rise of the line alone
 abbrev pub run_status : RunEnd → ℤ
 run_status ends.Passed = done
-run_status ends.Rose = rose
-run_status ends.Over = over
+run_status (ends.Met what) = rose
+run_status ends.LastCycle = over
 run_status (ends.Stuck place) = stuck

@@ -1,12 +1,12 @@
 //! The call that goes on for some time.
 
 ghost use Rattle.std.specs.Prelude.{◌≡◌, None};
-ghost use Rattle.kbd48_c.specs.Exports.{HasGone, Through};
+ghost use Rattle.kbd48_c.specs.Exports.{HasRunFor, Through};
 ghost use Rattle.kbd48_c.specs.Spots.{spot_after};
 
 use crate::handle::Handle;
 use crate::status::{NOT_OPEN, run_status};
-use live_board::{Keyboard, RunEnd};
+use live_board::{Keyboard, Ran, RunEnd};
 use std::alloc::Global;
 
 /// Where a processor is stuck: its program counter, 12 bits, and the byte there.
@@ -17,11 +17,13 @@ pub struct Spot {
     pub byte: u8,
 }
 
-/// Where it is stuck, if it is.
-pub(crate) fn put_spot(end: RunEnd, spot: &mut Spot)
-    ensures { spot.new ≡ spot_after end spot.old }
+/// How many cycles passed, and where the processor is stuck, if it is.
+pub(crate) fn put_ran(ran: Ran, passed: &mut u64, spot: &mut Spot)
+    ensures passed { passed.new ≡ ran.cycles }
+    ensures place { spot.new ≡ spot_after ran.end spot.old }
 {
-    if let RunEnd::Stuck(stuck) = end {
+    *passed = ran.cycles;
+    if let RunEnd::Stuck(stuck) = ran.end {
         spot.counter = stuck.pc;
         spot.byte = stuck.byte;
     }
@@ -29,11 +31,10 @@ pub(crate) fn put_spot(end: RunEnd, spot: &mut Spot)
 
 /// Goes on until so many cycles have passed, or, if it is watched, until the interrupt line rises.
 fn go(keyboard: &mut Keyboard, cycles: u64, watched: bool, passed: &mut u64, spot: &mut Spot) -> i32
-    ensures gone { HasGone cycles watched passed.new spot.old spot.new keyboard.old result keyboard.new }
+    ensures gone { HasRunFor cycles watched passed.new spot.old spot.new keyboard.old result keyboard.new }
 {
     let ran = keyboard.run(cycles, watched);
-    *passed = ran.cycles;
-    put_spot(ran.end, spot);
+    put_ran(ran, passed, spot);
     run_status(ran.end)
 }
 
@@ -48,7 +49,7 @@ pub extern "C" fn kbd48_run(
     passed: &mut u64,
     spot: &mut Spot,
 ) -> i32
-    ensures gone { Through (HasGone cycles watched passed.new spot.old spot.new)
+    ensures gone { Through (HasRunFor cycles watched passed.new spot.old spot.new)
         handle.old.keyboard result handle.new.keyboard }
     ensures none { handle.old.keyboard ≡ None → (passed.new ≡ 0) × (spot.new ≡ spot.old) }
 {

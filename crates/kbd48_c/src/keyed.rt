@@ -6,17 +6,14 @@ ghost use Rattle.kbd48_c.specs.Exports.{Through};
 ghost use Rattle.kbd48_c.specs.Queueing.{HandsOver, HasGoneKeyed, debounces, keyed_status, may_take, room_of, wait_for};
 
 use crate::calls::press;
-use crate::going::{Spot, put_spot};
+use crate::going::{Spot, put_ran};
 use crate::handle::Handle;
 use crate::queueing::stamp_of;
 use crate::status::{DONE, KEY_DUE, NOT_OPEN, run_status};
 use board_terms::STAMP_0;
 use edge_queue::EdgeQueue;
-use live_board::{Keyboard, RunEnd};
+use live_board::{Keyboard, LAST_CYCLE, RunEnd};
 use std::alloc::Global;
-
-/// From this cycle on no step is made.
-const LAST: u64 = 1 << 62;
 
 /// Where a layout's image says whether keys are debounced.
 const DEBOUNCE: u16 = 0x3f2;
@@ -29,7 +26,7 @@ fn may_take(keyboard: &Keyboard) -> bool
     ensures may { result ≡ may_take keyboard.now }
 {
     let cycle = keyboard.cycle();
-    STAMP_0 <= cycle && cycle < LAST && keyboard.edges_waiting() < EDGES
+    STAMP_0 <= cycle && cycle < LAST_CYCLE && keyboard.edges_waiting() < EDGES
 }
 
 /// Whether the keyboard's program says that keys are debounced, as a layout's image does.
@@ -98,8 +95,7 @@ fn go_keyed(
     hand_over(keyboard, queue);
     let room = room(cycles, queue, keyboard);
     let ran = keyboard.run(room, watched);
-    *passed = ran.cycles;
-    put_spot(ran.end, spot);
+    put_ran(ran, passed, spot);
     keyed_status(cycles, ran.cycles, ran.end)
 }
 

@@ -59,20 +59,20 @@ pub(crate) fn refused_status(refused: Refused) -> i32
 {
     match refused {
         Refused::Early => EARLY,
-        Refused::Over => OVER,
+        Refused::LastCycle => OVER,
         Refused::Full => FULL,
         Refused::Stuck(_) => STUCK,
     }
 }
 
-/// The status of a run, by why it ended.
+/// The status of a run that stops for a rise of the line alone, by why it ended.
 pub(crate) fn run_status(end: RunEnd) -> i32
     ensures { result ≡ run_status end }
 {
     match end {
         RunEnd::Passed => DONE,
-        RunEnd::Rose => ROSE,
-        RunEnd::Over => OVER,
+        RunEnd::Met(_) => ROSE,
+        RunEnd::LastCycle => OVER,
         RunEnd::Stuck(_) => STUCK,
     }
 }

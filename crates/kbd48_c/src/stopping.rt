@@ -2,12 +2,12 @@
 
 ghost use Rattle.std.specs.Prelude.{◌≡◌, None};
 ghost use Rattle.kbd48_c.specs.Exports.{Through};
-ghost use Rattle.kbd48_c.specs.Stopping.{HasRunTo, ending_status, mask_of, met_after, spot_at, stops_of};
+ghost use Rattle.kbd48_c.specs.Stopping.{HasRunTo, mask_of, met_after, stop_status, stops_of};
 
-use crate::going::Spot;
+use crate::going::{Spot, put_ran};
 use crate::handle::Handle;
-use crate::status::{DONE, NOT_OPEN, OVER, STUCK};
-use live_board::{Ending, Keyboard, Met, Stops};
+use crate::status::{DONE, NOT_OPEN, run_status};
+use live_board::{Keyboard, Met, RunEnd, Stops};
 use std::alloc::Global;
 
 /// What a run is to stop for: 1 a rise of the line, 2 something said, 4 a wire that changed, 8 this place.
@@ -33,29 +33,22 @@ fn mask_of(met: Met) -> u8
 }
 
 /// The status of such a run.
-fn ending_status(end: Ending) -> i32
-    ensures { result ≡ ending_status end }
+fn stop_status(end: RunEnd) -> i32
+    ensures { result ≡ stop_status end }
 {
     match end {
-        Ending::Passed => DONE,
-        Ending::Met(_) => DONE,
-        Ending::Over => OVER,
-        Ending::Stuck(_) => STUCK,
+        RunEnd::Met(_) => DONE,
+        other => run_status(other),
     }
 }
 
-/// What ended it, and the place at which it is stuck, if it is.
-fn put_ending(end: Ending, met: &mut u8, spot: &mut Spot)
-    ensures met { met.new ≡ met_after end }
-    ensures spot { spot.new ≡ spot_at end spot.old }
+/// What a step did that ended it, if one did.
+fn met_after(end: RunEnd) -> u8
+    ensures { result ≡ met_after end }
 {
-    *met = match end {
-        Ending::Met(what) => mask_of(what),
+    match end {
+        RunEnd::Met(what) => mask_of(what),
         _ => 0,
-    };
-    if let Ending::Stuck(stuck) = end {
-        spot.counter = stuck.pc;
-        spot.byte = stuck.byte;
     }
 }
 
@@ -71,10 +64,10 @@ fn go_to(
 ) -> i32
     ensures gone { HasRunTo stops.now cycles steps met.new passed.new spot.old spot.new keyboard.old result keyboard.new }
 {
-    let stopped = keyboard.run_to(stops, cycles, steps);
-    *passed = stopped.cycles;
-    put_ending(stopped.end, met, spot);
-    ending_status(stopped.end)
+    let ran = keyboard.run_to(stops, cycles, Some(steps));
+    put_ran(ran, passed, spot);
+    *met = met_after(ran.end);
+    stop_status(ran.end)
 }
 
 /// Makes steps until one of them does what the mask asks for, but for so many cycles and steps at most. Of an empty

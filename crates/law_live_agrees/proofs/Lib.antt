@@ -2,7 +2,7 @@ pub mod Logs
 pub mod Agreed
 pub mod Ends
 pub mod Keys
-pub mod Stops
+pub mod Runs
 pub mod Queued
 pub mod Saved
 pub mod Opened

@@ -1,6 +1,6 @@
 -- What an opened keyboard has been through.
-use Rattle.std.proofs.Common.{◌≡◌, ◌≤◌, ◌<◌, ◌^◌, ◌%◌, ℕ, zero, suc, ◌+◌, ◌-◌, Bool, true, false, List, [], ◌∷◌, Some, None}
-use Rattle.std.proofs.Common.{Ok, Err, slice_index, refl, ap, sym, subst, ◌∙◌, arith}
+use Rattle.std.proofs.Common.{◌≡◌, ◌≤◌, ◌<◌, ◌^◌, ℕ, zero, suc, ◌+◌, ◌-◌, true, false, List, [], ◌∷◌, Some, None}
+use Rattle.std.proofs.Common.{Ok, Err, refl, ap, sym, subst, ◌∙◌, inl, inr, arith}
 use Rattle.std.proofs.lemmas.List.Elements.{All-cons, All-nil}
 use Rattle.std.specs.declared.option.Option.{Option}
 use Rattle.std.specs.declared.result.Result.{Result}
@@ -11,75 +11,40 @@ use Rattle.board_terms.specs.declared.event.HostAct.TheVariants.{Mask}
 use Rattle.board_terms.specs.declared.event.HostEvent.{HostEvent}
 use Rattle.fw_compile.specs.Image.{image_of}
 use Rattle.joint_feed.proofs.Going.{same_state}
-use Rattle.joint_feed.specs.Stories.{Story, state_at}
+use Rattle.joint_feed.specs.Stories.{state_at}
 use Rattle.joint_run.specs.Filled.{filled}
 use Rattle.joint_run.specs.Joint.{Beside, joint_board}
-use Rattle.joint_run.specs.Run.{World, after_step, seen}
+use Rattle.joint_run.specs.Run.{World}
 use Rattle.key_file.specs.Accepted.{IsLawfulFor, WritesByte}
 use Rattle.layout_reader.specs.Layouts.{IsKeyLayout, KeyLayout}
 use Rattle.law_live_agrees.proofs.Agreed.{any_use_is_lawful, fills_are_fine, logs_agree, never_stuck}
 use Rattle.law_live_agrees.specs.Law.{history_of}
 use Rattle.law_live_agrees.specs.Opened.{IsMasked, OpenedIsMasked, ReadyIsMasked, masked_at}
 use Rattle.live_board.proofs.Stepping.{here}
-use Rattle.live_board.proofs.Timed.{before, joined}
+use Rattle.live_board.proofs.Meeting.{rise_is_met}
+use Rattle.live_board.proofs.Timed.{before, joined, step_timed}
 use Rattle.live_board.specs.Calls.{IsActed}
 use Rattle.live_board.specs.Pasts.{Past, acted, gone_on, state_of, story_of, untouched}
 use Rattle.live_board.specs.Ready.{IsOpened, IsReady}
-use Rattle.live_board.specs.RunCalls.{EndsSo, HasRun}
+use Rattle.live_board.specs.Running.{EndsSo, HasRun, at_rise, is_met}
 use Rattle.live_board.specs.States.{HasPast}
 use Rattle.live_board.specs.declared.parts.Parts.{Parts as Keyboard}
 use Rattle.live_board.specs.declared.ran.RunEnd.{RunEnd}
-use Rattle.live_board.specs.declared.ran.RunEnd.TheVariants.{Passed, Rose, Over, Stuck}
+use Rattle.live_board.specs.declared.ran.RunEnd.TheVariants as ends
 use Rattle.live_board.specs.declared.refused.Refused.{Refused}
 use Rattle.live_board.specs.declared.refused.Refused.TheVariants as R
-use Rattle.mcs48_core.specs.Cpu.{Cpu}
-use Rattle.mcs48_core.specs.Step.{Stepped, entered, executed, row_at, stepped, takes_external, takes_timer}
-use Rattle.mcs48_core.specs.declared.levels.Pins.{Pins}
-use Rattle.mcs48_ranges.proofs.Rows.{row_timed}
+use Rattle.live_board.specs.declared.stops.Stops.{Stops}
 use Rattle.mcs48_ranges.specs.Sizes.{IsFine}
-
--- a step takes two cycles at most
-abbrev TakesFew : Option Stepped → Type 0
-TakesFew None = Unit {0}
-TakesFew (Some n) = n.cycles ≤ 2
-
-row_few : (bytes : List ℕ) (pins : Pins) (m : Cpu) → TakesFew (executed (row_at bytes m.pc) bytes pins m)
-row_few bytes pins m =
-    elim (row_at bytes m.pc) as (λ r. row_at bytes m.pc ≡ r → TakesFew (executed r bytes pins m)) [
-      | None ↦ λ e. tt
-      | Some d ↦ λ e.
-          (row_timed (slice_index bytes (m.pc % 2048)) (slice_index bytes ((m.pc + 1) % 2048)) d e).1
-    ] refl
-
-few_by : (external timer : Bool) (x y : Stepped) (o : Option Stepped) → x.cycles ≡ 2 → y.cycles ≡ 2 → TakesFew o
-    → TakesFew (elim external as (λ b. Option Stepped) [
-      | true ↦ Some x
-      | false ↦ elim timer as (λ b. Option Stepped) [ true ↦ Some y | false ↦ o ]
-    ])
-few_by true timer x y o two also h = omega (arith, two)
-few_by false true x y o two also h = omega (arith, also)
-few_by false false x y o two also h = h
-
-takes_few : (bytes : List ℕ) (pins : Pins) (m : Cpu) → TakesFew (stepped bytes pins m)
-takes_few bytes pins m =
-    few_by (takes_external pins m) (takes_timer m) (entered 3 pins m) (entered 7 pins (record m { rq = false }))
-    (executed (row_at bytes m.pc) bytes pins m) refl refl (row_few bytes pins m)
-
-after_few : (s : Story) (w v : World Beside) (n : Option Stepped) → TakesFew n
-    → after_step (joint_board s.edges s.events) w n ≡ Some v → v.cycle ≤ w.cycle + 2
-after_few s w v None t h = absurd cc
-after_few s w v (Some n) t h =
-    let e : w.cycle + n.cycles ≡ v.cycle = ap (λ (u : World Beside). u.cycle) (same_state h) in
-    omega (arith, e, t)
 
 -- a run from power-on to stamp 0 ends there, or a cycle past it, if it isn't stuck on the way
 module _ (p : Past) (old new : Keyboard) (end : RunEnd) (from : p.steps ≡ 0) (s : HasPast p old) (zero_cycle : old.joint.cycle ≡ 0)
-    (r : HasRun p old 4096 false end new) (goes : (n : ℕ) → (w : World Beside) × (state_at (story_of p) n ≡ Some w)) where
-  least : (x : RunEnd) → EndsSo p old 4096 false x new → 4096 ≤ new.joint.cycle
-  least Passed h = let l : old.joint.cycle + 4096 ≤ new.joint.cycle = h.0 in omega (arith, l)
-  least Rose h = absurd (let e : false ≡ true = h.0 in cc)
-  least Over h = absurd (let l = h.0 in let m : new.joint.cycle < old.joint.cycle + 4096 = h.1 in omega (arith, l, m, zero_cycle))
-  least (Stuck place) h =
+    (r : HasRun (at_rise false) p old 4096 None end new) (goes : (n : ℕ) → (w : World Beside) × (state_at (story_of p) n ≡ Some w)) where
+  least : (x : RunEnd) → EndsSo (at_rise false) p old 4096 None x new → 4096 ≤ new.joint.cycle
+  least ends.Passed h = elim h.0 [ inl far ↦ omega (arith, far) | inr none ↦ absurd none ]
+  least (ends.Met what) h =
+      let e : true ≡ false = sym h.5 ∙ ap is_met (sym h.4) ∙ rise_is_met false p h.0 in absurd cc
+  least ends.LastCycle h = absurd (let l = h.0 in let m = h.1.soon in omega (arith, l, m, zero_cycle))
+  least (ends.Stuck place) h =
       absurd (let there = goes (suc new.joint.steps) in
       let e : None ≡ Some there.0 = sym h.0 ∙ there.1 in cc)
 
@@ -97,9 +62,8 @@ module _ (p : Past) (old new : Keyboard) (end : RunEnd) (from : p.steps ≡ 0) (
       let w = before (story_of p) n r.has_past.world last in
       let steps : old.joint.steps ≡ 0 = s.steps ∙ from in
       let early : w.0.cycle < old.joint.cycle + 4096 = r.before n w.0 (omega (arith, steps)) (omega (arith, is)) w.1 in
-      let step = after_few (story_of p) w.0 r.has_past.world (stepped p.bytes (seen (joint_board p.edges p.events) w.0) w.0.cpu)
-      (takes_few p.bytes (seen (joint_board p.edges p.events) w.0) w.0.cpu)
-      (joined (story_of p) n w.0 r.has_past.world w.1 last) in
+      let step = (step_timed (joint_board p.edges p.events) p.bytes w.0 r.has_past.world
+      (joined (story_of p) n w.0 r.has_past.world w.1 last)).1 in
       let cycle : new.joint.cycle ≡ r.has_past.world.cycle = r.has_past.in_run.cycle in
       omega (arith, early, step, cycle, zero_cycle)
 
@@ -145,7 +109,7 @@ module _ (law : AnyKeysLaw) (memory : AnyMemoryLaw) (layout : KeyLayout) (fill :
   masked old new (Ok done) steps s late soon a =
       is_masked (old.joint.cycle - 4096) (suc steps) new (omega (arith, soon)) (a.1 (untouched fill bytes steps) s)
   masked old new (Err R.Early) steps s late soon a = absurd (let l : old.joint.cycle < 4096 = a.0 in omega (arith, l, late))
-  masked old new (Err R.Over) steps s late soon a = absurd (let l = a.0 in omega (arith, l, soon))
+  masked old new (Err R.LastCycle) steps s late soon a = absurd (let l = a.0 in omega (arith, l, soon))
   masked old new (Err R.Full) steps s late soon a = absurd (let e : false ≡ true = a.0.2 in cc)
   masked old new (Err (R.Stuck place)) steps s late soon a =
       absurd (let w = goes (acted (untouched fill bytes steps) (old.joint.cycle - 4096) Mask) refl refl in
@@ -160,10 +124,10 @@ module _ (law : AnyKeysLaw) (memory : AnyMemoryLaw) (layout : KeyLayout) (fill :
       masked o.middle k o.answer o.middle.joint.steps o.ran.has_past ends.0 ends.1 o.masked
 
   -- and it stays so as the run goes on
-  pub ran_on : (old new : Keyboard) (cycles : ℕ) (watched : Bool) (end : RunEnd)
-      → ((p : Past) → HasPast p old → HasRun p old cycles watched end new) → IsMasked layout fill old
+  pub ran_on : (stops : Stops) (old new : Keyboard) (cycles : ℕ) (steps : Option ℕ) (end : RunEnd)
+      → ((p : Past) → HasPast p old → HasRun stops p old cycles steps end new) → IsMasked layout fill old
       → IsMasked layout fill new
-  ran_on old new cycles watched end runs m =
+  ran_on stops old new cycles steps end runs m =
       is_masked m.stamp new.joint.steps new m.soon (runs (masked_at fill bytes m.stamp m.steps) m.has_past).has_past
 
 -- a keyboard opened with a layout's image, or switched off and on, was masked at stamp 0 or 1, and agrees with the
@@ -175,4 +139,4 @@ opened_is_masked law memory layout fill k fine small o = opened_by law memory la
 pub ready_is_masked : AnyKeysLaw → AnyMemoryLaw → ReadyIsMasked
 ready_is_masked law memory layout k fine r =
     let m = opened_by law memory layout 0 fine (omega arith) r.opened r.is_opened in
-    ran_on law memory layout 0 fine (omega arith) r.opened k 400000 true r.end r.ran m
+    ran_on law memory layout 0 fine (omega arith) (at_rise true) r.opened k 400000 None r.end r.ran m

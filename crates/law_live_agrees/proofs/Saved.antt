@@ -11,11 +11,11 @@ use Rattle.joint_run.specs.Run.{World}
 use Rattle.joint_saved.specs.Saved.{Kept}
 use Rattle.joint_saved.specs.declared.unloaded.Unloaded.{Unloaded}
 use Rattle.law_live_agrees.proofs.Agreed.{same_rest, states_alike}
-use Rattle.law_live_agrees.proofs.Ends.{earlier, never_alone, one_cause, runs_end_alike, same_cycle}
+use Rattle.law_live_agrees.proofs.Ends.{earlier, never_alone, one_cause, same_cycle}
 use Rattle.law_live_agrees.proofs.Keys.{keys_alike, same_made, same_wait}
-use Rattle.law_live_agrees.proofs.Stops.{runs_stop_alike}
+use Rattle.law_live_agrees.proofs.Runs.{runs_end_alike}
 use Rattle.law_live_agrees.specs.Saved.{AnsweringKeepsAlike, HandsKeepAlike, KeysKeepAlike, LoadedAreAlike}
-use Rattle.law_live_agrees.specs.Saved.{RunsKeepAlike, SavesAreAlike, StopsKeepAlike}
+use Rattle.law_live_agrees.specs.Saved.{RunsKeepAlike, SavesAreAlike}
 use Rattle.live_board.proofs.Stepping.{here}
 use Rattle.live_board.specs.Heard.{HasHappened, HasKept, HasKeptAll, after_next, heard_all, next_of, rises_in, said_so}
 use Rattle.live_board.specs.Passing.{passed_at, passed_between}
@@ -173,22 +173,8 @@ all_alike p a b c d s t e end same h g =
 
 -- two keyboards that are alike stay so after a run
 pub runs_keep_alike : RunsKeepAlike
-runs_keep_alike p a b c d cycles watched x y h f k g l near far =
-    let ends = runs_end_alike p a b c d cycles watched x y h.one h.other f g near far in
-    let same = all_alike p a b c d h.one h.other f.has_past ends.1 h.heard k l in (
-      ends.0,
-      record {
-        one = f.has_past;
-        other = subst (λ n. HasPast (gone_on p n) d) (sym ends.1) g.has_past;
-        heard = same.0;
-        rises = same.1;
-      },
-    )
-
--- two keyboards that are alike stay so after a run that stops for what it is asked to
-pub stops_keep_alike : StopsKeepAlike
-stops_keep_alike stops p a b c d cycles steps x y h f k g l near far =
-    let ends = runs_stop_alike stops p a b c d cycles steps x y h.one h.other f g near far in
+runs_keep_alike stops p a b c d cycles steps x y h f k g l near far =
+    let ends = runs_end_alike stops p a b c d cycles steps x y h.one h.other f g near far in
     let same = all_alike p a b c d h.one h.other f.has_past ends.1 h.heard k l in (
       ends.0,
       record {

@@ -22,13 +22,11 @@ use Rattle.mcs48_ranges.specs.Sizes.{IsFine}
 use Rattle.live_board.specs.Answers.{ItemAnswer}
 use Rattle.live_board.specs.Calls.{IsActed, IsKeyed, GivesFirst}
 use Rattle.live_board.specs.Pasts.{Past, state_of}
-use Rattle.live_board.specs.RunCalls.{HasRun}
+use Rattle.live_board.specs.Running.{HasRun}
 use Rattle.live_board.specs.States.{HasPast}
-use Rattle.live_board.specs.Stopping.{HasStopped}
 use Rattle.live_board.specs.declared.parts.Parts.{Parts as Keyboard}
 use Rattle.live_board.specs.declared.ran.RunEnd.{RunEnd}
 use Rattle.live_board.specs.declared.refused.Refused.{Refused}
-use Rattle.live_board.specs.declared.stops.Ending.{Ending}
 use Rattle.live_board.specs.declared.stops.Stops.{Stops}
 
 -- the keys and host events of a past, as a history with this end stamp
@@ -80,19 +78,12 @@ KeysAreAlike =
     (place : ℕ) (down : Bool) (p : Past) (a b c d : Keyboard) (x y : Result (Unit {0}) Refused) → HasPast p a → HasPast p b
     → IsKeyed place down a x c → IsKeyed place down b y d → x ≡ y
 
--- a run of so many cycles, with the interrupt line watched or not, ends for one reason and after as many steps, if the
--- count of cycles doesn't come to its end
+-- a run ends for one reason and after as many steps, whatever it is to stop for, if the count of cycles doesn't come to its
+-- end
 abbrev pub RunsEndAlike : Type 0
 RunsEndAlike =
-    (p : Past) (a b c d : Keyboard) (cycles : ℕ) (watched : Bool) (x y : RunEnd) → HasPast p a → HasPast p b
-    → HasRun p a cycles watched x c → HasRun p b cycles watched y d → c.joint.cycle < 2 ^ 62 → d.joint.cycle < 2 ^ 62
-    → (x ≡ y) × (c.joint.steps ≡ d.joint.steps)
-
--- so does a run that stops for what it is asked to
-abbrev pub RunsStopAlike : Type 0
-RunsStopAlike =
-    (stops : Stops) (p : Past) (a b c d : Keyboard) (cycles steps : ℕ) (x y : Ending) → HasPast p a → HasPast p b
-    → HasStopped stops p a cycles steps x c → HasStopped stops p b cycles steps y d → c.joint.cycle < 2 ^ 62
+    (stops : Stops) (p : Past) (a b c d : Keyboard) (cycles : ℕ) (steps : Option ℕ) (x y : RunEnd) → HasPast p a → HasPast p b
+    → HasRun stops p a cycles steps x c → HasRun stops p b cycles steps y d → c.joint.cycle < 2 ^ 62
     → d.joint.cycle < 2 ^ 62 → (x ≡ y) × (c.joint.steps ≡ d.joint.steps)
 
 -- a log is the beginning of what the model says, which goes by what the columns show, up to one of the run's own tick

@@ -7,14 +7,12 @@ use Rattle.joint_saved.specs.Saved.{loaded}
 use Rattle.live_board.specs.Calls.{IsActed, IsKeyed, pressed_now}
 use Rattle.live_board.specs.Heard.{HasKeptAll, IsKeptLog, after_next, next_of}
 use Rattle.live_board.specs.Pasts.{Past, acted, gone_on}
-use Rattle.live_board.specs.RunCalls.{HasRun}
+use Rattle.live_board.specs.Running.{HasRun}
 use Rattle.live_board.specs.Saved.{kept}
 use Rattle.live_board.specs.States.{HasPast}
-use Rattle.live_board.specs.Stopping.{HasStopped}
 use Rattle.live_board.specs.declared.parts.Parts.{Parts as Keyboard}
 use Rattle.live_board.specs.declared.ran.RunEnd.{RunEnd}
 use Rattle.live_board.specs.declared.refused.Refused.{Refused}
-use Rattle.live_board.specs.declared.stops.Ending.{Ending}
 use Rattle.live_board.specs.declared.stops.Stops.{Stops}
 
 -- two keyboards are in one past, the same waits to be handed out, and the same rises are counted
@@ -69,15 +67,8 @@ KeysKeepAlike =
 -- after a run, if the count of cycles doesn't come to its end
 abbrev pub RunsKeepAlike : Type 0
 RunsKeepAlike =
-    (p : Past) (a b c d : Keyboard) (cycles : ℕ) (watched : Bool) (x y : RunEnd) → AreAlike p a b
-    → HasRun p a cycles watched x c → HasKeptAll p a c → HasRun p b cycles watched y d → HasKeptAll p b d
-    → c.joint.cycle < 2 ^ 62 → d.joint.cycle < 2 ^ 62 → (x ≡ y) × AreAlike (gone_on p c.joint.steps) c d
-
--- after a run that stops for what it is asked to
-abbrev pub StopsKeepAlike : Type 0
-StopsKeepAlike =
-    (stops : Stops) (p : Past) (a b c d : Keyboard) (cycles steps : ℕ) (x y : Ending) → AreAlike p a b
-    → HasStopped stops p a cycles steps x c → HasKeptAll p a c → HasStopped stops p b cycles steps y d → HasKeptAll p b d
+    (stops : Stops) (p : Past) (a b c d : Keyboard) (cycles : ℕ) (steps : Option ℕ) (x y : RunEnd) → AreAlike p a b
+    → HasRun stops p a cycles steps x c → HasKeptAll p a c → HasRun stops p b cycles steps y d → HasKeptAll p b d
     → c.joint.cycle < 2 ^ 62 → d.joint.cycle < 2 ^ 62 → (x ≡ y) × AreAlike (gone_on p c.joint.steps) c d
 
 -- both hand out the same, and are alike after it

@@ -5,11 +5,10 @@
 #![tactic(auto)]
 
 ghost use Rattle.law_live_agrees.specs.Law.{AnswersAreAlike, AnyUseIsLawful, CallsAreAlike, FillsAreFine, KeysAreAlike, LogsAgree};
-ghost use Rattle.law_live_agrees.specs.Law.{LogsAreShown, NeverStuck, RunsEndAlike, RunsStopAlike, StatesAreAlike, WordsAreAlike};
+ghost use Rattle.law_live_agrees.specs.Law.{LogsAreShown, NeverStuck, RunsEndAlike, StatesAreAlike, WordsAreAlike};
 ghost use Rattle.law_live_agrees.specs.Opened.{OpenedIsMasked, ReadyIsMasked};
 ghost use Rattle.law_live_agrees.specs.Queued.{ImageSaysDebounce, QueuedLogsAgree, StaysQueued};
 ghost use Rattle.law_live_agrees.specs.Saved.{CallsKeepAlike, HandsKeepAlike, KeysKeepAlike, LoadedAreAlike, RunsKeepAlike, SavesAreAlike};
-ghost use Rattle.law_live_agrees.specs.Saved.{StopsKeepAlike};
 
 use edge_queue::edges_are_lawful;
 use law_agreement::{any_keys, goes_by_its_columns, run_and_model_agree};
@@ -30,7 +29,6 @@ pub fn calls_agree()
     ensures one_outcome { CallsAreAlike }
     ensures one_key { KeysAreAlike }
     ensures one_end { RunsEndAlike }
-    ensures one_stop { RunsStopAlike }
     ensures any_use { AnyUseIsLawful }
     ensures any_fill { FillsAreFine }
 {
@@ -91,6 +89,5 @@ pub fn saves_agree()
     ensures calls { CallsKeepAlike }
     ensures keys { KeysKeepAlike }
     ensures runs { RunsKeepAlike }
-    ensures stops { StopsKeepAlike }
     ensures hands { HandsKeepAlike }
 {}

@@ -1,6 +1,6 @@
 -- A keyboard that is ready: the rise that ended its run is that of the self-test's AA.
 use Rattle.std.proofs.Common.{◌≡◌, ◌≤◌, ◌<◌, ◌^◌, ℕ, suc, ◌+◌, ◌-◌, ◌*◌, ◌&&◌, Bool, true, false, leb, List, [], ◌∷◌}
-use Rattle.std.proofs.Common.{Ok, Err, Some, None, refl, ap, sym, ◌∙◌, subst, arith}
+use Rattle.std.proofs.Common.{Ok, Err, Some, None, refl, ap, sym, ◌∙◌, subst, inl, inr, arith}
 use Rattle.std.proofs.lemmas.Bool.Decides.{nat_tests}
 use Rattle.std.proofs.lemmas.List.Elements.{All-cons, All-nil}
 use Rattle.std.specs.declared.result.Result.{Result}
@@ -26,17 +26,18 @@ use Rattle.law_live_agrees.proofs.Opened.{ends_at_0}
 use Rattle.law_live_agrees.specs.Law.{AnyUseIsLawful, FillsAreFine, LogsAgree, NeverStuck, history_of}
 use Rattle.law_live_agrees.specs.Opened.{IsMasked, masked_at}
 use Rattle.live_board.proofs.Growing.{grows}
+use Rattle.live_board.proofs.Meeting.{only_rise, rise_is_met}
 use Rattle.live_board.proofs.Stepping.{here}
 use Rattle.live_board.specs.Answers.{raises}
 use Rattle.live_board.specs.Calls.{IsActed}
 use Rattle.live_board.specs.Pasts.{Past, acted, gone_on, state_of, story_of, untouched}
 use Rattle.live_board.specs.Ready.{IsReady}
 use Rattle.live_board.specs.Rising.{irq_in}
-use Rattle.live_board.specs.RunCalls.{EndsSo, HasRun, IsCalm, rises}
+use Rattle.live_board.specs.Running.{AreUnmet, EndsSo, HasRun, at_rise, is_met, met_at, nothing_met}
 use Rattle.live_board.specs.States.{HasPast}
 use Rattle.live_board.specs.declared.parts.Parts.{Parts as Keyboard}
 use Rattle.live_board.specs.declared.ran.RunEnd.{RunEnd}
-use Rattle.live_board.specs.declared.ran.RunEnd.TheVariants.{Passed, Rose, Over, Stuck}
+use Rattle.live_board.specs.declared.ran.RunEnd.TheVariants as ends
 use Rattle.live_board.specs.declared.refused.Refused.{Refused}
 use Rattle.live_board.specs.declared.refused.Refused.TheVariants as R
 use Rattle.mcs48_ranges.specs.Sizes.{IsFine}
@@ -93,7 +94,7 @@ module _ (stuck : NeverStuck) (logs : LogsAgree) (use_any : AnyUseIsLawful) (fil
       → HasPast (masked_at 0 bytes (old.joint.cycle - 4096) (suc steps)) new
   acted_so old new (Ok done) steps s late soon a = a.1 (untouched 0 bytes steps) s
   acted_so old new (Err R.Early) steps s late soon a = absurd (let l : old.joint.cycle < 4096 = a.0 in omega (arith, l, late))
-  acted_so old new (Err R.Over) steps s late soon a = absurd (let l = a.0 in omega (arith, l, soon))
+  acted_so old new (Err R.LastCycle) steps s late soon a = absurd (let l = a.0 in omega (arith, l, soon))
   acted_so old new (Err R.Full) steps s late soon a = absurd (let e : false ≡ true = a.0.2 in cc)
   acted_so old new (Err (R.Stuck place)) steps s late soon a =
       absurd (let w = goes (acted (untouched 0 bytes steps) (old.joint.cycle - 4096) Mask) refl refl in
@@ -242,7 +243,7 @@ module _ (stuck : NeverStuck) (logs : LogsAgree) (use_any : AnyUseIsLawful) (fil
         (up_is n0 w0 opened_at ∙ empty_before n0 w0 (omega arith) order0 opened_at)
         (up_is n65 w65 (a.each 65).reached ∙ put.0)
 
-    module _ (k : Keyboard) (end : RunEnd) (r : HasRun q opened 400000 true end k) where
+    module _ (k : Keyboard) (end : RunEnd) (r : HasRun (at_rise true) q opened 400000 None end k) where
       abbrev e : HasPast (gone_on q k.joint.steps) k
       e = r.has_past
 
@@ -263,55 +264,60 @@ module _ (stuck : NeverStuck) (logs : LogsAgree) (use_any : AnyUseIsLawful) (fil
 
       -- it ended at a rise of the line, at start 65 at the latest
       record Ended (x : RunEnd) : Type 0 where
-        rose : x ≡ Rose
+        rose : x ≡ ends.Met (record nothing_met { rise = true })
         up : is_up q n ≡ true
         least : n0 ≤ n
         most : n ≤ n65
 
-      not_calm : (to : ℕ) → n65 ≤ to → IsCalm q opened.joint.steps to → ⊥
-      not_calm to l calm =
+      not_unmet : (to : ℕ) → n65 ≤ to → AreUnmet (at_rise true) q opened.joint.steps to → ⊥
+      not_unmet to l unmet =
           let late = rise.late in
           let soon = rise.soon in
           let begun = from in
-          let off : rises q rise.step ≡ false = calm rise.step (omega (arith, late, begun)) (omega (arith, soon, l)) in
-          let both : true ≡ false = sym rise.rises ∙ off in
+          let off = unmet rise.step (omega (arith, late, begun)) (omega (arith, soon, l)) in
+          let both : true ≡ false = sym rise.rises ∙ sym (rise_is_met true q rise.step) ∙ off in
           absurd cc
 
-      ended : (x : RunEnd) → EndsSo q opened 400000 true x k → Ended x
-      ended Passed h =
-          let far : opened.joint.cycle + 400000 ≤ k.joint.cycle = h.0 in
-          let c = first_cycle in
-          let d = k_cycle in
-          let low = cycle0.0 in
-          let high = cycle65.1 in
-          let past : n65 < n =
-          sooner n65 n w65 e.world (a.each 65).reached k_at (omega (arith, far, c, d, low, high)) in
-          absurd (not_calm n (omega (arith, past)) (h.1 refl))
-      ended Rose h =
-          let last : ℕ = h.1 in
-          let is : n ≡ suc last = h.2 in
-          let begun : opened.joint.steps ≤ last = h.3 in
+      ended : (x : RunEnd) → EndsSo (at_rise true) q opened 400000 None x k → Ended x
+      ended ends.Passed h = elim h.0 [
+        | inl far ↦
+            let c = first_cycle in
+            let d = k_cycle in
+            let low = cycle0.0 in
+            let high = cycle65.1 in
+            let past : n65 < n =
+            sooner n65 n w65 e.world (a.each 65).reached k_at (omega (arith, far, c, d, low, high)) in
+            absurd (not_unmet n (omega (arith, past)) h.1)
+        | inr none ↦ absurd none
+      ]
+      ended (ends.Met what) h =
+          let last : ℕ = h.0 in
+          let is : n ≡ suc last = h.1 in
+          let begun : opened.joint.steps ≤ last = h.2 in
           let first = from in
+          let met : is_met (met_at (at_rise true) q last) ≡ true = ap is_met h.4 ∙ h.5 in
           record {
-            rose = refl;
+            rose = ap (λ m. ends.Met m) (sym h.4 ∙ only_rise q last met);
             up = ap (is_up q) is
-                ∙ up_after (irq_in (state_at (story_of q) last)) (irq_in (state_at (story_of q) (suc last))) h.5;
+                ∙ up_after (irq_in (state_at (story_of q) last)) (irq_in (state_at (story_of q) (suc last)))
+                (sym (rise_is_met true q last) ∙ met);
             least = omega (arith, is, begun, first);
-            most = by (leb n65 last) last refl is h.4;
+            most = by (leb n65 last) last refl is h.3;
           }
         where
-          by : (b : Bool) (last : ℕ) → leb n65 last ≡ b → n ≡ suc last → IsCalm q opened.joint.steps last → n ≤ n65
-          by true last is same calm = absurd (not_calm last (grind (arith, nat_tests, is)) calm)
-          by false last is same calm =
+          by : (b : Bool) (last : ℕ) → leb n65 last ≡ b → n ≡ suc last → AreUnmet (at_rise true) q opened.joint.steps last
+              → n ≤ n65
+          by true last is same unmet = absurd (not_unmet last (grind (arith, nat_tests, is)) unmet)
+          by false last is same unmet =
               let l : last < n65 = grind (arith, nat_tests, is) in omega (arith, l, same)
-      ended Over h =
+      ended ends.LastCycle h =
           let far : 2 ^ 62 ≤ k.joint.cycle = h.0 in
-          let near : k.joint.cycle < opened.joint.cycle + 400000 = h.1 in
+          let near : k.joint.cycle < opened.joint.cycle + 400000 = h.1.soon in
           let c = first_cycle in
           let high = cycle0.1 in
           let most = cycle64.1 in
           absurd (omega (arith, far, near, c, high, most))
-      ended (Stuck place) h =
+      ended (ends.Stuck place) h =
           absurd (let w = goes (gone_on q (suc n)) refl refl in
           let none : None ≡ Some w.0 = sym h.0 ∙ w.1 in cc)
 
@@ -336,7 +342,7 @@ module _ (stuck : NeverStuck) (logs : LogsAgree) (use_any : AnyUseIsLawful) (fil
       core_is = ap (λ (o : Outside). o.desk.port.core) e.in_run.outside
 
       -- a run of a second from an opened keyboard ends at the rise of the line, with AA put out
-      pub put_out : (end ≡ Rose) × HasPutOut layout k
+      pub put_out : (end ≡ ends.Met (record nothing_met { rise = true })) × HasPutOut layout k
       unfolding is_masked
       put_out = (
         the_end.rose,
@@ -370,7 +376,7 @@ module _ (stuck : NeverStuck) (logs : LogsAgree) (use_any : AnyUseIsLawful) (fil
       )
 
   -- the run of each keyboard that is ready ended at the rise of the line, with AA put out
-  pub ready_by : (k : Keyboard) (r : IsReady bytes k) → (r.end ≡ Rose) × HasPutOut layout k
+  pub ready_by : (k : Keyboard) (r : IsReady bytes k) → (r.end ≡ ends.Met (record nothing_met { rise = true })) × HasPutOut layout k
   ready_by k r =
       let o = r.is_opened in
       let p : Past = untouched 0 bytes 0 in

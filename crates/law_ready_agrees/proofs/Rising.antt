@@ -4,7 +4,7 @@ use Rattle.std.proofs.Common.{refl, ap, sym, ◌∙◌, subst, arith}
 use Rattle.joint_feed.specs.Stories.{state_at}
 use Rattle.live_board.specs.Pasts.{Past, story_of}
 use Rattle.live_board.specs.Rising.{irq_in, rose}
-use Rattle.live_board.specs.RunCalls.{rises}
+use Rattle.live_board.specs.Rising.{rises}
 use Rattle.live_board.specs.declared.irq.Irq.{Irq}
 
 rose_up : (was is : Irq) → was.up ≡ false → is.up ≡ true → rose was is ≡ true

@@ -16,8 +16,9 @@ use Rattle.layout_reader.specs.Layouts.{IsKeyLayout, KeyLayout}
 use Rattle.law_live_agrees.specs.Opened.{IsMasked}
 use Rattle.live_board.specs.Answers.{raises}
 use Rattle.live_board.specs.Ready.{IsReady}
+use Rattle.live_board.specs.Running.{nothing_met}
 use Rattle.live_board.specs.declared.parts.Parts.{Parts as Keyboard}
-use Rattle.live_board.specs.declared.ran.RunEnd.TheVariants.{Rose}
+use Rattle.live_board.specs.declared.ran.RunEnd.TheVariants.{Met}
 use Rattle.law_quiet_log.specs.Once.{at_tick, meeting_at}
 use Rattle.law_quiet_log.specs.Ports.{port_of}
 
@@ -57,4 +58,4 @@ pub record HasPutOut (layout : KeyLayout) (k : Keyboard) : Type 0 where
 abbrev pub ReadyHasPutOut : Type 0
 ReadyHasPutOut =
     (layout : KeyLayout) (k : Keyboard) → IsKeyLayout layout → (r : IsReady (image_of layout) k)
-    → (r.end ≡ Rose) × HasPutOut layout k
+    → (r.end ≡ Met (record nothing_met { rise = true })) × HasPutOut layout k

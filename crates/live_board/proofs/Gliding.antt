@@ -1,46 +1,21 @@
--- Going on by quiet steps and a step behind them, with the interrupt line watched: no quiet step raises it.
-use Rattle.std.proofs.Common.{◌≡◌, ◌≤◌, ◌<◌, ℕ, zero, suc, ◌+◌, Bool, true, false, not, ◌&&◌}
-use Rattle.std.proofs.Common.{drop, None, Some, Ok, Err, refl, ap, sym, ◌∙◌, arith}
+-- Quiet steps, and the step after them.
+use Rattle.std.proofs.Common.{◌≡◌, ◌≤◌, ◌<◌, ℕ, zero, suc, ◌+◌, true, false, not, ◌&&◌}
+use Rattle.std.proofs.Common.{None, Some, Ok, Err, refl, ap, ◌∙◌, arith}
 use Rattle.std.proofs.lemmas.Bool.Decides.{nat_tests}
 use Rattle.std.specs.Prelude.{◌==◌, ◌||◌}
-use Rattle.joint_glide.specs.Uneventful.{AreUneventful, HasGone}
 use Rattle.std.specs.declared.option.Option.{Option}
-use Rattle.joint_feed.specs.Stories.{state_at}
+use Rattle.joint_glide.specs.Uneventful.{AreUneventful, HasGone}
 use Rattle.joint_run.specs.Due.{due_step, IsJointStep}
 use Rattle.joint_run.specs.Joint.{Beside}
 use Rattle.joint_run.specs.Run.{World}
 use Rattle.joint_run.specs.declared.due.Due.{Due}
 use Rattle.joint_run.specs.declared.machine.Machine.{Machine}
-use Rattle.joint_run.specs.declared.outside.Outside.{Outside}
 use Rattle.mcs48_core.specs.declared.stepping.Stuck.{Stuck}
-use Rattle.live_board.proofs.Calling.{stuck_at}
-use Rattle.live_board.proofs.Stepping.{counted, no_further, one_on}
-use Rattle.live_board.proofs.Watching.{GoesOnSo, before_on, goes_more, goes_still, rose_here}
-use Rattle.live_board.specs.Calls.{place_of}
-use Rattle.live_board.specs.Pasts.{Past, gone_on, story_of}
-use Rattle.live_board.specs.Rising.{irq_of, rose}
-use Rattle.live_board.specs.RunCalls.{HasRun}
-use Rattle.live_board.specs.States.{HasPast}
+use Rattle.live_board.proofs.Stepping.{counted}
+use Rattle.live_board.proofs.Timed.{few_cycles}
+use Rattle.live_board.specs.Rising.{rose}
 use Rattle.live_board.specs.declared.irq.Irq.{Irq}
 use Rattle.live_board.specs.declared.parts.Parts.{Parts as Keyboard}
-use Rattle.live_board.specs.declared.ran.RunEnd.TheVariants as ends
-
--- quiet steps leave what is outside the processor, and only go on
-record IsAfter (old new : Machine) : Type 0 where
-  pub outside : new.outside ≡ old.outside
-  pub later : old.cycle ≤ new.cycle
-
-quiet_after : (due : Due) (tick n : ℕ) (old new : Machine) → AreUneventful due tick n old new → IsAfter old new
-quiet_after due tick zero old new h = record {
-  outside = ap (λ (m : Machine). m.outside) h;
-  later = let c = ap (λ (m : Machine). m.cycle) h in omega (arith, c);
-}
-quiet_after due tick (suc n) old new h =
-    let a = quiet_after due tick n old h.0 h.1 in
-    let q = h.2 in
-    let c = ap (λ (m : Machine). m.cycle) q.parts in
-    let l = a.later in
-    record { outside = ap (λ (m : Machine). m.outside) q.parts ∙ a.outside; later = omega (arith, c, l) }
 
 -- a line that stays as it is doesn't rise
 same_number : (n : ℕ) → (n == n) ≡ true
@@ -52,130 +27,88 @@ steady i =
     ap (λ b. i.up && (not i.up || not b)) (same_number i.filled)
     ∙ (elim i.up as (λ b. (b && (not b || false)) ≡ false) [ true ↦ refl | false ↦ refl ])
 
--- after quiet steps within its limit a run goes on, and the line hasn't risen
-pub goes_quietly : (p : Past) (old : Keyboard) (cycles : ℕ) (watched : Bool) (k : Keyboard) (tick n : ℕ) (m : Machine)
-    → GoesOnSo p old cycles watched k
-    → AreUneventful k.due tick n k.joint m → m.cycle ≤ old.joint.cycle + cycles → GoesOnSo p old cycles watched (record k { joint = m })
-goes_quietly p old cycles watched k tick zero m so h room = goes_still p old cycles watched k (record k { joint = m }) h refl so
-goes_quietly p old cycles watched k tick (suc n) m so h room =
-    let between : Machine = h.0 in
+-- what quiet steps keep, and how many they are
+pub record AreCounted (n : ℕ) (old new : Machine) : Type 0 where
+  pub outside : new.outside ≡ old.outside
+  pub latch : new.mcu.p2 ≡ old.mcu.p2
+  pub steps : new.steps ≡ old.steps + n
+  pub cycles : old.cycle + n ≤ new.cycle
+
+-- quiet steps leave the PC's side and port 2, and each takes a cycle or more
+pub counted_quietly : (due : Due) (tick n : ℕ) (old new : Machine) → AreUneventful due tick n old new → AreCounted n old new
+counted_quietly due tick zero old new h =
+    let steps = ap (λ (m : Machine). m.steps) h in
+    let cycle = ap (λ (m : Machine). m.cycle) h in
+    record {
+      outside = ap (λ (m : Machine). m.outside) h;
+      latch = ap (λ (m : Machine). m.mcu.p2) h;
+      steps = omega (arith, steps);
+      cycles = omega (arith, cycle);
+    }
+counted_quietly due tick (suc n) old new h =
+    let a = counted_quietly due tick n old h.0 h.1 in
     let q = h.2 in
+    let before = a.steps in
+    let passed = a.cycles in
     let some = q.some in
-    let at = ap (λ (x : Machine). x.cycle) q.parts in
-    let here : Keyboard = record k { joint = between } in
-    let next : Keyboard = record k { joint = m; seen = q.seen } in
-    let before : GoesOnSo p old cycles watched here =
-    goes_quietly p old cycles watched k tick n between so h.1 (omega (arith, at, some, room)) in
-    let left : k.due.edges.items ≡ drop q.seen.edges k.due.edges.items = ap (λ e. drop e k.due.edges.items) (sym q.edges) in
-    let t : HasPast (gone_on p m.steps) next = one_on (gone_on p between.steps) here before.has_past next q.step q.run left refl in
-    let steps = (counted k.due between m q.seen q.step).1 in
-    let flat : rose (irq_of between.outside.desk.port) (irq_of m.outside.desk.port) ≡ false =
-    ap (λ (o : Outside). rose (irq_of between.outside.desk.port) (irq_of o.desk.port)) (ap (λ (x : Machine). x.outside) q.parts)
-    ∙ steady (irq_of between.outside.desk.port) in
-    goes_still p old cycles watched next (record k { joint = m }) refl refl
-    (goes_more p old cycles watched here next before t steps (omega (arith, at, some, room)) (λ is. flat))
-
--- quiet steps, which end before so many cycles have passed
-module _ (k : Keyboard) (count : ℕ) (last : Machine) (quiet : AreUneventful k.due 2048 count k.joint last) where
-  -- quiet steps leave what is outside the processor
-  pub same_outside : last.outside ≡ k.joint.outside
-  same_outside = (quiet_after k.due 2048 count k.joint last quiet).outside
-
-  -- quiet steps leave the interrupt line
-  pub same_line : irq_of last.outside.desk.port ≡ irq_of k.joint.outside.desk.port
-  same_line = ap (λ (o : Outside). irq_of o.desk.port) same_outside
-
-  -- quiet steps lead to no earlier cycle
-  pub only_later : k.joint.cycle ≤ last.cycle
-  only_later = (quiet_after k.due 2048 count k.joint last quiet).later
-
--- and the step behind them
-module _ (k new : Keyboard) (most : ℕ) (g : HasGone k.due 2048 most k.joint (Ok new.seen) new.joint) where
-  -- with the step after quiet ones the keyboard is at a later cycle
-  pub cycles_on : 0 < new.seen.cycles → k.joint.cycle < new.joint.cycle
-  cycles_on some =
-      let later = only_later k g.count g.last g.quiet in
-      let cycles = (counted k.due g.last new.joint new.seen g.step).0 in
-      omega (arith, later, cycles, some)
-
-  module _ (p : Past) (old : Keyboard) (cycles : ℕ) (watched : Bool) (so : GoesOnSo p old cycles watched k)
-      (room : k.joint.cycle + most < old.joint.cycle + cycles)
-      (left : new.due.edges.items ≡ drop new.seen.edges k.due.edges.items) (same : new.due.host ≡ k.due.host) where
-    abbrev before : Keyboard
-    before = record k { joint = g.last }
-
-    -- before the step after quiet ones the run has gone on so far
-    pub so_last : GoesOnSo p old cycles watched before
-    so_last = let within = g.within in goes_quietly p old cycles watched k 2048 g.count g.last so g.quiet (omega (arith, within, room))
-
-    last_room : g.last.cycle < old.joint.cycle + cycles
-    last_room = let within = g.within in omega (arith, within, room)
-
-    -- the step after quiet ones is one step more
-    pub one_step : new.joint.steps ≡ suc g.last.steps
-    one_step = (counted k.due g.last new.joint new.seen g.step).1
-
-    -- after the step that follows quiet ones the keyboard has the past, gone on
-    pub holds_on : HasPast (gone_on p new.joint.steps) new
-    holds_on = one_on (gone_on p g.last.steps) before so_last.has_past new g.step g.run left same
-
-    -- if the line hasn't risen, the run goes on
-    pub goes_all : (watched ≡ true → rose (irq_of k.joint.outside.desk.port) (irq_of new.joint.outside.desk.port) ≡ false)
-        → GoesOnSo p old cycles watched new
-    goes_all flat =
-        goes_more p old cycles watched before new so_last holds_on one_step last_room
-        (λ is. ap (λ x. rose x (irq_of new.joint.outside.desk.port)) (same_line k g.count g.last g.quiet) ∙ flat is)
-
-    -- if the line has risen, the run ends there and says so
-    pub has_risen : (watched ≡ true) × (rose (irq_of k.joint.outside.desk.port) (irq_of new.joint.outside.desk.port) ≡ true)
-        → HasRun p old cycles watched ends.Rose new
-    has_risen risen = record {
-      has_past = holds_on;
-      before = before_on p old cycles watched before new so_last holds_on one_step last_room;
-      ends = (
-        risen.0,
-        g.last.steps,
-        one_step,
-        so_last.more,
-        so_last.calm risen.0,
-        rose_here p old cycles watched before new so_last holds_on one_step last_room
-            (ap (λ x. rose x (irq_of new.joint.outside.desk.port)) (same_line k g.count g.last g.quiet) ∙ risen.1),
-      );
+    let steps = ap (λ (m : Machine). m.steps) q.parts in
+    let cycle = ap (λ (m : Machine). m.cycle) q.parts in
+    record {
+      outside = ap (λ (m : Machine). m.outside) q.parts ∙ a.outside;
+      latch = q.latch ∙ a.latch;
+      steps = omega (arith, before, steps);
+      cycles = omega (arith, passed, cycle, some);
     }
 
--- and the processor is stuck behind them
+-- how far a keyboard has gone on, by at most so many cycles of quiet steps and the step after them
+pub record HasGoneFar (k new : Keyboard) (most : ℕ) : Type 0 where
+  pub later : k.joint.cycle < new.joint.cycle
+  pub more : k.joint.steps < new.joint.steps
+  pub few : new.joint.steps ≤ suc (k.joint.steps + most)
+
+-- it is later, and more steps were made, but no more than the cycles and one
+pub gone_far : (k new : Keyboard) (most : ℕ) → HasGone k.due 2048 most k.joint (Ok new.seen) new.joint → HasGoneFar k new most
+gone_far k new most g =
+    let quiet = counted_quietly k.due 2048 g.count k.joint g.last g.quiet in
+    let steps = quiet.steps in
+    let cycles = quiet.cycles in
+    let within = g.within in
+    let last = counted k.due g.last new.joint new.seen g.step in
+    let one = last.1 in
+    let cycle = last.0 in
+    let some = (few_cycles k.due g.last new.joint new.seen g.step).0 in
+    record {
+      later = omega (arith, cycles, cycle, some);
+      more = omega (arith, steps, one);
+      few = omega (arith, steps, cycles, within, one);
+    }
+
+-- a step that isn't made leaves the machine
 pub stuck_same : (due : Due) (old new : Machine) (stuck : Stuck) (o : Option (World Beside)) → IsJointStep due old o (Err stuck) new → new ≡ old
 stuck_same due old new stuck None h = h.1
 stuck_same due old new stuck (Some w) h = absurd h
 
--- a keyboard whose processor is stuck is at no earlier cycle than before
-pub stuck_later : (k new : Keyboard) (most : ℕ) (stuck : Stuck)
-    → HasGone k.due 2048 most k.joint (Err stuck) new.joint → k.joint.cycle ≤ new.joint.cycle
-stuck_later k new most stuck g =
-    let later = only_later k g.count g.last g.quiet in
-    let cycle = ap (λ (m : Machine). m.cycle) (stuck_same k.due g.last new.joint stuck (due_step k.due g.last) g.step) in
-    omega (arith, later, cycle)
+-- how far it has gone on if the processor is stuck after the quiet steps
+pub record HasStuckNear (k new : Keyboard) (most : ℕ) : Type 0 where
+  pub later : k.joint.cycle ≤ new.joint.cycle
+  pub soon : new.joint.cycle ≤ k.joint.cycle + most
+  pub more : k.joint.steps ≤ new.joint.steps
+  pub few : new.joint.steps ≤ k.joint.steps + most
 
--- if the processor is stuck within the limit, the run ends there and says so
-pub has_stuck : (k new : Keyboard) (most : ℕ) (stuck : Stuck)
-    → HasGone k.due 2048 most k.joint (Err stuck) new.joint → new.due ≡ k.due → (p : Past) (old : Keyboard) (cycles : ℕ) (watched : Bool)
-    → GoesOnSo p old cycles watched k → k.joint.cycle + most < old.joint.cycle + cycles → HasRun p old cycles watched (ends.Stuck stuck) new
-has_stuck k new most stuck g due p old cycles watched so room =
+-- it is no earlier, and no more steps were made than the cycles
+pub stuck_near : (k new : Keyboard) (most : ℕ) (stuck : Stuck) → HasGone k.due 2048 most k.joint (Err stuck) new.joint
+    → HasStuckNear k new most
+stuck_near k new most stuck g =
+    let quiet = counted_quietly k.due 2048 g.count k.joint g.last g.quiet in
+    let steps = quiet.steps in
+    let cycles = quiet.cycles in
     let within = g.within in
-    let before : Keyboard = record k { joint = g.last } in
-    let so_last : GoesOnSo p old cycles watched before =
-    goes_quietly p old cycles watched k 2048 g.count g.last so g.quiet (omega (arith, within, room)) in
-    let is : new.joint ≡ g.last = stuck_same k.due g.last new.joint stuck (due_step k.due g.last) g.step in
-    let still = goes_still p old cycles watched before new is due so_last in
+    let is = stuck_same k.due g.last new.joint stuck (due_step k.due g.last) g.step in
+    let step = ap (λ (m : Machine). m.steps) is in
     let cycle = ap (λ (m : Machine). m.cycle) is in
-    let steps = ap (λ (m : Machine). m.steps) is in
     record {
-      has_past = still.has_past;
-      before = still.before;
-      ends = (
-        ap (λ n. state_at (story_of p) (suc n)) steps ∙ no_further (gone_on p g.last.steps) before so_last.has_past new.joint stuck g.run,
-        stuck_at k.due g.last new.joint stuck (due_step k.due g.last) g.step ∙ ap place_of (sym is),
-        omega (arith, within, room, cycle),
-        still.calm,
-      );
+      later = omega (arith, cycles, cycle);
+      soon = omega (arith, within, cycle);
+      more = omega (arith, steps, step);
+      few = omega (arith, steps, cycles, within, step);
     }

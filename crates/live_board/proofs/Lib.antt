@@ -4,12 +4,13 @@ pub mod Growing
 pub mod Acting
 pub mod Stepping
 pub mod Calling
-pub mod Watching
 pub mod Meeting
 pub mod Passed
 pub mod Gliding
 mod LastBit
+mod Limits
 mod Tallying
 mod Rows
 mod Onwards
+mod Running
 mod Starting

@@ -1,27 +1,24 @@
--- A run that stops for what it is asked to: what a step does of it, and that quiet steps do nothing of it.
-use Rattle.std.proofs.Common.{◌≡◌, ◌≤◌, ◌<◌, ℕ, zero, suc, ◌+◌, Bool, true, false, ◌&&◌, List, [], ◌∷◌, ◌++◌, drop, length}
-use Rattle.std.proofs.Common.{None, Some, Ok, Err, refl, ap, sym, subst, ◌∙◌, ◌⊎◌, inl, inr, length-append, arith}
+-- What a step does of what a run is to stop for.
+use Rattle.std.proofs.Common.{◌≡◌, ◌≤◌, ◌<◌, ℕ, suc, Bool, true, false, ◌&&◌, List, [], ◌∷◌, ◌++◌, length}
+use Rattle.std.proofs.Common.{Some, None, refl, ap, sym, ◌∙◌, ◌⊎◌, inl, inr, length-append, ltb, arith}
 use Rattle.std.specs.Prelude.{◌||◌, nat_lt}
+use Rattle.std.specs.declared.option.Option.{Option}
 use Rattle.std.proofs.lemmas.Bool.Decides.{nat_tests}
 use Rattle.board_terms.specs.declared.lines.Lines.{Lines}
 use Rattle.host_turn.specs.declared.stamped.Stamped.{Stamped}
 use Rattle.joint_feed.specs.Stories.{state_at}
-use Rattle.joint_glide.specs.Uneventful.{AreUneventful, HasGone}
 use Rattle.joint_run.specs.Cycle.{outside_wires}
-use Rattle.joint_run.specs.Due.{due_step, outside_of}
-use Rattle.joint_run.specs.Joint.{log_of}
-use Rattle.joint_run.specs.declared.due.Due.{Due}
+use Rattle.joint_run.specs.Due.{outside_of}
+use Rattle.joint_run.specs.Joint.{Beside, joint_board, log_of}
+use Rattle.joint_run.specs.Run.{World, joint_step, step_on}
 use Rattle.joint_run.specs.declared.machine.Machine.{Machine}
-use Rattle.joint_run.specs.declared.outside.Outside.{Outside}
-use Rattle.mcs48_core.specs.declared.stepping.Stuck.{Stuck}
-use Rattle.live_board.proofs.Gliding.{goes_quietly, one_step, so_last, holds_on, steady, stuck_same}
-use Rattle.live_board.proofs.Stepping.{counted, here, one_on, says_one}
-use Rattle.live_board.proofs.Watching.{GoesOnSo, last_or_before}
+use Rattle.live_board.proofs.Stepping.{here}
 use Rattle.live_board.specs.Calls.{Says}
 use Rattle.live_board.specs.Pasts.{Past, gone_on, story_of}
-use Rattle.live_board.specs.Rising.{irq_of, rose}
+use Rattle.live_board.specs.Rising.{irq_in, irq_of, rises, rose}
+use Rattle.live_board.specs.Running.{AreUnmet, at_rise, counter_met, differ, is_met, item_met, met_at, met_between, met_by, met_from}
+use Rattle.live_board.specs.Running.{nothing_met, wires_met}
 use Rattle.live_board.specs.States.{HasPast}
-use Rattle.live_board.specs.Stopping.{AreUnmet, differ, is_met, item_met, met_at, met_between, met_by, met_from, counter_met, wires_met}
 use Rattle.live_board.specs.declared.irq.Irq.{Irq}
 use Rattle.live_board.specs.declared.parts.Parts.{Parts as Keyboard}
 use Rattle.live_board.specs.declared.stops.Met.{Met}
@@ -90,6 +87,14 @@ module _ (stops : Stops) (p : Past) (k new : Keyboard) (s : HasPast (gone_on p k
       ∙ ap (λ o. met_between stops (Some s.world) o) next
       ∙ shown
 
+-- a step of the first k + 1 is one of the first k, or the last
+pub last_or_before : (j k : ℕ) → j < suc k → (j < k) ⊎ (j ≡ k)
+last_or_before j k l =
+    elim (ltb j k) as (λ b. ltb j k ≡ b → (j < k) ⊎ (j ≡ k)) [
+      | true ↦ λ h. inl (grind (arith, nat_tests, h))
+      | false ↦ λ h. let m : k ≤ j = grind (arith, nat_tests, h) in inr (omega (arith, l, m))
+    ] refl
+
 -- a step more that does nothing of it
 pub unmet_more : (stops : Stops) (p : Past) (from to new : ℕ) → AreUnmet stops p from to → new ≡ suc to
     → is_met (met_at stops p to) ≡ false → AreUnmet stops p from new
@@ -100,154 +105,45 @@ unmet_more stops p from to new before steps flat j l m =
       | inr e ↦ ap (λ n. is_met (met_at stops p n)) e ∙ flat
     ]
 
--- what quiet steps keep, and how many they are
-pub record AreCounted (n : ℕ) (old new : Machine) : Type 0 where
-  pub outside : new.outside ≡ old.outside
-  pub latch : new.mcu.p2 ≡ old.mcu.p2
-  pub steps : new.steps ≡ old.steps + n
-  pub cycles : old.cycle + n ≤ new.cycle
-
--- quiet steps leave the PC's side and port 2, and each takes a cycle or more
-pub counted_quietly : (due : Due) (tick n : ℕ) (old new : Machine) → AreUneventful due tick n old new → AreCounted n old new
-counted_quietly due tick zero old new h =
-    let steps = ap (λ (m : Machine). m.steps) h in
-    let cycle = ap (λ (m : Machine). m.cycle) h in
-    record {
-      outside = ap (λ (m : Machine). m.outside) h;
-      latch = ap (λ (m : Machine). m.mcu.p2) h;
-      steps = omega (arith, steps);
-      cycles = omega (arith, cycle);
-    }
-counted_quietly due tick (suc n) old new h =
-    let a = counted_quietly due tick n old h.0 h.1 in
-    let q = h.2 in
-    let before = a.steps in
-    let passed = a.cycles in
-    let some = q.some in
-    let steps = ap (λ (m : Machine). m.steps) q.parts in
-    let cycle = ap (λ (m : Machine). m.cycle) q.parts in
-    record {
-      outside = ap (λ (m : Machine). m.outside) q.parts ∙ a.outside;
-      latch = q.latch ∙ a.latch;
-      steps = omega (arith, before, steps);
-      cycles = omega (arith, passed, cycle, some);
-    }
-
--- quiet steps do nothing of it, if no place is asked for
-pub quiet_unmet : (stops : Stops) (p : Past) (old : Keyboard) (cycles : ℕ) (k : Keyboard) (tick n : ℕ) (m : Machine)
-    → GoesOnSo p old cycles false k → AreUnmet stops p old.joint.steps k.joint.steps → stops.counter ≡ None
-    → AreUneventful k.due tick n k.joint m → m.cycle ≤ old.joint.cycle + cycles → AreUnmet stops p old.joint.steps m.steps
-quiet_unmet stops p old cycles k tick zero m so unmet none h room =
-    subst (λ (x : Machine). AreUnmet stops p old.joint.steps x.steps) (sym h) unmet
-quiet_unmet stops p old cycles k tick (suc n) m so unmet none h room =
-    let between : Machine = h.0 in
-    let q = h.2 in
-    let some = q.some in
-    let at = ap (λ (x : Machine). x.cycle) q.parts in
-    let first : Keyboard = record k { joint = between } in
-    let next : Keyboard = record k { joint = m; seen = q.seen } in
-    let within : between.cycle ≤ old.joint.cycle + cycles = omega (arith, at, some, room) in
-    let before : GoesOnSo p old cycles false first = goes_quietly p old cycles false k tick n between so h.1 within in
-    let so_far : AreUnmet stops p old.joint.steps between.steps =
-    quiet_unmet stops p old cycles k tick n between so unmet none h.1 within in
-    let left : k.due.edges.items ≡ drop q.seen.edges k.due.edges.items = ap (λ e. drop e k.due.edges.items) (sym q.edges) in
-    let t : HasPast (gone_on p m.steps) next = one_on (gone_on p between.steps) first before.has_past next q.step q.run left refl in
-    let steps = (counted k.due between m q.seen q.step).1 in
-    let said : Says (gone_on p between.steps) (gone_on p m.steps) q.seen.items.items =
-    says_one (gone_on p between.steps) first before.has_past next q.step q.run left refl in
-    let outside : m.outside ≡ between.outside = ap (λ (x : Machine). x.outside) q.parts in
-    let rise : rose (irq_of between.outside.desk.port) (irq_of m.outside.desk.port) ≡ false =
-    ap (λ (o : Outside). rose (irq_of between.outside.desk.port) (irq_of o.desk.port)) outside
-    ∙ steady (irq_of between.outside.desk.port) in
-    let item : item_met q.seen.items.items ≡ false = ap item_met q.items in
-    let same : lines_of m ≡ lines_of between = (λ i. outside_wires (q.latch i) (outside i)) in
-    let wire : wires_met (lines_of between) (lines_of m) ≡ false =
-    ap (λ (l : Lines). wires_met (lines_of between) l) same ∙ flat_wires (lines_of between) in
-    let place : counter_met stops.counter m.mcu.pc ≡ false = ap (λ o. counter_met o m.mcu.pc) none in
-    let flat : is_met (met_at stops p between.steps) ≡ false =
-    ap is_met (met_here stops p first next before.has_past t steps said)
-    ∙ none_of (stops.rise && rose (irq_of between.outside.desk.port) (irq_of m.outside.desk.port))
-    (stops.item && item_met q.seen.items.items) (stops.wires && wires_met (lines_of between) (lines_of m))
-    (counter_met stops.counter m.mcu.pc)
-    (not_met stops.rise _ rise) (not_met stops.item _ item) (not_met stops.wires _ wire) place in
-    unmet_more stops p old.joint.steps between.steps m.steps so_far steps flat
-
--- and none is made if a place is asked for
-pub last_unmet : (stops : Stops) (p : Past) (old : Keyboard) (cycles : ℕ) (k : Keyboard) (most n : ℕ) (m : Machine)
-    → GoesOnSo p old cycles false k → AreUnmet stops p old.joint.steps k.joint.steps → (most ≡ 0) ⊎ (stops.counter ≡ None)
-    → AreUneventful k.due 2048 n k.joint m → m.cycle ≤ k.joint.cycle + most → k.joint.cycle + most < old.joint.cycle + cycles
-    → AreUnmet stops p old.joint.steps m.steps
-last_unmet stops p old cycles k most n m so unmet (inr none) h within room =
-    quiet_unmet stops p old cycles k 2048 n m so unmet none h (omega (arith, within, room))
-last_unmet stops p old cycles k most n m so unmet (inl zeroes) h within room =
-    let c = counted_quietly k.due 2048 n k.joint m h in
-    let cycles = c.cycles in
-    let steps = c.steps in
-    let same : m.steps ≡ k.joint.steps = omega (arith, zeroes, within, cycles, steps) in
-    subst (λ x. AreUnmet stops p old.joint.steps x) (sym same) unmet
-
--- the step after quiet ones
-module _ (stops : Stops) (k new : Keyboard) (most : ℕ) (g : HasGone k.due 2048 most k.joint (Ok new.seen) new.joint)
-    (p : Past) (old : Keyboard) (cycles : ℕ) (so : GoesOnSo p old cycles false k)
-    (room : k.joint.cycle + most < old.joint.cycle + cycles)
-    (left : new.due.edges.items ≡ drop new.seen.edges k.due.edges.items) (same : new.due.host ≡ k.due.host) where
-  -- whether the step after quiet ones meets a stop is seen from the machines before them and after it
-  pub met_last : met_at stops p g.last.steps ≡ met_by stops (irq_of k.joint.outside.desk.port) (lines_of k.joint) new
-  met_last =
-      let last : Keyboard = record k { joint = g.last } in
-      let c = counted_quietly k.due 2048 g.count k.joint g.last g.quiet in
-      let out = c.outside in
-      let latch = c.latch in
-      let there = so_last k new most g p old cycles false so room left same in
-      met_here stops p last new there.has_past (holds_on k new most g p old cycles false so room left same)
-      (one_step k new most g p old cycles false so room left same)
-      (says_one (gone_on p g.last.steps) last there.has_past new g.step g.run left same)
-      ∙ (λ i. met_by stops (irq_of (out i).desk.port) (outside_wires (latch i) (out i)) new)
-
--- and if the processor is stuck after them
-module _ (k new : Keyboard) (most : ℕ) (stuck : Stuck) (g : HasGone k.due 2048 most k.joint (Err stuck) new.joint) where
-  stuck_there : new.joint ≡ g.last
-  stuck_there = stuck_same k.due g.last new.joint stuck (due_step k.due g.last) g.step
-
-  -- quiet steps before the processor is stuck meet no stop
-  pub stuck_unmet : (stops : Stops) (p : Past) (old : Keyboard) (cycles : ℕ) → GoesOnSo p old cycles false k
-      → AreUnmet stops p old.joint.steps k.joint.steps → (most ≡ 0) ⊎ (stops.counter ≡ None)
-      → k.joint.cycle + most < old.joint.cycle + cycles → AreUnmet stops p old.joint.steps new.joint.steps
-  stuck_unmet stops p old cycles so unmet alone room =
-      subst (λ (m : Machine). AreUnmet stops p old.joint.steps m.steps) (sym stuck_there)
-      (last_unmet stops p old cycles k most g.count g.last so unmet alone g.quiet g.within room)
-
-  -- a run that is stuck has made no more steps than its limit of cycles
-  pub stuck_few : new.joint.steps ≤ k.joint.steps + most
-  stuck_few =
-      let c = counted_quietly k.due 2048 g.count k.joint g.last g.quiet in
-      let steps = c.steps in
-      let cycles = c.cycles in
-      let within = g.within in
-      let there = ap (λ (m : Machine). m.steps) stuck_there in
-      omega (arith, steps, cycles, within, there)
-
 -- what the step did, by the line and the wires before it
 pub as_met : (stops : Stops) (new : Keyboard) (m : Met) (was i : Irq) (lines l : Lines)
     → m ≡ met_by stops was lines new → was ≡ i → lines ≡ l → met_by stops i l new ≡ m
 as_met stops new m was i lines l e a b = sym (e ∙ (λ j. met_by stops (a j) (b j) new))
 
--- so many steps at most
-pub steps_few : (k new : Keyboard) (most : ℕ) (g : HasGone k.due 2048 most k.joint (Ok new.seen) new.joint)
-    → new.joint.steps ≤ suc (k.joint.steps + most)
-steps_few k new most g =
-    let c = counted_quietly k.due 2048 g.count k.joint g.last g.quiet in
-    let steps = c.steps in
-    let cycles = c.cycles in
-    let within = g.within in
-    let one = (counted k.due g.last new.joint new.seen g.step).1 in
-    omega (arith, steps, cycles, within, one)
+or_not : (b : Bool) → (b || false) ≡ b
+or_not true = refl
+or_not false = refl
 
--- a keyboard that has gone on by a step has made more steps
-pub steps_later : (k new : Keyboard) (most : ℕ) (g : HasGone k.due 2048 most k.joint (Ok new.seen) new.joint)
-    → k.joint.steps < new.joint.steps
-steps_later k new most g =
-    let c = counted_quietly k.due 2048 g.count k.joint g.last g.quiet in
-    let steps = c.steps in
-    let one = (counted k.due g.last new.joint new.seen g.step).1 in
-    omega (arith, steps, one)
+and_not : (b : Bool) → false ≡ (b && false)
+and_not true = refl
+and_not false = refl
+
+rise_between : (watched : Bool) (p : Past) (o : Option (World Beside))
+    → is_met (met_between (at_rise watched) o (step_on (joint_board p.edges p.events) p.bytes o))
+    ≡ (watched && rose (irq_in o) (irq_in (step_on (joint_board p.edges p.events) p.bytes o)))
+rise_between watched p None = and_not watched
+rise_between watched p (Some w) = by (joint_step (joint_board p.edges p.events) p.bytes w)
+  where
+    by : (n : Option (World Beside))
+        → is_met (met_between (at_rise watched) (Some w) n) ≡ (watched && rose (irq_in (Some w)) (irq_in n))
+    by None = and_not watched
+    by (Some v) = or_not (watched && rose (irq_in (Some w)) (irq_in (Some v)))
+
+-- a run that stops for a rise of the line alone meets a stop exactly in a step that raises it, if the line is watched
+pub rise_is_met : (watched : Bool) (p : Past) (j : ℕ) → is_met (met_at (at_rise watched) p j) ≡ (watched && rises p j)
+rise_is_met watched p j = rise_between watched p (state_at (story_of p) j)
+
+rise_of : (b : Bool) → is_met (record nothing_met { rise = b }) ≡ true → record nothing_met { rise = b } ≡ record nothing_met { rise = true }
+rise_of true h = refl
+rise_of false h = absurd cc
+
+only_between : (o n : Option (World Beside)) → is_met (met_between (at_rise true) o n) ≡ true
+    → met_between (at_rise true) o n ≡ record nothing_met { rise = true }
+only_between None n h = absurd cc
+only_between (Some w) None h = absurd cc
+only_between (Some w) (Some v) h = rise_of (rose (irq_in (Some w)) (irq_in (Some v))) h
+
+-- and what it meets is the rise
+pub only_rise : (p : Past) (j : ℕ) → is_met (met_at (at_rise true) p j) ≡ true
+    → met_at (at_rise true) p j ≡ record nothing_met { rise = true }
+only_rise p j h = only_between (state_at (story_of p) j) (state_at (story_of p) (suc j)) h

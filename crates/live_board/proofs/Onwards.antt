@@ -1,5 +1,5 @@
 -- Going on from where a keyboard is, by quiet steps and a step after them.
-use Rattle.std.proofs.Common.{◌≡◌, ◌≤◌, ◌<◌, ℕ, zero, suc, ◌+◌, ◌-◌, Bool, true, false, List, [], ◌∷◌, ◌++◌, drop}
+use Rattle.std.proofs.Common.{◌≡◌, ◌≤◌, ◌<◌, ℕ, zero, suc, ◌+◌, ◌-◌, true, false, List, [], ◌∷◌, ◌++◌, drop}
 use Rattle.std.proofs.Common.{None, Some, Ok, Err, refl, ap, sym, subst, ◌∙◌, ◌&&◌, ◌⊎◌, inl, inr, arith}
 use Rattle.std.specs.Prelude.{map}
 use Rattle.std.specs.declared.option.Option.{Option}
@@ -19,18 +19,17 @@ use Rattle.joint_run.specs.declared.machine.Machine.{Machine}
 use Rattle.joint_run.specs.declared.outside.Outside.{Outside}
 use Rattle.mcs48_core.specs.declared.stepping.Stuck.{Stuck}
 use Rattle.live_board.proofs.Calling.{stuck_at}
-use Rattle.live_board.proofs.Gliding.{only_later, same_outside, steady, stuck_same}
-use Rattle.live_board.proofs.Meeting.{counted_quietly, flat_wires, lines_of, none_of, not_met}
+use Rattle.live_board.proofs.Gliding.{counted_quietly, steady, stuck_same}
+use Rattle.live_board.proofs.Meeting.{flat_wires, lines_of, none_of, not_met}
 use Rattle.live_board.proofs.Passed.{still_none}
 use Rattle.live_board.proofs.Stepping.{counted}
 use Rattle.live_board.proofs.Tallying.{still_rise}
 use Rattle.live_board.specs.Calls.{place_of}
 use Rattle.live_board.specs.Heard.{heard_all, rise, said_so}
-use Rattle.live_board.specs.Onward.{AreSteps, IsCalmStep, IsNextStep, IsStepBy, IsStuckAt, begun, due_of, raised}
-use Rattle.live_board.specs.OnwardTo.{IsUnmetStep, met_in}
+use Rattle.live_board.specs.Onward.{AreSteps, IsNextStep, IsStepBy, IsStuckAt, IsUnmetStep, begun, due_of, met_in}
 use Rattle.live_board.specs.Passing.{at_fall, passed_by}
 use Rattle.live_board.specs.Rising.{irq_of, rose}
-use Rattle.live_board.specs.Stopping.{counter_met, is_met, item_met, met_by, wires_met}
+use Rattle.live_board.specs.Running.{counter_met, is_met, item_met, met_by, wires_met}
 use Rattle.live_items.specs.declared.happened.Happened.{Happened}
 use Rattle.live_board.specs.declared.irq.Irq.{Irq}
 use Rattle.live_board.specs.declared.parts.Parts.{Parts as Keyboard}
@@ -91,11 +90,7 @@ AreQuietly is_so from until =
     (k : Keyboard) (m : Machine) (q : IsUneventful k.due k.joint m) → from ≤ k.joint.cycle → m.cycle ≤ until
     → is_so k (record k { joint = m; seen = q.seen })
 
--- in a run that watches the line or doesn't
-pub quiet_calm : (to from until : ℕ) (watched : Bool) → until ≤ to → AreQuietly (IsCalmStep to watched) from until
-quiet_calm to from until watched room k m q later soon = (quiet_next k m q to (omega (arith, room, soon)), λ is. quiet_line k m q)
-
--- in a run that is to stop. If it is to stop at a place, no cycle is left for a quiet step
+-- in a run. If it is to stop at a place, no cycle is left for a quiet step
 pub quiet_unmet : (stops : Stops) (to from most : ℕ) → (most ≡ 0) ⊎ (stops.counter ≡ None) → from + most ≤ to
     → AreQuietly (IsUnmetStep stops to) from (from + most)
 quiet_unmet stops to from most (inl zeroes) room k m q later soon =
@@ -118,7 +113,8 @@ quiet_onward is_so n from k so until (suc count) quietly m h room =
     let at = ap (λ (x : Machine). x.cycle) q.parts in
     let before = quiet_onward is_so n from k so until count quietly between h.1 (omega (arith, some, at, room)) in
     let here : Keyboard = record k { joint = between; seen = before.1 } in
-    (suc before.0, q.seen, (here, before.2, quietly here m q (only_later k count between h.1) room))
+    let later = (counted_quietly k.due 2048 count k.joint between h.1).cycles in
+    (suc before.0, q.seen, (here, before.2, quietly here m q (omega (arith, later)) room))
 
 -- quiet steps in time, and the step after them
 module _ (k new : Keyboard) (most to : ℕ) (is_so : Keyboard → Keyboard → Type 0) (n : ℕ) (from : Keyboard)
@@ -138,7 +134,7 @@ module _ (k new : Keyboard) (most to : ℕ) (is_so : Keyboard → Keyboard → T
   last_of = record k { joint = g.last; seen = quiet.1 }
 
   outside_kept : g.last.outside ≡ k.joint.outside
-  outside_kept = same_outside k g.count g.last g.quiet
+  outside_kept = (counted_quietly k.due 2048 g.count k.joint g.last g.quiet).outside
 
   -- it is a step by what waits, and begins in time
   pub last_step : IsNextStep to last_of new
@@ -162,10 +158,6 @@ module _ (k new : Keyboard) (most to : ℕ) (is_so : Keyboard → Keyboard → T
     host = host;
   }
 
-  -- the line as it was before that step
-  pub line_before : was ≡ irq_of g.last.outside.desk.port
-  line_before = line ∙ ap (λ (o : Outside). irq_of o.desk.port) (sym outside_kept)
-
   -- what the step does of what the run is to stop for, as the machines after it and before the quiet steps show
   pub met_before : (stops : Stops) → met_in stops last_of new ≡ met_by stops (irq_of k.joint.outside.desk.port) (lines_of k.joint) new
   met_before stops =
@@ -176,25 +168,12 @@ module _ (k new : Keyboard) (most to : ℕ) (is_so : Keyboard → Keyboard → T
   pub goes_onward : is_so last_of new → (all : ℕ) × AreSteps is_so all from new
   goes_onward it = (suc quiet.0, (last_of, quiet.2, it))
 
-  -- if it raises the line, which is watched, the run ends there
-  pub ends_raised : (watched : Bool) → watched ≡ true → rose was (irq_of new.joint.outside.desk.port) ≡ true
-      → (all : ℕ) × (before : Keyboard) × AreSteps is_so all from before × IsNextStep to before new
-      × (watched ≡ true) × (raised before new ≡ true)
-  ends_raised watched is rises =
-      (quiet.0, last_of, quiet.2, last_step, is, ap (λ (i : Irq). rose i (irq_of new.joint.outside.desk.port)) (sym line_before) ∙ rises)
-
   -- if it does what the run is to stop for, the run ends there
-  pub ends_met : (stops : Stops) (what : Met) (limit : ℕ)
-      → met_by stops (irq_of k.joint.outside.desk.port) (lines_of k.joint) new ≡ what → is_met what ≡ true → new.joint.steps ≤ limit
+  pub ends_met : (stops : Stops) (what : Met) (Few : Type 0)
+      → met_by stops (irq_of k.joint.outside.desk.port) (lines_of k.joint) new ≡ what → is_met what ≡ true → Few
       → (all : ℕ) × (before : Keyboard) × AreSteps is_so all from before × IsNextStep to before new
-      × (met_in stops before new ≡ what) × (is_met what ≡ true) × (new.joint.steps ≤ limit)
-  ends_met stops what limit met is few = (quiet.0, last_of, quiet.2, last_step, met_before stops ∙ met, is, few)
-
-  -- if it doesn't raise the line, it is a calm step
-  pub calm_step : (watched : Bool) → (watched ≡ true → rose was (irq_of new.joint.outside.desk.port) ≡ false)
-      → IsCalmStep to watched last_of new
-  calm_step watched flat =
-      (last_step, λ is. ap (λ (i : Irq). rose i (irq_of new.joint.outside.desk.port)) (sym line_before) ∙ flat is)
+      × (met_in stops before new ≡ what) × (is_met what ≡ true) × Few
+  ends_met stops what Few met is few = (quiet.0, last_of, quiet.2, last_step, met_before stops ∙ met, is, few)
 
   -- if it does nothing of it, it is a step of a run that is to stop
   pub unmet_step : (stops : Stops) → is_met (met_by stops (irq_of k.joint.outside.desk.port) (lines_of k.joint) new) ≡ false
@@ -226,14 +205,6 @@ stuck_onward k new most is_so n from stuck so quietly g due heard rises =
       },
       stuck_at k.due g.last new.joint stuck (due_step k.due g.last) g.step ∙ ap place_of (sym is),
     )
-
--- and it ends in time
-pub stuck_soon : (k new : Keyboard) (most : ℕ) (stuck : Stuck) → HasGone k.due 2048 most k.joint (Err stuck) new.joint
-    → new.joint.cycle ≤ k.joint.cycle + most
-stuck_soon k new most stuck g =
-    let within = g.within in
-    let cycle = ap (λ (m : Machine). m.cycle) (stuck_same k.due g.last new.joint stuck (due_step k.due g.last) g.step) in
-    omega (arith, within, cycle)
 
 -- the host's event, as a list of its own, with the edges that wait
 same_due : (k : Keyboard) (act : HostAct) (host : ArrayVec HostEvent)

@@ -22,9 +22,9 @@ use Rattle.joint_feed.proofs.Feeding.{drop_more}
 use Rattle.joint_feed.proofs.Going.{IsMade, made as step_made, same_state}
 use Rattle.joint_feed.specs.Stories.{Story, state_at}
 use Rattle.mcs48_core.specs.Cpu.{Cpu}
-use Rattle.mcs48_core.specs.declared.stepping.Stuck.{Stuck}
-use Rattle.live_board.proofs.Timed.{step_later}
-use Rattle.live_board.specs.Calls.{Says}
+use Rattle.joint_run.proofs.OneStep.{step_of_run}
+use Rattle.live_board.proofs.Timed.{few_cycles, step_later}
+use Rattle.live_board.specs.Calls.{Says, place_of}
 use Rattle.live_board.specs.Pasts.{Past, gone_on, state_of, story_of, untouched}
 use Rattle.live_board.specs.States.{AreParted, HasPast}
 use Rattle.live_board.specs.declared.parts.Parts.{Parts as Keyboard}
@@ -164,15 +164,26 @@ module _ (held : Cpu) (edges : List Edge) (events : List HostEvent) (due : Due) 
   pub host_few : seen.host ≤ length due.host.items
   host_few = let a = done_few due old step.world step.step in let b = step.seen_so.host in omega (arith, a, b)
 
+-- the machine's step is a step of each run that it is in
+pub of_run : (due : Due) (old new : Machine) (seen : Seen) → IsJointStep due old (due_step due old) (Ok seen) new
+    → IsStepOfRun due old (Ok seen) new
+of_run due old new seen is = step_of_run due old (Ok seen) new is (few_cycles due old new seen is)
+
+-- no event of the host is left
+no_event : (p : Past) (old : Keyboard) (s : HasPast p old) → old.due.host.items ≡ take 2 (drop s.world.board.pc.side.done p.events)
+no_event p old s =
+    let done = s.all_done in
+    s.none_waits ∙ sym (ap (λ (v : List HostEvent). take 2 v) (drop_all s.world.board.pc.side.done p.events (omega (arith, done))))
+
 -- the run goes on by a step, where the host does nothing
 module _ (p : Past) (old : Keyboard) (s : HasPast p old) (new : Keyboard)
     (is : IsJointStep old.due old.joint (due_step old.due old.joint) (Ok new.seen) new.joint)
-    (run : IsStepOfRun old.due old.joint (Ok new.seen) new.joint) (left : new.due.edges.items ≡ drop new.seen.edges old.due.edges.items)
-    (same : new.due.host ≡ old.due.host) where
+    (left : new.due.edges.items ≡ drop new.seen.edges old.due.edges.items) (same : new.due.host ≡ old.due.host) where
+  run : IsStepOfRun old.due old.joint (Ok new.seen) new.joint
+  run = of_run old.due old.joint new.joint new.seen is
+
   no_host : old.due.host.items ≡ take 2 (drop s.world.board.pc.side.done p.events)
-  no_host =
-      let done = s.all_done in
-      s.none_waits ∙ sym (ap (λ (v : List HostEvent). take 2 v) (drop_all s.world.board.pc.side.done p.events (omega (arith, done))))
+  no_host = no_event p old s
 
   -- after the step the keyboard has the past, gone on by a step
   pub one_on : HasPast (gone_on p new.joint.steps) new
@@ -235,12 +246,12 @@ counted due old new seen is =
     (made.seen_so.cycles ∙ sym (ap (λ m. m.cycle) made.after), omega (arith, steps))
 
 -- where the processor is stuck no state follows
-pub no_further : (p : Past) (old : Keyboard) (s : HasPast p old) (new : Machine) (stuck : Stuck)
-    → IsStepOfRun old.due old.joint (Err stuck) new → state_of (gone_on p (suc old.joint.steps)) ≡ None
-no_further p old s new stuck run =
+pub no_further : (p : Past) (old : Keyboard) (s : HasPast p old) → due_step old.due old.joint ≡ None
+    → state_of (gone_on p (suc old.joint.steps)) ≡ None
+no_further p old s stuck =
     let h = handed p.edges s.made s.world.cycle old.due.edges.items s.edges_wait in
-    let done = s.all_done in
-    let host : old.due.host.items ≡ take 2 (drop s.world.board.pc.side.done p.events) =
-    s.none_waits ∙ sym (ap (λ (v : List HostEvent). take 2 v) (drop_all s.world.board.pc.side.done p.events (omega (arith, done)))) in
-    let none = run p.held p.edges p.events s.made s.world s.order s.in_run (record { next = h.0; all = h.1; host = host }) in
+    let run : IsStepOfRun old.due old.joint (Err (place_of old.joint)) old.joint =
+    step_of_run old.due old.joint (Err (place_of old.joint)) old.joint
+    (subst (λ o. IsJointStep old.due old.joint o (Err (place_of old.joint)) old.joint) (sym stuck) (refl, refl)) tt in
+    let none = run p.held p.edges p.events s.made s.world s.order s.in_run (record { next = h.0; all = h.1; host = no_event p old s }) in
     subst (λ bytes. run_at (joint_board p.edges p.events) bytes (joint_start_of p.held) (suc old.joint.steps) ≡ None) s.image none

@@ -31,7 +31,7 @@ place_of m = record { pc = m.mcu.pc; byte = slice_index m.image.bytes (m.mcu.pc 
 -- end; a write finds the input buffer full; or the processor is stuck, so that no state follows
 abbrev pub IsRefused : HostAct → Keyboard → Refused → Type 0
 IsRefused act k R.Early = k.joint.cycle < 4096
-IsRefused act k R.Over = 2 ^ 62 ≤ k.joint.cycle
+IsRefused act k R.LastCycle = 2 ^ 62 ≤ k.joint.cycle
 IsRefused act k R.Full =
     (4096 ≤ k.joint.cycle) × (k.joint.cycle < 2 ^ 62) × (waits act k.joint.outside.desk.port.core ≡ true)
 IsRefused act k (R.Stuck place) =
@@ -63,7 +63,7 @@ pressed_now p k place down = pressed p (record { stamp = k.joint.cycle - 4096; p
 -- a key's call is refused before stamp 0, and from then on if four edges wait
 abbrev pub IsKeyRefused : Keyboard → Refused → Type 0
 IsKeyRefused k R.Early = k.joint.cycle < 4096
-IsKeyRefused k R.Over = ⊥
+IsKeyRefused k R.LastCycle = ⊥
 IsKeyRefused k R.Full = (4096 ≤ k.joint.cycle) × (length k.due.edges.items ≡ 4)
 IsKeyRefused k (R.Stuck place) = ⊥
 

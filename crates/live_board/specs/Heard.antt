@@ -7,8 +7,7 @@ use Rattle.host_turn.specs.declared.stamped.Stamped.{Stamped}
 use Rattle.live_board.specs.Calls.{Says}
 use Rattle.live_board.specs.Passing.{passed_at, passed_between}
 use Rattle.live_board.specs.Pasts.{Past, acted, gone_on, state_of}
-use Rattle.live_board.specs.Rising.{irq_in, rose}
-use Rattle.live_board.specs.RunCalls.{rises}
+use Rattle.live_board.specs.Rising.{irq_in, rises, rose}
 use Rattle.live_board.specs.States.{HasPast}
 use Rattle.live_items.specs.declared.happened.Happened.{Happened}
 use Rattle.live_items.specs.declared.happened.What.{What}

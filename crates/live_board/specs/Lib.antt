@@ -7,11 +7,9 @@ pub mod Sides
 pub mod Acts
 pub mod Calls
 pub mod Rising
-pub mod RunCalls
+pub mod Running
 pub mod Ready
-pub mod Stopping
 pub mod Passing
 pub mod Heard
 pub mod Saved
 pub mod Onward
-pub mod OnwardTo

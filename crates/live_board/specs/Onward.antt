@@ -1,19 +1,24 @@
 -- The run from where a keyboard is, whatever past it has, and if it has none: one joint step after another.
 use Rattle.std.specs.Prelude.{◌≡◌, ◌≤◌, ◌<◌, ◌^◌, ◌+◌, ◌-◌, ℕ, zero, suc, Bool, true, false, [], ◌∷◌, ◌++◌, drop, map}
 use Rattle.std.specs.Prelude.{None, Ok, Err}
+use Rattle.std.specs.declared.option.Option.{Option}
 use Rattle.std.specs.declared.result.Result.{Result}
 use Rattle.board_terms.specs.declared.event.HostAct.{HostAct}
+use Rattle.joint_run.specs.Cycle.{outside_wires}
 use Rattle.joint_run.specs.Due.{due_step, IsJointStep}
 use Rattle.joint_run.specs.declared.due.Due.{Due}
 use Rattle.live_board.specs.Calls.{place_of}
 use Rattle.live_board.specs.Heard.{heard_all, rise, said_so}
 use Rattle.live_board.specs.Passing.{at_fall, passed_by}
-use Rattle.live_board.specs.Rising.{irq_of, rose}
+use Rattle.live_board.specs.Rising.{irq_of}
+use Rattle.live_board.specs.Running.{AreFew, IsAtLimit, IsWithin, is_met, met_by}
 use Rattle.live_board.specs.declared.parts.Parts.{Parts as Keyboard}
 use Rattle.live_board.specs.declared.ran.RunEnd.{RunEnd}
-use Rattle.live_board.specs.declared.ran.RunEnd.TheVariants.{Passed, Rose, Over, Stuck}
+use Rattle.live_board.specs.declared.ran.RunEnd.TheVariants as ends
 use Rattle.live_board.specs.declared.refused.Refused.{Refused}
 use Rattle.live_board.specs.declared.refused.Refused.TheVariants as R
+use Rattle.live_board.specs.declared.stops.Met.{Met}
+use Rattle.live_board.specs.declared.stops.Stops.{Stops}
 
 -- one joint step by these events: the edges that were made wait no longer, what happened is kept, and a rise of the line is
 -- counted
@@ -29,14 +34,6 @@ pub record IsNextStep (to : ℕ) (old new : Keyboard) : Type 0 where
   pub soon : old.joint.cycle < to
   pub by_what_waits : IsStepBy old.due old new
   pub host : new.due.host ≡ old.due.host
-
--- the step raises the interrupt line
-abbrev pub raised : Keyboard → Keyboard → Bool
-raised old new = rose (irq_of old.joint.outside.desk.port) (irq_of new.joint.outside.desk.port)
-
--- if the line is watched, the step doesn't raise it
-abbrev pub IsCalmStep : ℕ → Bool → Keyboard → Keyboard → Type 0
-IsCalmStep to watched old new = IsNextStep to old new × (watched ≡ true → raised old new ≡ false)
 
 -- so many steps, one after another, each of which is so
 abbrev pub AreSteps : (Keyboard → Keyboard → Type 0) → ℕ → Keyboard → Keyboard → Type 0
@@ -55,23 +52,32 @@ pub record IsStuckAt (k new : Keyboard) : Type 0 where
 abbrev pub begun : Keyboard → Keyboard
 begun k = record k { rises = 0 }
 
--- calm steps that begin before so many cycles have passed
-abbrev pub AreCalm : Keyboard → ℕ → Bool → ℕ → Keyboard → Type 0
-AreCalm old cycles watched n new = AreSteps (IsCalmStep (old.joint.cycle + cycles) watched) n (begun old) new
+-- what a step does of what the run is to stop for
+abbrev pub met_in : Stops → Keyboard → Keyboard → Met
+met_in stops old new =
+    met_by stops (irq_of old.joint.outside.desk.port) (outside_wires old.joint.mcu.p2 old.joint.outside) new
 
--- the run from there: calm steps, until the cycles have passed; or the next step raises the line, which is watched; or the
--- count of cycles is at its end; or the processor is stuck
-abbrev pub RunsOn : Keyboard → ℕ → Bool → RunEnd → Keyboard → Type 0
-RunsOn old cycles watched Passed new =
-    (n : ℕ) × AreCalm old cycles watched n new × (old.joint.cycle + cycles ≤ new.joint.cycle)
-RunsOn old cycles watched Rose new =
-    (n : ℕ) × (k : Keyboard) × AreCalm old cycles watched n k × IsNextStep (old.joint.cycle + cycles) k new
-    × (watched ≡ true) × (raised k new ≡ true)
-RunsOn old cycles watched Over new =
-    (n : ℕ) × AreCalm old cycles watched n new × (2 ^ 62 ≤ new.joint.cycle) × (new.joint.cycle < old.joint.cycle + cycles)
-RunsOn old cycles watched (Stuck place) new =
-    (n : ℕ) × (k : Keyboard) × AreCalm old cycles watched n k × IsStuckAt k new × (place ≡ place_of new.joint)
-    × (new.joint.cycle < old.joint.cycle + cycles)
+-- the step does nothing of it
+abbrev pub IsUnmetStep : Stops → ℕ → Keyboard → Keyboard → Type 0
+IsUnmetStep stops to old new = IsNextStep to old new × (is_met (met_in stops old new) ≡ false)
+
+-- such steps, which begin before so many cycles have passed
+abbrev pub AreUnmetSteps : Stops → Keyboard → ℕ → ℕ → Keyboard → Type 0
+AreUnmetSteps stops old cycles n new = AreSteps (IsUnmetStep stops (old.joint.cycle + cycles)) n (begun old) new
+
+-- the run from there: such steps, until a limit is reached; or the next step, within the limits, does this; or, within both
+-- limits, the count of cycles is at its end, or the processor is stuck
+abbrev pub RunsOn : Stops → Keyboard → ℕ → Option ℕ → RunEnd → Keyboard → Type 0
+RunsOn stops old cycles steps ends.Passed new =
+    (n : ℕ) × AreUnmetSteps stops old cycles n new × AreFew old steps new × IsAtLimit old cycles steps new
+RunsOn stops old cycles steps (ends.Met what) new =
+    (n : ℕ) × (k : Keyboard) × AreUnmetSteps stops old cycles n k × IsNextStep (old.joint.cycle + cycles) k new
+    × (met_in stops k new ≡ what) × (is_met what ≡ true) × AreFew old steps new
+RunsOn stops old cycles steps ends.LastCycle new =
+    (n : ℕ) × AreUnmetSteps stops old cycles n new × (2 ^ 62 ≤ new.joint.cycle) × IsWithin old cycles steps new
+RunsOn stops old cycles steps (ends.Stuck place) new =
+    (n : ℕ) × (k : Keyboard) × AreUnmetSteps stops old cycles n k × IsStuckAt k new × (place ≡ place_of new.joint)
+    × IsWithin old cycles steps new
 
 -- the edges that wait, and what the host does now
 abbrev pub due_of : HostAct → Keyboard → Due
@@ -83,7 +89,7 @@ due_of act k = record {
 -- no step is made because the processor is stuck
 abbrev pub IsNoStep : HostAct → Keyboard → Refused → Type 0
 IsNoStep act old R.Early = Unit {0}
-IsNoStep act old R.Over = Unit {0}
+IsNoStep act old R.LastCycle = Unit {0}
 IsNoStep act old R.Full = Unit {0}
 IsNoStep act old (R.Stuck place) = due_step (due_of act old) old.joint ≡ None
 

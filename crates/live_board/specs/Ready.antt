@@ -1,11 +1,11 @@
 -- A keyboard that has just been opened, and one that was run on until its interrupt line rose.
-use Rattle.std.specs.Prelude.{◌≡◌, ℕ, true, false, List, []}
+use Rattle.std.specs.Prelude.{◌≡◌, ℕ, true, false, List, [], None}
 use Rattle.std.specs.declared.result.Result.{Result}
 use Rattle.board_terms.specs.declared.event.HostAct.TheVariants.{Mask}
 use Rattle.live_board.specs.Calls.{IsActed}
 use Rattle.live_board.specs.Heard.{HasKeptAll, IsKeptLog}
 use Rattle.live_board.specs.Pasts.{Past, untouched}
-use Rattle.live_board.specs.RunCalls.{HasRun}
+use Rattle.live_board.specs.Running.{HasRun, at_rise}
 use Rattle.live_board.specs.States.{HasPast}
 use Rattle.live_board.specs.declared.parts.Parts.{Parts as Keyboard}
 use Rattle.live_board.specs.declared.ran.RunEnd.{RunEnd}
@@ -27,7 +27,7 @@ pub record IsOpened (fill : ℕ) (bytes : List ℕ) (k : Keyboard) : Type 0 wher
   pub none_kept : (first.heard.items.items ≡ []) × (first.heard.lost ≡ 0)
   pub middle : Keyboard
   pub end : RunEnd
-  pub ran : HasRun (untouched fill bytes 0) first 4096 false end middle
+  pub ran : HasRun (at_rise false) (untouched fill bytes 0) first 4096 None end middle
   pub ran_reported : HasKeptAll (untouched fill bytes 0) first middle
   pub answer : Result (Unit {0}) Refused
   pub masked : IsActed Mask middle answer k
@@ -39,5 +39,5 @@ pub record IsReady (bytes : List ℕ) (k : Keyboard) : Type 0 where
   pub opened : Keyboard
   pub is_opened : IsOpened 0 bytes opened
   pub end : RunEnd
-  pub ran : (p : Past) → HasPast p opened → HasRun p opened 400000 true end k
+  pub ran : (p : Past) → HasPast p opened → HasRun (at_rise true) p opened 400000 None end k
   pub log_kept : (p : Past) → HasPast p opened → HasKeptAll p opened k

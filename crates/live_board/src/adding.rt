@@ -9,7 +9,7 @@ ghost use Rattle.live_board.specs.Onward.{IsStepped, with_edge};
 ghost use Rattle.live_board.specs.Pasts.{Past, acted};
 ghost use Rattle.live_board.specs.States.{HasPast};
 
-use crate::parts::{LAST, Parts};
+use crate::parts::{LAST_CYCLE, Parts};
 use crate::refused::Refused;
 use arrayvec::ArrayVec;
 use board_terms::{Edge, HostAct, HostEvent, Place, STAMP_0};
@@ -50,8 +50,8 @@ impl Parts {
         if cycle < STAMP_0 {
             return Err(Refused::Early);
         }
-        if cycle >= LAST {
-            return Err(Refused::Over);
+        if cycle >= LAST_CYCLE {
+            return Err(Refused::LastCycle);
         }
         if self.waits(act) {
             return Err(Refused::Full);

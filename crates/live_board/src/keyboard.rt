@@ -1,6 +1,6 @@
 //! The keyboard that runs as one goes.
 
-ghost use Rattle.std.specs.Prelude.{◌≡◌, ◌+◌, ◌-◌, [], IfOk, OnOk, Some};
+ghost use Rattle.std.specs.Prelude.{◌≡◌, ◌+◌, ◌-◌, [], IfOk, OnOk, None, Some};
 ghost use Rattle.board_terms.specs.declared.event.HostAct.TheVariants.{Read60, Status, Take};
 ghost use Rattle.int09.specs.Bios.{start};
 ghost use Rattle.joint_run.specs.Filled.{filled};
@@ -12,7 +12,7 @@ ghost use Rattle.live_board.specs.Looks.{IsCopied};
 ghost use Rattle.live_board.specs.Onward.{IsStepped, RunsOn, with_edge};
 ghost use Rattle.live_board.specs.Pasts.{Past, acted};
 ghost use Rattle.live_board.specs.Ready.{IsOpened, IsReady};
-ghost use Rattle.live_board.specs.RunCalls.{HasRun};
+ghost use Rattle.live_board.specs.Running.{HasRun, at_rise};
 ghost use Rattle.live_board.specs.States.{HasPast};
 
 use crate::answers::{read_in, status_in, taken_in};
@@ -20,6 +20,7 @@ use crate::heard::Next;
 use crate::parts::Parts;
 use crate::ran::Ran;
 use crate::refused::Refused;
+use crate::stops::Stops;
 use board_terms::{HostAct, Place};
 use ctl_core::Port;
 use int09::Bios;
@@ -121,14 +122,27 @@ impl Keyboard {
     }
 
     /// Goes on until so many cycles have passed, which may be one more, since a step takes one or two; or, if the
-    /// interrupt line is watched, until it rises. Answers how many passed, and why no more.
+    /// interrupt line is watched, until it rises: a run that stops at a rise alone, without a limit of steps. Answers how
+    /// many passed, and why no more.
     pub fn run(&mut self, cycles: u64, watched: bool) -> Ran
         ensures cycles { self.old.joint.cycle + result.cycles ≡ self.new.joint.cycle }
-        ensures run { (p : Past) → HasPast p self.old → HasRun p self.old cycles watched result.end self.new }
+        ensures run { (p : Past) → HasPast p self.old → HasRun (at_rise watched) p self.old cycles None result.end self.new }
         ensures log_kept { (p : Past) → HasPast p self.old → HasKeptAll p self.old self.new }
-        ensures onward { RunsOn self.old cycles watched result.end self.new }
+        ensures onward { RunsOn (at_rise watched) self.old cycles None result.end self.new }
     {
         self.parts.run(cycles, watched)
+    }
+
+    /// Goes on until a step does what the run is to stop for, but for so many cycles at most, which may be one more,
+    /// and so many steps, if they are limited. Quiet steps are made many at once, but one at a time if it is to stop at a
+    /// place. Answers how many cycles passed, and why it ended.
+    pub fn run_to(&mut self, stops: &Stops, cycles: u64, steps: Option<u64>) -> Ran
+        ensures cycles { self.old.joint.cycle + result.cycles ≡ self.new.joint.cycle }
+        ensures run { (p : Past) → HasPast p self.old → HasRun stops.now p self.old cycles steps result.end self.new }
+        ensures log_kept { (p : Past) → HasPast p self.old → HasKeptAll p self.old self.new }
+        ensures onward { RunsOn stops.now self.old cycles steps result.end self.new }
+    {
+        self.parts.run_to(stops, cycles, steps)
     }
 
     /// The keyboard's board at power-on with this program, with INT 09h at its start and with cleared memory, run to stamp

@@ -21,7 +21,6 @@ mod ran;
 mod refused;
 mod saving;
 mod sides;
-mod stopping;
 mod stops;
 
 pub use heard::Next;
@@ -30,7 +29,8 @@ pub use keyboard::Keyboard;
 pub use law::stories_grow_at_end;
 pub use live_items::{Happened, What};
 pub use looks::Registers;
+pub use parts::LAST_CYCLE;
 pub use ran::{Ran, RunEnd};
 pub use refused::Refused;
 pub use sides::Sides;
-pub use stops::{Ending, Met, Stopped, Stops};
+pub use stops::{Met, Stops};

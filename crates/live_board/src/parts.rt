@@ -24,8 +24,8 @@ use mcs48_core::Stuck;
 use mcs48_isa::Image;
 use std::alloc::{AllocError, Global};
 
-/// From this cycle on no step is made.
-pub(crate) const LAST: u64 = 1 << 62;
+/// From this cycle on no step is made: 2 to the 62nd cycles are 365,000 years.
+pub const LAST_CYCLE: u64 = 1 << 62;
 
 /// The joint machine, the events that its next step is handed, and what its last step did; what is kept of the log until
 /// the caller takes it, and how often the interrupt line rose in the last run or call of the host's that wasn't refused.

@@ -1,16 +1,17 @@
-//! What a call that goes on for some time answers.
+//! What a run answers.
 
+use crate::stops::Met;
 use mcs48_core::Stuck;
 
-/// Why it ended.
+/// Why a run ended.
 #[derive(Clone, Copy, Debug, PartialEq, Eq, Drop)]
 pub enum RunEnd {
-    /// So many cycles have passed, at least.
+    /// So many cycles have passed, at least, or so many steps were made.
     Passed,
-    /// The interrupt line rose in the last step.
-    Rose,
+    /// The last step did what the run was to stop for.
+    Met(Met),
     /// 2 to the 62nd cycles are done, and no more are counted.
-    Over,
+    LastCycle,
     /// The processor is stuck at this place.
     Stuck(Stuck),
 }

@@ -1,11 +1,10 @@
 //! What a run may stop for.
 
 ghost use Rattle.std.specs.Prelude.{◌≡◌};
-ghost use Rattle.live_board.specs.Stopping.{is_met, item_met, counter_met, wires_met};
+ghost use Rattle.live_board.specs.Running.{at_rise, counter_met, is_met, item_met, wires_met};
 
 use board_terms::Lines;
 use host_turn::Stamped;
-use mcs48_core::Stuck;
 
 /// What a run is to stop for, beside its limits: a rise of the interrupt line; something that is said; a wire that is
 /// otherwise after a step than before; and the processor at a place of the program, 0 to 2,047.
@@ -26,24 +25,18 @@ pub struct Met {
     pub counter: bool,
 }
 
-/// Why such a run ended.
-#[derive(Clone, Copy, Debug, PartialEq, Eq, Drop)]
-pub enum Ending {
-    /// So many cycles have passed, or so many steps were made.
-    Passed,
-    /// The last step did what the run was to stop for.
-    Met(Met),
-    /// 2 to the 62nd cycles are done, and no more are counted.
-    Over,
-    /// The processor is stuck at this place.
-    Stuck(Stuck),
-}
-
-/// How many cycles passed, and why no more.
-#[derive(Clone, Copy, Debug, PartialEq, Eq, Drop)]
-pub struct Stopped {
-    pub cycles: u64,
-    pub end: Ending,
+impl Stops {
+    /// To stop for nothing, but at a rise of the interrupt line if it is watched.
+    pub fn at_rise(watched: bool) -> Stops
+        ensures { result ≡ at_rise watched }
+    {
+        Stops {
+            rise: watched,
+            item: false,
+            wires: false,
+            counter: None,
+        }
+    }
 }
 
 impl Met {

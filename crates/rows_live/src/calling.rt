@@ -3,7 +3,7 @@
 use crate::rows::{NOTHING, NOTHING_MET, SECOND};
 use fw_kernel::KERNEL;
 use int09::Bios;
-use live_board::{Ending, Keyboard, Met, Next, RunEnd, SAVED, Stops, Unloaded, What};
+use live_board::{Keyboard, Met, Next, RunEnd, SAVED, Stops, Unloaded, What};
 use mcs48_isa::Image;
 use std::alloc::{AllocError, Global};
 
@@ -33,13 +33,17 @@ pub(crate) fn passes(keyboard: &mut Keyboard, cycles: u64, least: u64, most: u64
 /// A watched run for a second ends with a rise, after at least so many cycles and at most so many.
 pub(crate) fn rises(keyboard: &mut Keyboard, least: u64, most: u64) -> bool {
     let ran = keyboard.run(SECOND, true);
-    ran.end == RunEnd::Rose && least <= ran.cycles && ran.cycles <= most
+    let met = Met {
+        rise: true,
+        ..NOTHING_MET
+    };
+    ran.end == RunEnd::Met(met) && least <= ran.cycles && ran.cycles <= most
 }
 
 /// A run of so many steps ends after at least so many cycles and at most so many.
 pub(crate) fn steps(keyboard: &mut Keyboard, steps: u64, least: u64, most: u64) -> bool {
-    let ran = keyboard.run_to(&NOTHING, SECOND, steps);
-    ran.end == Ending::Passed && least <= ran.cycles && ran.cycles <= most
+    let ran = keyboard.run_to(&NOTHING, SECOND, Some(steps));
+    ran.end == RunEnd::Passed && least <= ran.cycles && ran.cycles <= most
 }
 
 /// A run comes back to where the processor is.
@@ -50,8 +54,8 @@ pub(crate) fn comes_back(keyboard: &mut Keyboard) -> bool {
         counter: true,
         ..NOTHING_MET
     };
-    let end = keyboard.run_to(&stops, SECOND, SECOND).end;
-    end == Ending::Met(met) && Some(keyboard.place().pc) == counter
+    let end = keyboard.run_to(&stops, SECOND, None).end;
+    end == RunEnd::Met(met) && Some(keyboard.place().pc) == counter
 }
 
 /// After looks no cycle has passed, the registers are the same, and the interrupt line is up.

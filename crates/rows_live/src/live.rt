@@ -10,7 +10,7 @@ use crate::rows::Row::{
 use crate::rows::{NOTHING, NOTHING_MET, SECOND};
 use board_terms::Transfer;
 use ctl_core::Port::{P60, P64};
-use live_board::{Ending, Met, Refused, Registers, RunEnd, Stops, Unloaded, What};
+use live_board::{Met, Refused, Registers, RunEnd, Stops, Unloaded, What};
 use mcs48_core::Stuck;
 use pc_tables::Item;
 use std::alloc::AllocError;
@@ -197,7 +197,7 @@ fn a_run_stops_for_what_it_is_asked_to(rt: HostRuntime) -> Result<(), AllocError
                     wires: true,
                     ..NOTHING
                 },
-                Ending::Met(Met {
+                RunEnd::Met(Met {
                     wires: true,
                     ..NOTHING_MET
                 }),
@@ -207,7 +207,7 @@ fn a_run_stops_for_what_it_is_asked_to(rt: HostRuntime) -> Result<(), AllocError
                     rise: true,
                     ..NOTHING
                 },
-                Ending::Met(Met {
+                RunEnd::Met(Met {
                     rise: true,
                     ..NOTHING_MET
                 }),
@@ -222,7 +222,7 @@ fn a_run_stops_for_what_it_is_asked_to(rt: HostRuntime) -> Result<(), AllocError
                     item: true,
                     ..NOTHING
                 },
-                Ending::Passed,
+                RunEnd::Passed,
             ),
             Read(0xaa),
             ComesBack,

@@ -51,7 +51,7 @@ fn play_run(keyboard: &mut Keyboard, row: Row) -> bool {
         Row::Passes(cycles, least, most) => passes(keyboard, cycles, least, most),
         Row::Rises => rises(keyboard, 1, SECOND),
         Row::RisesIn(least, most) => rises(keyboard, least, most),
-        Row::RunTo(stops, end) => keyboard.run_to(&stops, SECOND, SECOND).end == end,
+        Row::RunTo(stops, end) => keyboard.run_to(&stops, SECOND, None).end == end,
         Row::Steps(count, least, most) => steps(keyboard, count, least, most),
         Row::ComesBack => comes_back(keyboard),
         _ => play_call(keyboard, row),

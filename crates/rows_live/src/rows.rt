@@ -1,7 +1,7 @@
 //! The rows of the worked examples of a keyboard that runs as one goes: what is called, and what is so then.
 
 use ctl_core::Port;
-use live_board::{Ending, Met, Refused, Registers, RunEnd, Stops, Unloaded, What};
+use live_board::{Met, Refused, Registers, RunEnd, Stops, Unloaded, What};
 
 /// The cycles of a second.
 pub(crate) const SECOND: u64 = 400_000;
@@ -46,7 +46,7 @@ pub(crate) enum Row {
     /// The same, after at least so many cycles and at most so many.
     RisesIn(u64, u64),
     /// A run for a second that stops for these ends so.
-    RunTo(Stops, Ending),
+    RunTo(Stops, RunEnd),
     /// A run of so many steps ends after at least so many cycles and at most so many.
     Steps(u64, u64, u64),
     /// A run for a second that stops at the place where the processor is comes there again.

@@ -7,7 +7,7 @@ use Rattle.live_board.proofs.Calling.{acted_on, acted_stuck, answered_here, says
 use Rattle.live_board.proofs.Onwards.{host_step, no_step}
 use Rattle.live_board.proofs.Passed.{passed_over}
 use Rattle.live_board.proofs.Stepping.{counted}
-use Rattle.live_board.proofs.Watching.{line_here}
+use Rattle.live_board.proofs.Tallying.{line_here}
 use Rattle.live_board.specs.Heard.{heard_all, rise, said_so}
 use Rattle.live_board.specs.Passing.{at_fall, passed_by}
 use Rattle.live_board.specs.Pasts.{acted, state_of}
@@ -24,7 +24,7 @@ returns-in-Ok-clause-acted c =
     let act = c.args.act in
     let cycle = c.cycle-cycle.ensures.cycle in
     let not_early = c.if-cycle-lt-STAMP_0.false in
-    let not_over = c.if-cycle-ge-LAST.false in
+    let not_over = c.if-cycle-ge-LAST_CYCLE.false in
     let late : 4096 ≤ k.joint.cycle = omega (arith, cycle, not_early) in
     let near : k.joint.cycle < 2 ^ 62 = omega (arith, cycle, not_over) in
     let room : waits act k.joint.outside.desk.port.core ≡ false = sym c.waits.ensures ∙ c.if-waits.false in
@@ -128,7 +128,7 @@ returns-in-Err-clause-acted c =
     let act = c.args.act in
     let cycle = c.cycle-cycle.ensures.cycle in
     let not_early = c.if-cycle-lt-STAMP_0.false in
-    let not_over = c.if-cycle-ge-LAST.false in
+    let not_over = c.if-cycle-ge-LAST_CYCLE.false in
     let late : 4096 ≤ k.joint.cycle = omega (arith, cycle, not_early) in
     let near : k.joint.cycle < 2 ^ 62 = omega (arith, cycle, not_over) in
     let room : waits act k.joint.outside.desk.port.core ≡ false = sym c.waits.ensures ∙ c.if-waits.false in

@@ -1,6 +1,6 @@
--- A run that goes on to the first step that does what it is to stop for.
+-- A run: it goes on to the first step that does what it is to stop for, within a limit of cycles and one of steps.
 use Rattle.std.specs.Prelude.{◌≡◌, ◌≤◌, ◌<◌, ◌^◌, ◌+◌, ◌%◌, ◌==◌, ℕ, suc, Bool, true, false, not, ◌&&◌, ◌||◌, ◌⊎◌, nat_lt}
-use Rattle.std.specs.Prelude.{List, [], ◌∷◌, length, Some, None}
+use Rattle.std.specs.Prelude.{List, [], ◌∷◌, length, Some, None, IfSome, MatchOption}
 use Rattle.std.specs.declared.option.Option.{Option}
 use Rattle.board_terms.specs.declared.lines.Lines.{Lines}
 use Rattle.host_turn.specs.declared.stamped.Stamped.{Stamped}
@@ -12,14 +12,17 @@ use Rattle.ctl_wire.specs.Wires.{wires}
 use Rattle.live_board.specs.Calls.{place_of}
 use Rattle.live_board.specs.Pasts.{Past, gone_on, state_of, story_of}
 use Rattle.live_board.specs.Rising.{irq_of, rose}
-use Rattle.live_board.specs.RunCalls.{AreBefore}
 use Rattle.live_board.specs.States.{HasPast}
 use Rattle.live_board.specs.declared.irq.Irq.{Irq}
 use Rattle.live_board.specs.declared.parts.Parts.{Parts as Keyboard}
-use Rattle.live_board.specs.declared.stops.Ending.{Ending}
-use Rattle.live_board.specs.declared.stops.Ending.TheVariants as ends
+use Rattle.live_board.specs.declared.ran.RunEnd.{RunEnd}
+use Rattle.live_board.specs.declared.ran.RunEnd.TheVariants as ends
 use Rattle.live_board.specs.declared.stops.Met.{Met}
 use Rattle.live_board.specs.declared.stops.Stops.{Stops}
+
+-- to stop for nothing, but at a rise of the interrupt line if it is watched
+abbrev pub at_rise : Bool → Stops
+at_rise watched = record { rise = watched; item = false; wires = false; counter = None }
 
 -- a wire is otherwise
 abbrev pub differ : Bool → Bool → Bool
@@ -77,30 +80,44 @@ is_met m = m.rise || (m.item || (m.wires || m.counter))
 abbrev pub AreUnmet : Stops → Past → ℕ → ℕ → Type 0
 AreUnmet stops p from to = (j : ℕ) → from ≤ j → j < to → is_met (met_at stops p j) ≡ false
 
+-- each state from one on and before another is before a cycle
+abbrev pub AreBefore : Past → ℕ → ℕ → ℕ → Type 0
+AreBefore p from to cycle =
+    (j : ℕ) (w : World Beside) → from ≤ j → j < to → state_at (story_of p) j ≡ Some w → w.cycle < cycle
+
+-- as many steps were made as there may be, at most. There may be no limit of them
+abbrev pub AreFew : Keyboard → Option ℕ → Keyboard → Type 0
+AreFew old steps new = IfSome steps (λ most. new.joint.steps ≤ old.joint.steps + most)
+
+-- a limit is reached
+abbrev pub IsAtLimit : Keyboard → ℕ → Option ℕ → Keyboard → Type 0
+IsAtLimit old cycles steps new =
+    (old.joint.cycle + cycles ≤ new.joint.cycle)
+    ⊎ MatchOption steps ⊥ (λ most. new.joint.steps ≡ old.joint.steps + most)
+
 -- neither limit is reached
-pub record IsWithin (old : Keyboard) (cycles steps : ℕ) (new : Keyboard) : Type 0 where
+pub record IsWithin (old : Keyboard) (cycles : ℕ) (steps : Option ℕ) (new : Keyboard) : Type 0 where
   pub soon : new.joint.cycle < old.joint.cycle + cycles
-  pub few : new.joint.steps < old.joint.steps + steps
+  pub few : IfSome steps (λ most. new.joint.steps < old.joint.steps + most)
 
 -- why it ended: a limit is reached; the last step did this, and no step before it did; or, within both limits, the count
 -- of cycles is at its end, or the processor is stuck, so that no state follows
-abbrev pub StopsSo : Stops → Past → Keyboard → ℕ → ℕ → Ending → Keyboard → Type 0
-StopsSo stops p old cycles steps ends.Passed new =
-    ((old.joint.cycle + cycles ≤ new.joint.cycle) ⊎ (new.joint.steps ≡ old.joint.steps + steps))
-    × AreUnmet stops p old.joint.steps new.joint.steps
-StopsSo stops p old cycles steps (ends.Met what) new =
+abbrev pub EndsSo : Stops → Past → Keyboard → ℕ → Option ℕ → RunEnd → Keyboard → Type 0
+EndsSo stops p old cycles steps ends.Passed new =
+    IsAtLimit old cycles steps new × AreUnmet stops p old.joint.steps new.joint.steps
+EndsSo stops p old cycles steps (ends.Met what) new =
     (last : ℕ) × (new.joint.steps ≡ suc last) × (old.joint.steps ≤ last) × AreUnmet stops p old.joint.steps last
     × (met_at stops p last ≡ what) × (is_met what ≡ true)
-StopsSo stops p old cycles steps ends.Over new =
+EndsSo stops p old cycles steps ends.LastCycle new =
     (2 ^ 62 ≤ new.joint.cycle) × IsWithin old cycles steps new × AreUnmet stops p old.joint.steps new.joint.steps
-StopsSo stops p old cycles steps (ends.Stuck place) new =
+EndsSo stops p old cycles steps (ends.Stuck place) new =
     (state_of (gone_on p (suc new.joint.steps)) ≡ None) × (place ≡ place_of new.joint) × IsWithin old cycles steps new
     × AreUnmet stops p old.joint.steps new.joint.steps
 
--- the run has gone on to the first state at which it was to stop, within both limits
-pub record HasStopped (stops : Stops) (p : Past) (old : Keyboard) (cycles steps : ℕ) (end : Ending) (new : Keyboard)
+-- the run has gone on to the first state at which it was to end, within both limits
+pub record HasRun (stops : Stops) (p : Past) (old : Keyboard) (cycles : ℕ) (steps : Option ℕ) (end : RunEnd) (new : Keyboard)
     : Type 0 where
   pub has_past : HasPast (gone_on p new.joint.steps) new
   pub before : AreBefore p old.joint.steps new.joint.steps (old.joint.cycle + cycles)
-  pub few : new.joint.steps ≤ old.joint.steps + steps
-  pub why : StopsSo stops p old cycles steps end new
+  pub few : AreFew old steps new
+  pub ends : EndsSo stops p old cycles steps end new
