@@ -91,8 +91,8 @@ module _ (layout : KeyLayout) (k : Keys) (s : IsSound layout k) where
             );
         read =
             reads-described layout (key_text k) (history_of_keys k) accepted
-            (tells-describes layout (edges_in k.lines) End (key_text k)
-            (subst (Tells layout End 0 (edges_in k.lines)) (sym same)
+            (tells-describes layout (history_of_keys k) (key_text k)
+            (subst (Tells layout End 0 (edges_in k.lines) []) (sym same)
             (lines_tell layout End layout.debounce 0 0 k.lines rest short (λ last l. rest_tells layout End k last l short)
             (omega arith) (omega arith) s.lines spaced before_end)));
         accepted = record { accepted = accepted; places = places_own layout k.lines s.lines };

@@ -1,8 +1,7 @@
 -- The key file tells the history, and it isn't long.
 use Rattle.std.proofs.Common.{◌≡◌, ◌≤◌, ◌<◌, ℕ, ◌+◌, ◌*◌, Bool, true, false, List, [], ◌∷◌, ◌++◌, length, codes, refl, subst, sym}
 use Rattle.std.proofs.Common.{arith, append_assoc, length-append}
-use Rattle.std.specs.Prelude.{All, nat_le, nat_lt, ◌&&◌, if◌then◌else◌}
-use Rattle.std.specs.List.{list_all}
+use Rattle.std.specs.Prelude.{All, nat_le, nat_lt, if◌then◌else◌}
 use Rattle.std.proofs.lemmas.Bool.{and_parts}
 use Rattle.std.proofs.lemmas.Bool.Decides.{nat_tests}
 use Rattle.std.proofs.lemmas.List.Elements.{All-cons, All-head, All-nil, All-tail}
@@ -11,7 +10,7 @@ use Rattle.board_terms.specs.declared.event.Edge.{Edge}
 use Rattle.capture_lines.specs.Speech.{is_code}
 use Rattle.edge_queue.specs.Laws.{AreSpaced}
 use Rattle.edge_queue.specs.Queue.{time_of}
-use Rattle.key_lines.proofs.Parted.{IsLine}
+use Rattle.key_lines.proofs.Parted.{IsLine, is_text, text-by}
 use Rattle.key_lines.proofs.Sizes.{key-size, word-size}
 use Rattle.key_lines.proofs.Told.{Tells, comment-tells, end-tells, press-tells, release-tells}
 use Rattle.key_lines.specs.Lines.{comment_line, end_line, press_line, release_line}
@@ -24,24 +23,8 @@ use Rattle.capture_keys.specs.declared.key_line.KeyLine.TheVariants.{Turned, Uns
 use Rattle.capture_keys.proofs.Sound.{AreLinesOf, IsKeyOf, IsLineOf}
 
 -- what a comment says is of visible characters and spaces
-abbrev is_plain : List ℕ → Bool
-is_plain text = nat_lt 0 (length text) && list_all (λ c. nat_lt 31 c) text
-
-plain_by : (text : List ℕ) → is_plain text ≡ true → IsLine text
-plain_by text h =
-    let both = and_parts (nat_lt 0 (length text)) (list_all (λ c. nat_lt 31 c) text) h in
-    let some = both.0 in
-    record { some = grind (arith, nat_tests, some); inside = inside_of text both.1 }
-  where
-    inside_of : (text : List ℕ) → list_all (λ c. nat_lt 31 c) text ≡ true → All (λ c. 31 < c) text
-    inside_of [] h = All-nil (λ c. 31 < c)
-    inside_of (c ∷ cs) h =
-        let both = and_parts (nat_lt 31 c) (list_all (λ c. nat_lt 31 c) cs) h in
-        let first = both.0 in
-        All-cons (λ c. 31 < c) c cs (grind (arith, nat_tests, first)) (inside_of cs both.1)
-
-unsents_plain : (code : ℕ) → code < 133 → is_plain (unsent_text code) ≡ true
-unsents_plain = at_each (λ code. is_plain (unsent_text code)) 133 refl
+unsents_plain : (code : ℕ) → code < 133 → is_text 31 (unsent_text code) ≡ true
+unsents_plain = at_each (λ code. is_text 31 (unsent_text code)) 133 refl
 
 code_below : (code : ℕ) → is_code code ≡ true → code < 133
 code_below code h =
@@ -50,48 +33,48 @@ code_below code h =
     grind (arith, nat_tests, most)
 
 unsent_plain : (code : ℕ) → is_code code ≡ true → IsLine (unsent_text code)
-unsent_plain code h = plain_by (unsent_text code) (unsents_plain code (code_below code h))
+unsent_plain code h = text-by 31 (unsent_text code) (unsents_plain code (code_below code h))
 
 module _ (layout : KeyLayout) (end : ℕ) where
   -- a key goes down or up
   turn_tells : (from : ℕ) (e : Entry) (stamp place : ℕ) (down : Bool) (edges : List Edge) (rest : List ℕ)
-      → from ≤ stamp → stamp < 1000000000 → IsKeyOf layout e → place ≡ e.place → Tells layout end stamp edges rest
-      → Tells layout end from (record { stamp = stamp; place = place; down = down } ∷ edges)
+      → from ≤ stamp → stamp < 1000000000 → IsKeyOf layout e → place ≡ e.place → Tells layout end stamp edges [] rest
+      → Tells layout end from (record { stamp = stamp; place = place; down = down } ∷ edges) []
       (turn_line e (record { stamp = stamp; place = place; down = down }) ++ rest)
   turn_tells from e stamp place true edges rest later short is at more =
-      subst (λ p. Tells layout end from (record { stamp = stamp; place = p; down = true } ∷ edges)
+      subst (λ p. Tells layout end from (record { stamp = stamp; place = p; down = true } ∷ edges) []
       (turn_line e (record { stamp = stamp; place = p; down = true }) ++ rest)) (sym at)
-      (press-tells layout end from stamp e edges rest later short is.own more)
+      (press-tells layout end from stamp e edges [] rest later short is.own more)
   turn_tells from e stamp place false edges rest later short is at more =
-      subst (λ p. Tells layout end from (record { stamp = stamp; place = p; down = false } ∷ edges)
+      subst (λ p. Tells layout end from (record { stamp = stamp; place = p; down = false } ∷ edges) []
       (turn_line e (record { stamp = stamp; place = p; down = false }) ++ rest)) (sym at)
-      (release-tells layout end from stamp e edges rest later short is.own more)
+      (release-tells layout end from stamp e edges [] rest later short is.own more)
 
   -- lines whose edges are in order, before lines that describe no edge, describe these edges
   pub lines_tell : (debounce : Bool) (from ready : ℕ) (lines : List KeyLine) (rest : List ℕ) → end < 1000000000
-      → ((last : ℕ) → last ≤ end → Tells layout end last [] rest) → from ≤ ready → from ≤ end → AreLinesOf layout lines
+      → ((last : ℕ) → last ≤ end → Tells layout end last [] [] rest) → from ≤ ready → from ≤ end → AreLinesOf layout lines
       → AreSpaced debounce ready (edges_in lines) → All (λ (x : Edge). x.stamp ≤ end) (edges_in lines)
-      → Tells layout end from (edges_in lines) (lines_text lines ++ rest)
+      → Tells layout end from (edges_in lines) [] (lines_text lines ++ rest)
   lines_tell debounce from ready [] rest short more l early own spaced before = more from early
   lines_tell debounce from ready (Turned e p ∷ lines) rest short more l early own spaced before =
       let at = All-head (λ (x : Edge). x.stamp ≤ end) _ (edges_in lines) before in
       let since = spaced.0 in
-      subst (Tells layout end from (edges_in (Turned e p ∷ lines))) (sym (append_assoc (turn_line e p) (lines_text lines) rest))
+      subst (Tells layout end from (edges_in (Turned e p ∷ lines)) []) (sym (append_assoc (turn_line e p) (lines_text lines) rest))
       (turn_tells from e p.stamp p.place p.down (edges_in lines) (lines_text lines ++ rest) (omega (arith, l, since)) (omega (arith, at, short))
       own.0.0 own.0.1
       (lines_tell debounce p.stamp (p.stamp + time_of debounce p.down) lines rest short more (omega arith) at own.1 spaced.1
       (All-tail (λ (x : Edge). x.stamp ≤ end) _ (edges_in lines) before)))
   lines_tell debounce from ready (Unsent code ∷ lines) rest short more l early own spaced before =
-      subst (Tells layout end from (edges_in lines)) (sym (append_assoc (comment_line (unsent_text code)) (lines_text lines) rest))
-      (comment-tells layout end from (unsent_text code) (edges_in lines) (lines_text lines ++ rest) (unsent_plain code own.0)
+      subst (Tells layout end from (edges_in lines) []) (sym (append_assoc (comment_line (unsent_text code)) (lines_text lines) rest))
+      (comment-tells layout end from (unsent_text code) (edges_in lines) [] (lines_text lines ++ rest) (unsent_plain code own.0)
       (lines_tell debounce from ready lines rest short more l early own.1 spaced before))
 
   -- the comment that something found no room, if there is one, and the end describe no edge
-  pub rest_tells : (k : Keys) (from : ℕ) → from ≤ end → end < 1000000000 → Tells layout end from [] (rest_text k ++ end_line end)
+  pub rest_tells : (k : Keys) (from : ℕ) → from ≤ end → end < 1000000000 → Tells layout end from [] [] (rest_text k ++ end_line end)
   rest_tells k from l short =
-      elim k.full as (λ b. Tells layout end from [] ((if b then comment_line (codes "the rest found no room") else []) ++ end_line end)) [
-        | true ↦ comment-tells layout end from (codes "the rest found no room") [] (end_line end)
-            (plain_by (codes "the rest found no room") refl) (end-tells layout end from l short)
+      elim k.full as (λ b. Tells layout end from [] [] ((if b then comment_line (codes "the rest found no room") else []) ++ end_line end)) [
+        | true ↦ comment-tells layout end from (codes "the rest found no room") [] [] (end_line end)
+            (text-by 31 (codes "the rest found no room") refl) (end-tells layout end from l short)
         | false ↦ end-tells layout end from l short
       ]
 

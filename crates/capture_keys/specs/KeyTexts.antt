@@ -7,6 +7,7 @@ use Rattle.edge_queue.specs.declared.queue.Pushed.{Pushed}
 use Rattle.hex_text.specs.Digits.{hex_byte}
 use Rattle.key_file.specs.Histories.{KeyHistory}
 use Rattle.key_lines.specs.Lines.{comment_line, end_line, press_line, release_line}
+use Rattle.law_typed_log.specs.Typing.{stroke_start}
 use Rattle.layout_reader.specs.declared.entry.Entry.{Entry}
 use Rattle.capture_keys.specs.Keys.{Keys}
 use Rattle.capture_keys.specs.declared.key_line.KeyLine.{KeyLine}
@@ -34,7 +35,7 @@ rest_text k = if k.full then comment_line (codes "the rest found no room") else 
 
 -- the end: the last edge has had its time, or the keyboard its test, and ten ticks more pass
 abbrev pub end_of : Keys → ℕ
-end_of k = due_at k.queue.ready 162816 + 20480
+end_of k = due_at k.queue.ready (stroke_start 0) + 20480
 
 -- the key file
 abbrev pub key_text : Keys → List ℕ

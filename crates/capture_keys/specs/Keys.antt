@@ -1,13 +1,15 @@
 -- The keys that codes move on a layout, and when.
 --
--- A key file takes its stamps from the capture: one is 2.5 µs, and the first edge is at 162,816, after the keyboard's
--- test. An edge that would come too soon for the keyboard to see it waits in a queue, as `edge_queue` says.
+-- A key file takes its stamps from the capture: one is 2.5 µs. The first edge has the stamp at which a typed text begins,
+-- after the keyboard's test. An edge that would come too soon for the keyboard to see it waits in a queue, as
+-- `edge_queue` says.
 use Rattle.std.specs.Prelude.{ℕ, ◌+◌, ◌-◌, ◌/◌, Bool, true, false, not, ◌&&◌, ◌==◌, nat_lt, List, [], ◌∷◌, ◌++◌}
 use Rattle.std.specs.Prelude.{length, find, replicate, slice_index_or, slice_set}
 use Rattle.std.specs.Prelude.{Option, Some, None, unwrap_or, if◌then◌else◌}
 use Rattle.pc_tables.specs.Keys.{code_at as code_of_key}
 use Rattle.layout_reader.specs.declared.entry.Entry.{Entry}
 use Rattle.layout_reader.specs.Layouts.{KeyLayout}
+use Rattle.law_typed_log.specs.Typing.{stroke_start}
 use Rattle.edge_queue.specs.Queue.{Queue, after_taken, due_of, edge_at, empty, pushed, taken}
 use Rattle.edge_queue.specs.declared.queue.Pushed.{Pushed}
 use Rattle.capture_keys.specs.declared.codes.Code.{Code}
@@ -42,7 +44,7 @@ abbrev pub origin_at : ℕ → Keys → ℕ
 origin_at time k = unwrap_or k.origin time
 
 abbrev pub stamp_at : ℕ → ℕ → ℕ
-stamp_at origin time = 162816 + (time - origin) / 2500
+stamp_at origin time = stroke_start 0 + (time - origin) / 2500
 
 -- there is room for 65,536 lines. The last stamp of an edge leaves time for it and for the end within 600 seconds
 abbrev pub has_room : Keys → Bool

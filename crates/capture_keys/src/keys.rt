@@ -7,22 +7,17 @@ ghost use Rattle.capture_keys.specs.KeyTexts.{end_of};
 use crate::codes::Code;
 use crate::key_line::KeyLine;
 use edge_queue::EdgeQueue;
+use key_lines::{FIRST_STROKE, STROKE};
 use layout_reader::{Entry, Layout};
 use pc_tables::code_of;
 use std::alloc::{AllocError, Global};
 use std::marker::Model;
-
-/// The stamp of the first edge, which comes after the keyboard's test.
-const FIRST: u64 = 162_816;
 
 /// The nanoseconds of a cycle.
 const CYCLE: u64 = 2_500;
 
 /// The last stamp of an edge: its own time and the end come within 600 seconds.
 const LAST: u64 = 239_975_040;
-
-/// From the time of the last edge to the end, in cycles.
-const REST: u64 = 20_480;
 
 /// The most lines.
 const LINES: usize = 65_536;
@@ -80,7 +75,7 @@ fn entry_of(code: u8, entries: &[Entry]) -> Option<Entry>
 fn stamp_at(origin: u64, time: u64) -> u64
     ensures { result ≡ stamp_at origin time }
 {
-    FIRST + time.saturating_sub(origin) / CYCLE
+    FIRST_STROKE + time.saturating_sub(origin) / CYCLE
 }
 
 impl Keys {
@@ -116,9 +111,7 @@ impl Keys {
         requires { self.now.queue.ready ≤ 239979520 }
         ensures { result ≡ end_of self.now }
     {
-        let ready = self.queue.ready;
-        let last = if FIRST < ready { ready } else { FIRST };
-        last + REST
+        self.queue.ready.max(FIRST_STROKE) + STROKE
     }
 
     /// Whether there is room for a line.

@@ -8,6 +8,7 @@ ghost use Rattle.cycle_cert.specs.Lines.{place_in, number_in, register_in, targe
 
 use crate::bound::Bound;
 use crate::certificate::Entry;
+use mcs48_isa::PLACES;
 use text_lines::{decimal, decimal_digit, hexadecimal, single, split_once};
 
 /// The greatest number of cycles that a bound may fix.
@@ -40,7 +41,7 @@ fn place(text: &[u8]) -> Option<u16>
     ensures within { IfSome result (λ place. place < 2048) }
 {
     let number = hexadecimal(3, text)?;
-    (number < 2048).then_some(number as u16)
+    (number < PLACES as u32).then_some(number as u16)
 }
 
 /// The register, 0 to 7, that a digit names. None for every other text.

@@ -9,7 +9,7 @@ ghost use Rattle.cycle_cert.specs.declared.rows.When.TheVariants.{Always};
 ghost use Rattle.cycle_cert.specs.Rows.{is_certifiable, fits, place_after, two_ways, branch_ways, counting_ways};
 ghost use Rattle.cycle_cert.specs.Rows.{ways, ways_in, value_given, writes, heaviest};
 
-use mcs48_isa::{ControlOp, FlowOp, MoveOp, Op, UnaryOp};
+use mcs48_isa::{ControlOp, FlowOp, MoveOp, Op, PLACES, UnaryOp};
 
 /// When a way out of a row is taken, as far as a register decides it. The registers are numbered 0 to 7.
 #[derive(Clone, Copy, Drop)]
@@ -81,7 +81,7 @@ fn place_after(place: u16, len: u8) -> u16
     ensures place { result ≡ place_after place len }
     ensures within { result < 2048 }
 {
-    (place + u16::from(len)) % 2048
+    (place + u16::from(len)) % PLACES as u16
 }
 
 /// The place that a jump from a place makes to a low byte: it is in the page of the jump's second byte.
@@ -90,7 +90,7 @@ fn jump_target(place: u16, low: u8) -> u16
     ensures target { result ≡ target place low }
     ensures within { result < 2048 }
 {
-    (place + 1) % 2048 / 256 * 256 + u16::from(low)
+    (place + 1) % PLACES as u16 / 256 * 256 + u16::from(low)
 }
 
 /// The ways out of a conditional jump to a low byte, and when the jump is made and isn't.

@@ -6,6 +6,7 @@ ghost use Rattle.joint_feed.specs.Filled.{filled_story};
 ghost use Rattle.joint_feed.specs.Stories.{story};
 ghost use Rattle.debugger.specs.Sessions.{latest_start, of_layout, of_program, with_fill};
 
+use board_terms::{STAMP_0, TICK_CYCLES};
 use fw_compile::compile;
 use key_file::History;
 use layout_reader::Layout;
@@ -14,10 +15,10 @@ use std::marker::Model;
 
 /// By how much the cycle in which the run of a layout's image ends at the latest is greater than the end stamp: stamp 0 is
 /// cycle 4,096, and tick starts are less than 2,056 cycles apart.
-const LATEST_OF_LAYOUT: u64 = 6_152;
+const LATEST_OF_LAYOUT: u64 = STAMP_0 + TICK_CYCLES + 8;
 
 /// The same of any program: its run ends at the end stamp itself.
-const LATEST_OF_PROGRAM: u64 = 4_096;
+const LATEST_OF_PROGRAM: u64 = STAMP_0;
 
 /// A program, the history that it runs under, how many cycles after the end stamp the run ends at the latest, and the byte
 /// that data memory, A and T hold at power-on.

@@ -17,7 +17,7 @@ use joint_feed::Course;
 use joint_run::Joint;
 use key_file::History;
 use mcs48_core::Mcu;
-use mcs48_isa::{Image, decode};
+use mcs48_isa::{Image, PLACES, decode};
 use std::alloc::{AllocError, Global};
 use std::marker::Model;
 
@@ -58,8 +58,8 @@ fn is_end(starts: bool, cycle: u64, stop: u64, latest: u64) -> bool
 fn sticks(image: &Image, mcu: &Mcu) -> bool
     ensures { result ≡ sticks image.now.bytes mcu.now }
 {
-    let place = (mcu.pc % 2048) as usize;
-    let next = ((mcu.pc + 1) % 2048) as usize;
+    let place = usize::from(mcu.pc) % PLACES;
+    let next = (usize::from(mcu.pc) + 1) % PLACES;
     !mcu.takes_timer() && decode([image.bytes[place], image.bytes[next]]).is_none()
 }
 

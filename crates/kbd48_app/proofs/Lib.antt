@@ -6,6 +6,11 @@ pub mod FormlessWordsAreRefused
 pub mod ServedCallsSucceed
 pub mod AnswersEndCalls
 pub mod ExitsAreRight
+pub mod FilesAndFaults
+pub mod FilesReadFirst
+pub mod RunsAreRight
+pub mod BoardsAreRight
+pub mod CapturesAreRight
 pub mod PlansAreRight
 pub mod PlansTogether
 pub mod ExitsHaveCauses

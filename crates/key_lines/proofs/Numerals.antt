@@ -54,17 +54,23 @@ decimal-number = decimal_by_steps (λ n ds. number_after 10 decimal_digit 0 ds �
 pub digit_at : (n i : ℕ) → n < 2 ^ 64 → i < length (decimal n) → (48 ≤ slice_index (decimal n) i) × (slice_index (decimal n) i ≤ 57)
 digit_at n i h within = All-get_or (λ c. (48 ≤ c) × (c ≤ 57)) (decimal n) i 0 within (decimal-digits n h)
 
+-- a number of at most so many digits, written in decimal, is read back as that number
+pub decimal-back : (most n : ℕ) → 0 < most → n < 10 ^ most → n < 2 ^ 64 → decimal_of most (decimal n) ≡ Some n
+decimal-back most n digits below h =
+    let some = decimal_nonempty n h in
+    let short = length-decimal-le most n digits below h in
+    let at_least : nat_lt 0 (length (decimal n)) ≡ true = grind (arith, nat_tests, some) in
+    let at_most : nat_le (length (decimal n)) most ≡ true = grind (arith, nat_tests, short) in
+    rw (at_least, at_most) (decimal-number n h)
+
 -- a stamp below 10^9, written in decimal, is read back as that stamp
 pub stamp-back : (n : ℕ) → n < 1000000000 → stamp_of (decimal n) ≡ Some n
 stamp-back n h =
     let some = decimal_nonempty n (omega arith) in
-    let short = length-decimal-le 9 n (omega arith) (omega arith) (omega arith) in
     let last = digit_at n (length (decimal n) - 1) (omega arith) (omega arith) in
     let no_s : (slice_index (decimal n) (length (decimal n) - 1) == 115) ≡ false =
     ne_eqb (slice_index (decimal n) (length (decimal n) - 1)) 115 (λ e. omega (arith, last.1, e)) in
     let no_ms : has_ms (decimal n) ≡ false =
     and_right (nat_le 2 (length (decimal n)) && slice_index (decimal n) (length (decimal n) - 2) == 109)
     (slice_index (decimal n) (length (decimal n) - 1) == 115) no_s in
-    let at_least : nat_lt 0 (length (decimal n)) ≡ true = grind (arith, nat_tests, some) in
-    let at_most : nat_le (length (decimal n)) 9 ≡ true = grind (arith, nat_tests, short) in
-    cond-false (has_ms (decimal n)) _ (decimal_of 9 (decimal n)) no_ms ∙ rw (at_least, at_most) (decimal-number n (omega arith))
+    cond-false (has_ms (decimal n)) _ (decimal_of 9 (decimal n)) no_ms ∙ decimal-back 9 n (omega arith) (omega arith) (omega arith)

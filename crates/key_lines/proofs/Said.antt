@@ -8,7 +8,7 @@ use Rattle.first_fault.specs.FirstFault.{and_then}
 use Rattle.key_file.specs.Fields.{is_skipped, edge_of, act_of, event_in, said_by}
 use Rattle.board_terms.specs.declared.event.HostAct.TheVariants.{Take}
 use Rattle.key_lines.proofs.Numerals.{digit_at, stamp-back}
-use Rattle.key_lines.proofs.Parted.{IsWord, IsLine, word-by, decimal-word, fields-two, fields-three, line-word, line-more}
+use Rattle.key_lines.proofs.Parted.{IsWord, IsLine, text-by, decimal-word, fields-two, fields-three, line-word, line-more}
 
 -- a line of a stamp and a word, and one with a name
 abbrev pub word_text : ℕ → List ℕ → List ℕ
@@ -19,11 +19,11 @@ key_text stamp word name = word_text stamp word ++ 32 ∷ name
 
 -- a stamp and a word are a line
 pub word-line : (stamp : ℕ) (word : List ℕ) → stamp < 1000000000 → IsWord word → IsLine (word_text stamp word)
-word-line stamp word h k = line-more (decimal stamp) word (line-word (decimal stamp) (decimal-word stamp (omega arith))) k
+word-line stamp word h k = line-more (decimal stamp) word (line-word (decimal stamp) (decimal-word stamp (omega arith))) (line-word word k)
 
 -- a stamp, a word and a name are a line
 pub key-line : (stamp : ℕ) (word name : List ℕ) → stamp < 1000000000 → IsWord word → IsWord name → IsLine (key_text stamp word name)
-key-line stamp word name h k l = line-more (word_text stamp word) name (word-line stamp word h k) l
+key-line stamp word name h k l = line-more (word_text stamp word) name (word-line stamp word h k) (line-word name l)
 
 -- a line that begins with a stamp isn't skipped
 said : (layout : KeyLayout) (stamp : ℕ) (line : List ℕ) (more : List (List ℕ)) → stamp < 1000000000 → fields line ≡ decimal stamp ∷ more
@@ -53,16 +53,16 @@ pub press-said : (layout : KeyLayout) (stamp : ℕ) (name : List ℕ) → stamp 
     → said_by layout (fields (key_text stamp (codes "press") name))
     ≡ and_then (edge_of layout stamp true (name ∷ [])) (λ event. Ok (Some event))
 press-said layout stamp name h k =
-    key-said layout stamp (codes "press") name h (word-by (codes "press") refl) k ∙ rw (stamp-back stamp h) refl
+    key-said layout stamp (codes "press") name h (text-by 32 (codes "press") refl) k ∙ rw (stamp-back stamp h) refl
 
 -- a line `release` says that the key of its name goes up at the stamp
 pub release-said : (layout : KeyLayout) (stamp : ℕ) (name : List ℕ) → stamp < 1000000000 → IsWord name
     → said_by layout (fields (key_text stamp (codes "release") name))
     ≡ and_then (edge_of layout stamp false (name ∷ [])) (λ event. Ok (Some event))
 release-said layout stamp name h k =
-    key-said layout stamp (codes "release") name h (word-by (codes "release") refl) k ∙ rw (stamp-back stamp h) refl
+    key-said layout stamp (codes "release") name h (text-by 32 (codes "release") refl) k ∙ rw (stamp-back stamp h) refl
 
 -- a line `take` says that the host takes a word at the stamp
 pub take-said : (layout : KeyLayout) (stamp : ℕ) → stamp < 1000000000
     → said_by layout (fields (word_text stamp (codes "take"))) ≡ and_then (act_of stamp Take []) (λ event. Ok (Some event))
-take-said layout stamp h = word-said layout stamp (codes "take") h (word-by (codes "take") refl) ∙ rw (stamp-back stamp h) refl
+take-said layout stamp h = word-said layout stamp (codes "take") h (text-by 32 (codes "take") refl) ∙ rw (stamp-back stamp h) refl

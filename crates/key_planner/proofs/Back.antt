@@ -1,25 +1,19 @@
 -- A plan, read again, is the history of its strokes.
-use Rattle.std.proofs.Common.{◌≡◌, ◌≤◌, ◌<◌, ℕ, suc, ◌+◌, List, [], ◌∷◌, ◌++◌, length, Ok, codes, refl}
-use Rattle.std.proofs.Common.{ap, sym, subst, ◌∙◌, append_assoc, append-nil, arith, decimal}
-use Rattle.std.specs.Str.Lines.{lines}
+use Rattle.std.proofs.Common.{◌≡◌, ◌≤◌, ℕ, suc, ◌+◌, List, [], ◌∷◌, ◌++◌, length, Ok}
+use Rattle.std.proofs.Common.{sym, subst, append_assoc, arith}
 use Rattle.board_terms.specs.declared.event.Edge.{Edge}
 use Rattle.board_terms.specs.declared.event.HostEvent.{HostEvent}
-use Rattle.pc_tables.specs.Keys.{name_at}
-use Rattle.layout_reader.specs.declared.entry.Entry.{Entry}
 use Rattle.layout_reader.specs.Layouts.{KeyLayout, IsKeyLayout}
 use Rattle.key_file.specs.Accepted.{IsAccepted}
 use Rattle.key_file.specs.KeyFile.{history_of}
-use Rattle.law_typed_log.specs.Typing.{Stroke, Plain, Shifted, character, enters, base, shifted, is_shift_entry, stroke_start}
-use Rattle.law_typed_log.specs.Typing.{presses, releases, edges_of, take_of, edges_from, takes_from, planned}
+use Rattle.law_typed_log.specs.Typing.{Stroke, Plain, Shifted, character, enters, base, shifted, is_shift_entry, stroke_start, first_up, second_down}
+use Rattle.law_typed_log.specs.Typing.{second_up, word_taken, edges_of, take_of, edges_from, takes_from, planned}
 use Rattle.key_lines.specs.Lines.{press_line, release_line, take_line, end_line}
 use Rattle.key_planner.specs.Plan.{stroke_lines, lines_from, plan_of}
 use Rattle.law_typed_log.proofs.Struck.{IsStroke, AreStrokes}
-use Rattle.key_file.proofs.Following.{Follows, follows-edge, follows-host, follows-end, follows-earlier, follows-describes}
 use Rattle.key_file.proofs.ReadsDescribed.{reads-described}
-use Rattle.key_lines.proofs.Numerals.{stamp-back}
 use Rattle.key_lines.proofs.Owned.{IsOwn}
-use Rattle.key_lines.proofs.Parted.{name-word, word-by, first-line}
-use Rattle.key_lines.proofs.Said.{word_text, key_text, word-line, key-line, press-said, release-said, take-said, word-said}
+use Rattle.key_lines.proofs.Told.{Tells, end-tells, press-tells, release-tells, take-tells, tells-describes}
 use Rattle.key_planner.proofs.Owned.{owned}
 
 regroup : (a b c d : List ℕ) → ((a ++ b) ++ c) ++ d ≡ a ++ (b ++ (c ++ d))
@@ -39,84 +33,38 @@ AllOwn layout [] = Unit {0}
 AllOwn layout (stroke ∷ strokes) = AreOwn layout stroke × AllOwn layout strokes
 
 module _ (layout : KeyLayout) (end : ℕ) where
-  press-follows : (from stamp : ℕ) (key : Entry) (edges : List Edge) (host : List HostEvent) (rest : List ℕ)
-      → from ≤ stamp → stamp < 1000000000 → IsOwn layout key
-      → Follows layout end stamp edges host rest → Follows layout end from (presses key stamp ∷ edges) host (press_line stamp key ++ rest)
-  press-follows from stamp key edges host rest later short own more =
-      let name = name-word key.key own.key in
-      let line = key_text stamp (codes "press") (name_at key.key) in
-      follows-edge layout end line (press_line stamp key ++ rest) rest
-      (first-line line rest (key-line stamp (codes "press") (name_at key.key) short (word-by (codes "press") refl) name))
-      from (name_at key.key) (presses key stamp) edges host later (press-said layout stamp (name_at key.key) short name) own.place more
-
-  release-follows : (from stamp : ℕ) (key : Entry) (edges : List Edge) (host : List HostEvent) (rest : List ℕ)
-      → from ≤ stamp → stamp < 1000000000 → IsOwn layout key
-      → Follows layout end stamp edges host rest
-      → Follows layout end from (releases key stamp ∷ edges) host (release_line stamp key ++ rest)
-  release-follows from stamp key edges host rest later short own more =
-      let name = name-word key.key own.key in
-      let line = key_text stamp (codes "release") (name_at key.key) in
-      follows-edge layout end line (release_line stamp key ++ rest) rest
-      (first-line line rest (key-line stamp (codes "release") (name_at key.key) short (word-by (codes "release") refl) name))
-      from (name_at key.key) (releases key stamp) edges host later (release-said layout stamp (name_at key.key) short name) own.place more
-
-  take-follows : (from start : ℕ) (edges : List Edge) (host : List HostEvent) (rest : List ℕ)
-      → from ≤ start + 14336 → start + 14336 < 1000000000
-      → Follows layout end (start + 20480) edges host rest
-      → Follows layout end from edges (take_of start ∷ host) (take_line (start + 14336) ++ rest)
-  take-follows from start edges host rest later short more =
-      let line = word_text (start + 14336) (codes "take") in
-      follows-host layout end line (take_line (start + 14336) ++ rest) rest
-      (first-line line rest (word-line (start + 14336) (codes "take") short (word-by (codes "take") refl)))
-      from (take_of start) edges host later (take-said layout (start + 14336) short)
-      (follows-earlier layout end (start + 14336) (start + 20480) edges host rest (omega arith) more)
-
-  -- the end
-  end-follows : (from : ℕ) → from ≤ end → end < 1000000000 → Follows layout end from [] [] (end_line end)
-  end-follows from later short =
-      let line = word_text end (codes "end") in
-      let word = word-by (codes "end") refl in
-      follows-end layout end line (end_line end) []
-      (ap lines (sym (append-nil (end_line end))) ∙ first-line line [] (word-line end (codes "end") short word))
-      from (decimal end) later (stamp-back end short) (word-said layout end (codes "end") short word) refl
-
   -- a stroke, and what follows it
-  stroke-follows : (start : ℕ) (stroke : Stroke) (edges : List Edge) (host : List HostEvent) (rest : List ℕ)
-      → start ≤ 240000000 → AreOwn layout stroke
-      → Follows layout end (start + 20480) edges host rest
-      → Follows layout end start (edges_of start stroke ++ edges) (take_of start ∷ host) (stroke_lines start stroke ++ rest)
-  stroke-follows start (Plain key) edges host rest h own more =
-      subst (Follows layout end start (edges_of start (Plain key) ++ edges) (take_of start ∷ host))
-      (sym (regroup (press_line start key) (release_line (start + 10240) key) (take_line (start + 14336)) rest))
-      (press-follows start start key _ _ _ (omega arith) (omega arith) own
-      (release-follows start (start + 10240) key _ _ _ (omega arith) (omega arith) own
-      (take-follows (start + 10240) start edges host rest (omega arith) (omega arith) more)))
-  stroke-follows start (Shifted shift key) edges host rest h own more =
-      subst (Follows layout end start (edges_of start (Shifted shift key) ++ edges) (take_of start ∷ host))
-      (sym (regroup_five (press_line start shift) (press_line (start + 2048) key) (release_line (start + 8192) key)
-      (release_line (start + 10240) shift) (take_line (start + 14336)) rest))
-      (press-follows start start shift _ _ _ (omega arith) (omega arith) own.0
-      (press-follows start (start + 2048) key _ _ _ (omega arith) (omega arith) own.1
-      (release-follows (start + 2048) (start + 8192) key _ _ _ (omega arith) (omega arith) own.1
-      (release-follows (start + 8192) (start + 10240) shift _ _ _ (omega arith) (omega arith) own.0
-      (take-follows (start + 10240) start edges host rest (omega arith) (omega arith) more)))))
+  stroke-tells : (from start : ℕ) (stroke : Stroke) (edges : List Edge) (host : List HostEvent) (rest : List ℕ)
+      → from ≤ start → start ≤ 240000000 → AreOwn layout stroke
+      → Tells layout end (word_taken start) edges host rest
+      → Tells layout end from (edges_of start stroke ++ edges) (take_of start ∷ host) (stroke_lines start stroke ++ rest)
+  stroke-tells from start (Plain key) edges host rest later h own more =
+      subst (Tells layout end from (edges_of start (Plain key) ++ edges) (take_of start ∷ host))
+      (sym (regroup (press_line start key) (release_line (first_up start) key) (take_line (word_taken start)) rest))
+      (press-tells layout end from start key _ _ _ later (omega arith) own
+      (release-tells layout end start (first_up start) key _ _ _ (omega arith) (omega arith) own
+      (take-tells layout end (first_up start) (word_taken start) edges host rest (omega arith) (omega arith) more)))
+  stroke-tells from start (Shifted shift key) edges host rest later h own more =
+      subst (Tells layout end from (edges_of start (Shifted shift key) ++ edges) (take_of start ∷ host))
+      (sym (regroup_five (press_line start shift) (press_line (second_down start) key) (release_line (second_up start) key)
+      (release_line (first_up start) shift) (take_line (word_taken start)) rest))
+      (press-tells layout end from start shift _ _ _ later (omega arith) own.0
+      (press-tells layout end start (second_down start) key _ _ _ (omega arith) (omega arith) own.1
+      (release-tells layout end (second_down start) (second_up start) key _ _ _ (omega arith) (omega arith) own.1
+      (release-tells layout end (second_up start) (first_up start) shift _ _ _ (omega arith) (omega arith) own.0
+      (take-tells layout end (first_up start) (word_taken start) edges host rest (omega arith) (omega arith) more)))))
 
   -- strokes, to the end
-  pub strokes-follow : (number : ℕ) (strokes : List Stroke)
+  strokes-tell : (from number : ℕ) (strokes : List Stroke) → from ≤ stroke_start number
       → AllOwn layout strokes → end ≡ stroke_start (number + length strokes) → number + length strokes ≤ 10000
-      → Follows layout end (stroke_start number) (edges_from number strokes) (takes_from number strokes) (lines_from number strokes)
-  strokes-follow number [] own ends few =
+      → Tells layout end from (edges_from number strokes) (takes_from number strokes) (lines_from number strokes)
+  strokes-tell from number [] later own ends few =
       let last : end ≡ stroke_start number = omega arith in
-      subst (λ stamp. Follows layout end (stroke_start number) [] [] (end_line stamp)) last
-      (end-follows (stroke_start number) (omega arith) (omega arith))
-  strokes-follow number (stroke ∷ strokes) own ends few =
-      let next : stroke_start (suc number) ≡ stroke_start number + 20480 = omega arith in
-      stroke-follows (stroke_start number) stroke (edges_from (suc number) strokes) (takes_from (suc number) strokes)
-      (lines_from (suc number) strokes) (omega arith) own.0
-      (subst (λ stamp.
-      Follows layout end stamp (edges_from (suc number) strokes) (takes_from (suc number) strokes) (lines_from (suc number) strokes))
-      next
-      (strokes-follow (suc number) strokes own.1 (omega arith) (omega arith)))
+      subst (λ stamp. Tells layout end from [] [] (end_line stamp)) last (end-tells layout end from (omega arith) (omega arith))
+  strokes-tell from number (stroke ∷ strokes) later own ends few =
+      stroke-tells from (stroke_start number) stroke (edges_from (suc number) strokes) (takes_from (suc number) strokes)
+      (lines_from (suc number) strokes) later (omega arith) own.0
+      (strokes-tell (word_taken (stroke_start number)) (suc number) strokes (omega arith) own.1 (omega arith) (omega arith))
 
 -- the keys of a text's strokes are the layout's
 stroke-own : (layout : KeyLayout) (c : ℕ) (stroke : Stroke) → IsKeyLayout layout → IsStroke layout.entries c stroke → AreOwn layout stroke
@@ -139,5 +87,5 @@ pub plan-back : (layout : KeyLayout) (strokes : List Stroke) → AllOwn layout s
 unfolding plan_of planned
 plan-back layout strokes own few accepted =
     reads-described layout (plan_of strokes) (planned strokes) accepted
-    (follows-describes layout (planned strokes) (stroke_start 0) (plan_of strokes)
-    (strokes-follow layout (planned strokes).end 0 strokes own (omega arith) (omega arith)))
+    (tells-describes layout (planned strokes) (plan_of strokes)
+    (strokes-tell layout (planned strokes).end 0 0 strokes (omega arith) own (omega arith) (omega arith)))

@@ -5,19 +5,14 @@ ghost use Rattle.key_planner.specs.Kept.{meant};
 ghost use Rattle.key_planner.specs.Plan.{stroke_key_lines, stroke_lines};
 
 use crate::stroke::Stroke;
-use key_lines::{push_press, push_release, push_word};
+use board_terms::TICK_CYCLES;
+use key_lines::{HELD, TAKEN, push_press, push_release, push_word};
 use std::alloc::AllocError;
 
-/// From a press to its release.
-const HELD: u64 = 10_240;
-
 /// From the press of a shift key to that of the key under it, and to the release of that.
-const UNDER_SHIFT: u64 = 2_048;
+const UNDER_SHIFT: u64 = TICK_CYCLES;
 
-const RELEASED_UNDER_SHIFT: u64 = 8_192;
-
-/// From a stroke's first press to the take of its word.
-const TAKEN: u64 = 14_336;
+const RELEASED_UNDER_SHIFT: u64 = 4 * TICK_CYCLES;
 
 /// Appends the lines of a stroke's keys.
 fn push_keys(plan: &mut Vec<u8>, start: u64, stroke: &Stroke) -> Result<(), AllocError>

@@ -12,15 +12,10 @@ ghost use Rattle.key_planner.specs.Types.{Types};
 use crate::fault::PlanFault;
 use crate::keys::stroke_of;
 use crate::lines::push_stroke;
-use key_lines::push_word;
+use key_lines::{FIRST_STROKE, STROKE, push_word};
 use law_typed_log::{typed_histories, typed_logs};
 use layout_reader::Layout;
 use std::alloc::{AllocError, Global};
-
-/// The stamp at which the first stroke begins, and the cycles from one stroke to the next.
-const FIRST_STROKE: u64 = 162_816;
-
-const STROKE: u64 = 20_480;
 
 /// The stamp at which a stroke begins, by its number from 0.
 fn stroke_start(number: usize) -> u64

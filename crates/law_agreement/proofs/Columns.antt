@@ -30,6 +30,7 @@ use Rattle.model_link.specs.Debounce.{Switches, is_down_at, settles, turned_all,
 use Rattle.model_link.specs.TickEdges.{by_place, change_at, is_down, shown, shown_at}
 use Rattle.bits.specs.Bits.{bit}
 use Rattle.law_agreement.proofs.Model.{columns_in}
+use Rattle.fw_kernel.specs.declared.cells.TheConstants.{HELD, PENDING}
 
 -- the bus reads the rows of the keys that are down
 bus_is : (edges : List Edge) (events : List HostEvent) (p1 p2 c : ℕ) (s : Beside)
@@ -313,30 +314,31 @@ module _ (d : Board) (w : World d.State) (now : ℕ → Bool)
   seen = shown (is_down_at s.read) now
 
   module _ (settled : (shown_by ram).held ≡ s.settled) where
-    held_is : (c r : ℕ) → c < 12 → r < 8 → bit r (slice_index ram (32 + c)) ≡ is_down_at s.settled (8 * c + r)
+    held_is : (c r : ℕ) → c < 12 → r < 8 → bit r (slice_index ram (HELD + c)) ≡ is_down_at s.settled (8 * c + r)
     held_is c r lc lr =
-        bytes_read (λ i. slice_index ram (32 + i)) c r lc lr ∙ ap (λ h. is_down_at h (8 * c + r)) settled
+        bytes_read (λ i. slice_index ram (HELD + i)) c r lc lr ∙ ap (λ h. is_down_at h (8 * c + r)) settled
 
     differs : (c r : ℕ) → c < 12 → r < 8
         → bit r (differing_now d w c) ≡ differ (is_down_at s.settled (8 * c + r)) (now (8 * c + r))
     differs c r lc lr =
-        bit_differs r (slice_index ram (32 + c)) (column_read d w c)
+        bit_differs r (slice_index ram (HELD + c)) (column_read d w c)
         ∙ ap (λ b. differ b (bit r (column_read d w c))) (held_is c r lc lr)
         ∙ ap (λ b. differ (is_down_at s.settled (8 * c + r)) b) (now_is c r lc lr)
 
     by_edges : (b : Bool) → read_of b (cells_in ram) ≡ s.read → length s.read ≡ 96
-        → tick_edges (λ c. changed_by b (slice_index ram (96 + c)) (differing_now d w c)) (column_read d w)
+        → tick_edges (λ c. changed_by b (slice_index ram (PENDING + c)) (differing_now d w c)) (column_read d w)
         ≡ taken b seen s
     by_edges false read long =
         let same : s.settled ≡ s.read =
-        sym settled ∙ held_same (λ c. slice_index ram (32 + c)) (read_cell false (cells_in ram)) (λ c l. refl) ∙ read in
+        sym settled ∙ held_same (λ c. slice_index ram (HELD + c)) (read_cell false (cells_in ram)) (λ c l. refl)
+        ∙ read in
         bytes_shown (is_down_at s.settled) now (differing_now d w) (column_read d w) differs
         (λ c r lc lr e. now_is c r lc lr)
         ∙ ap (λ h. shown (is_down_at h) now) same
     by_edges true read long =
         bytes_shown (is_down_at s.settled)
         (λ p. settles (is_down_at s.settled p) (is_down_at s.read p) (is_down_at (turned_all seen s.read) p))
-        (λ c. bit_and (differing_now d w c) (slice_index ram (96 + c))) (column_read d w)
+        (λ c. bit_and (differing_now d w c) (slice_index ram (PENDING + c))) (column_read d w)
         (λ c r lc lr. both_is c r lc lr
         ∙ settle_differs (is_down_at s.settled (8 * c + r)) (pends c r) (now (8 * c + r))
         ∙ ap (λ v. differ (is_down_at s.settled (8 * c + r)) v) (settles_is c r lc lr))
@@ -345,20 +347,20 @@ module _ (d : Board) (w : World d.State) (now : ℕ → Bool)
         ∙ settles_is c r lc lr)
       where
         pends : ℕ → ℕ → Bool
-        pends c r = bit r (slice_index ram (96 + c))
+        pends c r = bit r (slice_index ram (PENDING + c))
 
         both_is : (c r : ℕ) → c < 12 → r < 8
-            → bit r (bit_and (differing_now d w c) (slice_index ram (96 + c)))
+            → bit r (bit_and (differing_now d w c) (slice_index ram (PENDING + c)))
             ≡ (differ (is_down_at s.settled (8 * c + r)) (now (8 * c + r)) && pends c r)
         both_is c r lc lr =
-            bit_both r (differing_now d w c) (slice_index ram (96 + c))
-            ∙ ap (λ b. b && bit r (slice_index ram (96 + c))) (differs c r lc lr)
+            bit_both r (differing_now d w c) (slice_index ram (PENDING + c))
+            ∙ ap (λ b. b && bit r (slice_index ram (PENDING + c))) (differs c r lc lr)
 
         read_is : (c r : ℕ) → c < 12 → r < 8
             → differ (is_down_at s.settled (8 * c + r)) (pends c r) ≡ is_down_at s.read (8 * c + r)
         read_is c r lc lr =
-            sym (bit_differs r (slice_index ram (32 + c)) (slice_index ram (96 + c))
-            ∙ ap (λ b. differ b (bit r (slice_index ram (96 + c)))) (held_is c r lc lr))
+            sym (bit_differs r (slice_index ram (HELD + c)) (slice_index ram (PENDING + c))
+            ∙ ap (λ b. differ b (bit r (slice_index ram (PENDING + c)))) (held_is c r lc lr))
             ∙ bytes_read (read_cell true (cells_in ram)) c r lc lr ∙ ap (λ h. is_down_at h (8 * c + r)) read
 
         settles_is : (c r : ℕ) → c < 12 → r < 8

@@ -25,7 +25,7 @@ use Rattle.law_capture_heard.proofs.Eleven.{IsEleven}
 use Rattle.law_capture_heard.proofs.FromRest.{fall_data, fall_time, high_by_latch, is_past, next_in, not_past, quiet_fall}
 use Rattle.law_capture_heard.proofs.Gathered.{fall_at, first_frame, gathered, last_edge, no_request}
 use Rattle.law_capture_heard.proofs.InCells.{keeps, latch_first}
-use Rattle.law_capture_heard.proofs.ATick.{IsATick}
+use Rattle.law_wires_heard.proofs.ATick.{IsATick}
 use Rattle.law_capture_heard.proofs.Next.{data_fallen, fallen, high_few, let_go_before, now_low, still_high}
 use Rattle.law_capture_heard.proofs.Phases.{B, Down, In, L, On, Up, dat, n, whole_frame}
 use Rattle.law_capture_heard.proofs.RightBytes.{right_byte, starts}

@@ -15,7 +15,9 @@ use Rattle.capture_vcd.specs.Reads.{after_sample, reads_from, reads_on}
 use Rattle.capture_vcd.specs.Tokens.{Token, field, tokens_from, tokens_in}
 use Rattle.capture_vcd.specs.Words.{is_end}
 use Rattle.run_wires.specs.Text.{change_text, comment, level_text, line, seen_text, sender, turns}
-use Rattle.law_capture_heard.proofs.Words.{IsLine, IsWord, byte-word, fields-more, fields-one, first-line, line-more, text-by, time-back, time-word, word-line}
+use Rattle.key_lines.proofs.Numerals.{decimal-back}
+use Rattle.key_lines.proofs.Parted.{IsLine, IsWord, fields-more, fields-one, first-line, line-more, line-word, text-by}
+use Rattle.law_capture_heard.proofs.Words.{byte-word, time-word}
 use Rattle.law_capture_heard.proofs.Header.{line_if}
 use Rattle.law_capture_heard.proofs.Reading.{Leads, State, Taken, body, clk, dat, in_body, level_leads, line_read, read_by, reads_at}
 
@@ -27,7 +29,7 @@ module _ (seen : Bool) (time cycle : ℕ) (now given : Lines) (later : time < 25
       let same : 25 * cycle * 100 ≡ 2500 * cycle = omega arith in
       let not_back : nat_lt (2500 * cycle) time ≡ false = grind (arith, nat_tests, later) in
       let not_same : (2500 * cycle == time) ≡ false = grind (arith, nat_tests, later) in
-      let number = time-back (25 * cycle) fits in
+      let number = decimal-back 14 (25 * cycle) (omega arith) fits (omega arith) in
       rw (number, same, not_back, not_same) refl
 
   time_read : (n : ℕ) (rest : List ℕ) → reads_at seen (in_body seen time now given) n (line (codes "#" ++ decimal (25 * cycle)) ++ rest)
@@ -35,7 +37,7 @@ module _ (seen : Bool) (time cycle : ℕ) (now given : Lines) (later : time < 25
   time_read n rest =
       let s = in_body seen time now given in
       let is = time-word (25 * cycle) (omega arith) in
-      ap (λ ls. reads_from clk (dat seen) s (tokens_from n ls)) (first-line (35 ∷ decimal (25 * cycle)) rest (word-line (35 ∷ decimal (25 * cycle)) is))
+      ap (λ ls. reads_from clk (dat seen) s (tokens_from n ls)) (first-line (35 ∷ decimal (25 * cycle)) rest (line-word (35 ∷ decimal (25 * cycle)) is))
       ∙ ap (λ ws. reads_from clk (dat seen) s (tokens_in n ws ++ tokens_from (n + 1) (lines rest))) (fields-one (35 ∷ decimal (25 * cycle)) is)
       ∙ ap (λ r. reads_on n r (λ after. reads_from clk (dat seen) after (tokens_from (n + 1) (lines rest)))) taken_time
 
@@ -154,9 +156,9 @@ module _ (seen : Bool) (time : ℕ) (now given : Lines) (byte : ℕ) where
 
   comment_is_line : (who : List ℕ) → IsWord who → IsLine (comment_line who)
   comment_is_line who is =
-      line-more (codes "$comment") (who ++ 32 ∷ (hex_byte byte ++ 32 ∷ codes "$end")) dollar_comment
-      (line-more who (hex_byte byte ++ 32 ∷ codes "$end") is
-      (line-more (hex_byte byte) (codes "$end") (byte-word byte) (word-line (codes "$end") dollar_end)))
+      line-more (codes "$comment") (who ++ 32 ∷ (hex_byte byte ++ 32 ∷ codes "$end")) (line-word (codes "$comment") dollar_comment)
+      (line-more who (hex_byte byte ++ 32 ∷ codes "$end") (line-word who is)
+      (line-more (hex_byte byte) (codes "$end") (line-word (hex_byte byte) (byte-word byte)) (line-word (codes "$end") dollar_end)))
 
   comment_fields : (who : List ℕ)
       → IsWord who → fields (comment_line who) ≡ codes "$comment" ∷ who ∷ hex_byte byte ∷ codes "$end" ∷ []

@@ -1,5 +1,5 @@
 -- A frame of eleven cells: who sends it, and what the wires show in it.
-use Rattle.std.proofs.Common.{◌≡◌, ◌≤◌, ◌<◌, inl, inr, ℕ, ◌+◌, ◌-◌, ◌*◌, List, [], ◌∷◌, Bool, true, false, refl, ap, sym, ◌∙◌, arith}
+use Rattle.std.proofs.Common.{◌≡◌, ◌≤◌, ◌<◌, ℕ, ◌+◌, ◌-◌, ◌*◌, List, [], ◌∷◌, Bool, true, false, refl, ap, sym, ◌∙◌, arith}
 use Rattle.std.specs.Prelude.{take, drop}
 use Rattle.law_agreement.specs.Wires.{GoesWith}
 use Rattle.board_terms.specs.declared.transfer.Transfer.{Transfer}
@@ -10,10 +10,11 @@ use Rattle.ctl_link.specs.declared.link.Link.TheVariants.{Free}
 use Rattle.ctl_wire.specs.Wires.{wires}
 use Rattle.law_fw_link.proofs.Wired.{IsReleased}
 use Rattle.law_fw_link.proofs.Wires.{look_within}
-use Rattle.law_fw_link.specs.Latch.{Frame, NoFrame, SentFrame, CutFrame, ReceivedFrame, IsLook, frame_bit}
+use Rattle.law_fw_link.specs.Latch.{Frame, NoFrame, SentFrame, CutFrame, ReceivedFrame, frame_bit}
 use Rattle.joint_run.specs.Joint.{Beside, latch_of}
 use Rattle.law_wires_heard.proofs.CellFalls.{eleven_of}
 use Rattle.law_wires_heard.proofs.Clock.{Fits, cells}
+use Rattle.law_wires_heard.proofs.HeardAtLastCell.{looks}
 use Rattle.law_wires_heard.proofs.Pulls.{link_of, lets}
 use Rattle.law_wires_heard.proofs.Received as received
 use Rattle.law_wires_heard.proofs.Sent as sent
@@ -39,14 +40,6 @@ module _ (events : List HostEvent) (x : ℕ) (start : Beside) (old v : ℕ) (was
     pub afterwards : by_host ≡ true → (o : ℕ) → 609 ≤ o → link_of (beside events x start old v was is frame fits idle o) ≡ Free
     pub low : by_host ≡ false → (o : ℕ) → 609 ≤ o → o ≤ 650 → lets (beside events x start old v was is frame fits idle o) ≡ false
 
-  looks : (byte : ℕ) (fits : Fits old v was is (SentFrame byte))
-      → ((look : ℕ) → IsLook look → lets (beside events x start old v was is (SentFrame byte) fits idle (260 + look)) ≡ true)
-      → (k : ℕ) → k < 10 → lets (beside events x start old v was is (SentFrame byte) fits idle (306 + 32 * k)) ≡ true
-  looks byte fits h k l =
-      let z : 306 + 32 * k ≡ 260 + (46 + 32 * k) = omega arith in
-      ap (λ o. lets (beside events x start old v was is (SentFrame byte) fits idle o)) z
-      ∙ h (46 + 32 * k) (inr (inr (k, l, inl refl)))
-
   -- so it is in each frame that goes with the controller
   pub eleven : (frame : Frame) (fits : Fits old v was is frame)
       → GoesWith (λ o. (beside events x start old v was is frame fits idle o).pc) frame → cells frame ≡ 11 → IsEleven frame fits
@@ -55,11 +48,11 @@ module _ (events : List HostEvent) (x : ℕ) (start : Beside) (old v : ℕ) (was
     by_host = false;
     asks = ap requests h.1;
     passes = record { from_host = false; byte = value (take 8 (drop 1 (eleven_of (frame_bit byte)))) };
-    ends = sent.ends events x start old v was is byte idle h.0 h.1 h.2 (looks byte fits h.3);
+    ends = sent.ends events x start old v was is byte idle h.0 h.1 h.2 (looks events x start old v was is idle byte fits h.3);
     sender = refl;
     rises = λ e. absurd cc;
     afterwards = λ e. absurd cc;
-    low = λ e. sent.steady events x start old v was is byte idle h.0 h.1 h.2 (looks byte fits h.3);
+    low = λ e. sent.steady events x start old v was is byte idle h.0 h.1 h.2 (looks events x start old v was is idle byte fits h.3);
   }
   eleven (CutFrame byte look) fits h all = absurd (let below : look ≤ 334 = look_within look fits in omega (arith, all, below))
   eleven ReceivedFrame fits h all = record {

@@ -9,7 +9,7 @@ use Rattle.law_wires_heard.specs.Hearing.{HearsAll}
 use Rattle.law_capture_heard.specs.Captured.{hearing_to}
 use Rattle.law_capture_heard.specs.Found.{FoundLaw, bytes_in}
 use Rattle.law_capture_heard.proofs.Falls.{IsLong, IsRightFall, found_so, found_with_end}
-use Rattle.law_capture_heard.proofs.ATick.{IsInTick}
+use Rattle.law_wires_heard.proofs.ATick.{IsInTick}
 use Rattle.law_capture_heard.proofs.InTicks.{in_tick, over_ticks, some_state}
 use Rattle.law_capture_heard.proofs.LowSince.{low_since}
 use Rattle.law_capture_heard.proofs.TickFound.{Rests, at_power_on, over_tick}

@@ -19,7 +19,7 @@ use Rattle.law_wires_heard.specs.Passing.{passed_at, passed_between}
 use Rattle.law_capture_heard.specs.Captured.{hearing_to}
 use Rattle.law_capture_heard.specs.Found.{bytes_at, bytes_by, bytes_in, found_as, let_go_to}
 use Rattle.law_capture_heard.proofs.Gathered.{fall_at, first_frame, gathered}
-use Rattle.law_capture_heard.proofs.ATick.{IsATick}
+use Rattle.law_wires_heard.proofs.ATick.{IsATick}
 use Rattle.law_capture_heard.proofs.Links.{data_is, requests, step_asks, step_idle}
 use Rattle.law_capture_heard.proofs.Next.{fallen, data_fallen, let_go_before, now_low, still_high, too_few_edges}
 use Rattle.law_capture_heard.proofs.Phases.{B, Down, High, In, L, Last, On, RestsLow, dat, n, whole_frame}

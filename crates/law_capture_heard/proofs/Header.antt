@@ -3,10 +3,10 @@ use Rattle.std.proofs.Common.{◌≡◌, ℕ, ◌+◌, Bool, true, false, List, 
 use Rattle.std.proofs.Common.{refl, ap, ◌∙◌, append_assoc}
 use Rattle.std.specs.Prelude.{if◌then◌else◌}
 use Rattle.text_lines.specs.Fields.{fields}
+use Rattle.key_lines.proofs.Parted.{IsLine, text-by}
 use Rattle.capture_vcd.specs.Levels.{at_start, both_high}
 use Rattle.capture_vcd.specs.Reads.{reads_of}
 use Rattle.run_wires.specs.Text.{header, if_seen, line}
-use Rattle.law_capture_heard.proofs.Words.{IsLine, text-by}
 use Rattle.law_capture_heard.proofs.Reading.{Leads, State, clk, dat, in_body, line_read, reads_at, with_clock, with_data, with_unit}
 
 -- a line more, if it is there

@@ -19,7 +19,7 @@ use Rattle.law_capture_heard.specs.Found.{let_go_to}
 use Rattle.law_capture_heard.proofs.Eleven.{IsEleven}
 use Rattle.law_capture_heard.proofs.FromRest.{high_by_latch, next_in}
 use Rattle.law_capture_heard.proofs.Gathered.{fall_at, first_frame, gathered, nothing_left, one_more_bit}
-use Rattle.law_capture_heard.proofs.ATick.{IsATick}
+use Rattle.law_wires_heard.proofs.ATick.{IsATick}
 use Rattle.law_capture_heard.proofs.Links.{requests}
 use Rattle.law_capture_heard.proofs.Next.{data_before, fell_before, let_go_before, risen, still_low}
 use Rattle.law_capture_heard.proofs.Phases.{B, Down, Gathers, High, In, L, Last, On, Up, dat, n, whole_frame}

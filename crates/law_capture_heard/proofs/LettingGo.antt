@@ -13,7 +13,7 @@ use Rattle.law_wires_heard.proofs.Pulls.{lets, link_of, shown_at}
 use Rattle.law_capture_heard.specs.Captured.{hearing_to}
 use Rattle.law_capture_heard.proofs.FromRest.{high_by_latch, next_in, not_past}
 use Rattle.law_capture_heard.proofs.Gathered.{first_frame}
-use Rattle.law_capture_heard.proofs.ATick.{IsATick, IsInTick}
+use Rattle.law_wires_heard.proofs.ATick.{IsATick, IsInTick}
 use Rattle.law_capture_heard.proofs.Links.{data_is, low_is_idle, requests, step_idle}
 use Rattle.law_capture_heard.proofs.LowSince.{IsLowSince, level_is, low_since}
 use Rattle.law_capture_heard.proofs.Next.{let_go_now, risen}

@@ -9,7 +9,6 @@ pub mod EachStep
 pub mod Timed
 pub mod LowSince
 pub mod Rises
-pub mod ATick
 pub mod InTicks
 pub mod Widths
 pub mod Endings

@@ -13,7 +13,7 @@ use Rattle.law_capture_heard.specs.Captured.{hearing_to}
 use Rattle.law_capture_heard.specs.Found.{let_go_to}
 use Rattle.law_capture_heard.proofs.Eleven.{IsEleven, eleven}
 use Rattle.law_capture_heard.proofs.Gathered.{fall_at, first_frame, gathered}
-use Rattle.law_capture_heard.proofs.ATick.{IsATick}
+use Rattle.law_wires_heard.proofs.ATick.{IsATick}
 use Rattle.law_capture_heard.proofs.Links.{requests}
 
 -- between frames, with the clock high: the listener has a request just if the controller requests to send

@@ -5,13 +5,13 @@ use Rattle.std.proofs.Common.{None, Some, Ok, Err, ap, ◌∙◌}
 use Rattle.std.specs.Str.Lines.{lines}
 use Rattle.board_terms.specs.declared.lines.Lines.{Lines}
 use Rattle.text_lines.specs.Fields.{fields}
+use Rattle.key_lines.proofs.Parted.{IsLine, first-line}
 use Rattle.capture_vcd.specs.Changes.{after_end, level_of, with_level}
 use Rattle.capture_vcd.specs.Levels.{at_start}
 use Rattle.capture_vcd.specs.Reads.{Reads, reads_from}
 use Rattle.capture_vcd.specs.Tokens.{Token, tokens_from, tokens_in}
 use Rattle.capture_vcd.specs.Units.{unit_of}
 use Rattle.run_wires.specs.Text.{line}
-use Rattle.law_capture_heard.proofs.Words.{IsLine, first-line}
 
 -- types that the reader keeps to itself: of a state, and of what a token leaves
 abbrev pub TypeOf : {A : Type 0} → A → Type 0

@@ -17,7 +17,7 @@ use Rattle.law_capture_heard.proofs.AfterCells.{goes_down_again, latch_falls, pu
 use Rattle.law_capture_heard.proofs.Falls.{IsRightFall}
 use Rattle.law_capture_heard.proofs.FromRest.{goes_down, low_by_pull, next_in, rest_falls, stays_high}
 use Rattle.law_capture_heard.proofs.InCells.{goes_up, is_over, not_tenth, stays_down}
-use Rattle.law_capture_heard.proofs.ATick.{IsATick, IsInTick}
+use Rattle.law_wires_heard.proofs.ATick.{IsATick, IsInTick}
 use Rattle.law_capture_heard.proofs.LettingGo.{lets_go}
 use Rattle.law_capture_heard.proofs.LowSince.{level_is}
 use Rattle.law_capture_heard.proofs.Phases.{Down, High, In, On, Phase, RestsHigh, RestsLow, Up, n}

@@ -18,7 +18,7 @@ use Rattle.law_wires_heard.proofs.Ticks.{eleven_at_most}
 use Rattle.law_wires_heard.specs.Hearing.{sample_in}
 use Rattle.law_capture_heard.specs.Captured.{hearing_to}
 use Rattle.law_capture_heard.specs.Pulses.{IsWide, PulsesLaw, width_at, width_in}
-use Rattle.law_capture_heard.proofs.ATick.{IsInTick}
+use Rattle.law_wires_heard.proofs.ATick.{IsInTick}
 use Rattle.law_capture_heard.proofs.InTicks.{in_tick, some_state}
 use Rattle.law_capture_heard.proofs.LowSince.{IsLowSince, low_since}
 use Rattle.law_capture_heard.proofs.Rises.{cell_is, pulls_since, rises_after}

@@ -75,7 +75,8 @@ module _ (d : Board) (bytes : List ℕ) (hk : HasKernel bytes) (small : All IsBy
         pressed = ap (λ (c : Cpu). (layers_by c.ram).pressed_in) cpu
             ∙ flags_same (down_at (λ c. now (LAYER + c))) (down_at (λ c. f (LAYER + c))) 96
             (λ i l. ap (λ v. bit (i % 8) v)
-            (h.layers (LAYER + i / 8) (omega arith) (let n : 80 ≤ LAYER + i / 8 = omega arith in grind (arith, nat_tests, n))));
+            (h.layers (LAYER + i / 8) (omega arith)
+            (let n : LAYER ≤ LAYER + i / 8 = omega arith in grind (arith, nat_tests, n))));
       }
 
   -- the reply to a reset goes, and in 98 cycles at most the keyboard is as after a reset, whatever state the cells

@@ -45,20 +45,20 @@ headed look f r4 r5 i =
 pub head_changes : (look f : ℕ → ℕ) (r4 r5 i : ℕ) → i < 12
     → headed look f r4 r5 (CHANGED + i) ≡ bit_xor (f (HELD + i)) (look i)
 head_changes look f r4 r5 i l =
-    let a : nat_lt (CHANGED + i) 44 ≡ false = grind (arith, nat_tests) in
-    let b : nat_le 48 (CHANGED + i) ≡ true = grind (arith, nat_tests) in
-    let b0 : nat_le 32 (CHANGED + i) ≡ true = grind (arith, nat_tests) in
-    let c : nat_lt (CHANGED + i) 60 ≡ true = grind (arith, nat_tests, l) in
+    let a : nat_lt (CHANGED + i) (HELD + 12) ≡ false = grind (arith, nat_tests) in
+    let b : nat_le CHANGED (CHANGED + i) ≡ true = grind (arith, nat_tests) in
+    let b0 : nat_le HELD (CHANGED + i) ≡ true = grind (arith, nat_tests) in
+    let c : nat_lt (CHANGED + i) (CHANGED + 12) ≡ true = grind (arith, nat_tests, l) in
     let u : CHANGED + i - 16 ≡ HELD + i = omega arith in
-    let v : CHANGED + i - 48 ≡ i = omega arith in
+    let v : CHANGED + i - CHANGED ≡ i = omega arith in
     rw (b0, a, b, c, u, v) refl
 
 -- after the head of a tick a column's held keys are those that were read
 pub head_helds : (look f : ℕ → ℕ) (r4 r5 i : ℕ) → i < 12 → headed look f r4 r5 (HELD + i) ≡ look i
 head_helds look f r4 r5 i l =
-    let a : nat_le 32 (HELD + i) ≡ true = grind (arith, nat_tests) in
-    let b : nat_lt (HELD + i) 44 ≡ true = grind (arith, nat_tests, l) in
-    let v : HELD + i - 32 ≡ i = omega arith in
+    let a : nat_le HELD (HELD + i) ≡ true = grind (arith, nat_tests) in
+    let b : nat_lt (HELD + i) (HELD + 12) ≡ true = grind (arith, nat_tests, l) in
+    let v : HELD + i - HELD ≡ i = omega arith in
     rw (a, b, v) refl
 
 mark_only : (c : ℕ) → c < 256 → (if c % 128 == 0 then bit 7 c else not (c == 0)) ≡ not (c == 0)

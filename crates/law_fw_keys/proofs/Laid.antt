@@ -23,9 +23,10 @@ laid_high f bytes i l =
 -- the cell of a column's layers has the column's byte
 pub laid_at : (f bytes : ℕ → ℕ) (c : ℕ) → c < 12 → laid f bytes (LAYER + c) ≡ bytes c
 laid_at f bytes c l =
-    let a : nat_lt (LAYER + c) 80 ≡ false = (let n : 80 ≤ LAYER + c = omega arith in grind (arith, nat_tests, n)) in
-    let b : nat_lt (LAYER + c) 92 ≡ true = (let n : LAYER + c < 92 = omega (arith, l) in grind (arith, nat_tests, n)) in
-    let e : LAYER + c - 80 ≡ c = omega arith in
+    let a : nat_lt (LAYER + c) LAYER ≡ false = (let n : LAYER ≤ LAYER + c = omega arith in grind (arith, nat_tests, n)) in
+    let b : nat_lt (LAYER + c) (LAYER + 12) ≡ true =
+    (let n : LAYER + c < LAYER + 12 = omega (arith, l) in grind (arith, nat_tests, n)) in
+    let e : LAYER + c - LAYER ≡ c = omega arith in
     rw (a, b, e) refl
 
 -- memory is a matter of the cells

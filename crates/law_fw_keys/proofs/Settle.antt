@@ -67,29 +67,29 @@ pub record Settled (debounce : Bool) (held : List Bool) (f : ℕ → ℕ) (ring 
 
 on_changes : (f : ℕ → ℕ) (i : ℕ) → i < 12 → settled_on f (CHANGED + i) ≡ bit_xor (fresh f i) (f (CHANGED + i))
 on_changes f i l =
-    let a : nat_lt (CHANGED + i) 44 ≡ false = grind (arith, nat_tests) in
-    let a0 : nat_le 32 (CHANGED + i) ≡ true = grind (arith, nat_tests) in
-    let b : nat_le 48 (CHANGED + i) ≡ true = grind (arith, nat_tests) in
-    let c : nat_lt (CHANGED + i) 60 ≡ true = grind (arith, nat_tests, l) in
-    let v : CHANGED + i - 48 ≡ i = omega arith in
+    let a : nat_lt (CHANGED + i) (HELD + 12) ≡ false = grind (arith, nat_tests) in
+    let a0 : nat_le HELD (CHANGED + i) ≡ true = grind (arith, nat_tests) in
+    let b : nat_le CHANGED (CHANGED + i) ≡ true = grind (arith, nat_tests) in
+    let c : nat_lt (CHANGED + i) (CHANGED + 12) ≡ true = grind (arith, nat_tests, l) in
+    let v : CHANGED + i - CHANGED ≡ i = omega arith in
     rw (a0, a, b, c, v) refl
 
 on_helds : (f : ℕ → ℕ) (i : ℕ) → i < 12 → settled_on f (HELD + i) ≡ bit_xor (f (HELD + i)) (fresh f i)
 on_helds f i l =
-    let a : nat_le 32 (HELD + i) ≡ true = grind (arith, nat_tests) in
-    let b : nat_lt (HELD + i) 44 ≡ true = grind (arith, nat_tests, l) in
-    let v : HELD + i - 32 ≡ i = omega arith in
+    let a : nat_le HELD (HELD + i) ≡ true = grind (arith, nat_tests) in
+    let b : nat_lt (HELD + i) (HELD + 12) ≡ true = grind (arith, nat_tests, l) in
+    let v : HELD + i - HELD ≡ i = omega arith in
     rw (a, b, v) refl
 
 on_pendings : (f : ℕ → ℕ) (i : ℕ) → i < 12 → settled_on f (PENDING + i) ≡ fresh f i
 on_pendings f i l =
-    let a : nat_lt (PENDING + i) 44 ≡ false = grind (arith, nat_tests) in
-    let a0 : nat_le 32 (PENDING + i) ≡ true = grind (arith, nat_tests) in
-    let b0 : nat_le 48 (PENDING + i) ≡ true = grind (arith, nat_tests) in
-    let b : nat_lt (PENDING + i) 60 ≡ false = grind (arith, nat_tests) in
-    let c0 : nat_le 96 (PENDING + i) ≡ true = grind (arith, nat_tests) in
-    let c : nat_lt (PENDING + i) 108 ≡ true = grind (arith, nat_tests, l) in
-    let v : PENDING + i - 96 ≡ i = omega arith in
+    let a : nat_lt (PENDING + i) (HELD + 12) ≡ false = grind (arith, nat_tests) in
+    let a0 : nat_le HELD (PENDING + i) ≡ true = grind (arith, nat_tests) in
+    let b0 : nat_le CHANGED (PENDING + i) ≡ true = grind (arith, nat_tests) in
+    let b : nat_lt (PENDING + i) (CHANGED + 12) ≡ false = grind (arith, nat_tests) in
+    let c0 : nat_le PENDING (PENDING + i) ≡ true = grind (arith, nat_tests) in
+    let c : nat_lt (PENDING + i) (PENDING + 12) ≡ true = grind (arith, nat_tests, l) in
+    let v : PENDING + i - PENDING ≡ i = omega arith in
     rw (a0, a, b0, b, c0, c, v) refl
 
 on_others : (f : ℕ → ℕ) (i : ℕ) → CHANGED + 12 ≤ i → i < PENDING → settled_on f i ≡ f i

@@ -22,7 +22,7 @@ use Rattle.law_fw_logic.proofs.Short.{has_rows}
 use Rattle.mcs48_ranges.specs.Sizes.{IsByte}
 use Rattle.joint_run.specs.Run.{Board}
 
-other_cell : (f : ℕ → ℕ) (v j i : ℕ) → 32 ≤ j → j < 60 → i ≡ j → put f R0 v j ≡ f i
+other_cell : (f : ℕ → ℕ) (v j i : ℕ) → HELD ≤ j → j < CHANGED + 12 → i ≡ j → put f R0 v j ≡ f i
 other_cell f v j i l u e = let n : j ≡ i = sym e in let b : (j == R0) ≡ false = grind (arith, nat_tests, l) in
     rw (b, e) refl
 

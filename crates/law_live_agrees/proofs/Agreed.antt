@@ -17,7 +17,6 @@ use Rattle.joint_feed.proofs.Going.{same_state}
 use Rattle.joint_feed.specs.Stories.{Story, state_at}
 use Rattle.joint_run.specs.Joint.{joint_board, joint_start_of, log_of}
 use Rattle.joint_run.specs.Run.{run_at}
-use Rattle.mcs48_core.specs.Cpu.{Cpu}
 use Rattle.law_live_agrees.proofs.Logs.{goes_between}
 use Rattle.law_live_agrees.specs.Law.{AnswersAreAlike, AnyUseIsLawful, FillsAreFine, LogsAgree, LogsAreShown, StatesAreAlike}
 use Rattle.law_live_agrees.specs.Law.{NeverStuck, WordsAreAlike, history_of}

@@ -13,7 +13,7 @@ use Rattle.law_live_agrees.specs.Law.{CallsAreAlike}
 use Rattle.live_board.proofs.Stepping.{here}
 use Rattle.live_board.proofs.Timed.{before, step_later}
 use Rattle.live_board.specs.Calls.{IsRefused, MayAct, place_of}
-use Rattle.live_board.specs.Pasts.{Past, acted, gone_on, state_of, story_of}
+use Rattle.live_board.specs.Pasts.{Past, acted, state_of, story_of}
 use Rattle.live_board.specs.States.{HasPast}
 use Rattle.live_board.specs.declared.parts.Parts.{Parts as Keyboard}
 use Rattle.live_board.specs.declared.refused.Refused.{Refused}

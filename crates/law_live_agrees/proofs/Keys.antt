@@ -60,23 +60,23 @@ pub keys_alike : KeysAreAlike
 keys_alike place down p a b c d (Ok x) (Ok y) s t h g = refl
 keys_alike place down p a b c d (Ok x) (Err R.Early) s t h g =
     absurd (let e = same_cycle p a b s t in let l = h.0 in let k = g.0 in omega (arith, e, l, k))
-keys_alike place down p a b c d (Ok x) (Err R.Over) s t h g = absurd g.0
+keys_alike place down p a b c d (Ok x) (Err R.LastCycle) s t h g = absurd g.0
 keys_alike place down p a b c d (Ok x) (Err R.Full) s t h g =
     absurd (let e = ap length (same_wait p a b s t) in let l = h.1 in let k = g.0.1 in omega (arith, e, l, k))
 keys_alike place down p a b c d (Ok x) (Err (R.Stuck q)) s t h g = absurd g.0
 keys_alike place down p a b c d (Err R.Early) (Ok y) s t h g =
     absurd (let e = same_cycle p a b s t in let l = g.0 in let k = h.0 in omega (arith, e, l, k))
-keys_alike place down p a b c d (Err R.Over) y s t h g = absurd h.0
+keys_alike place down p a b c d (Err R.LastCycle) y s t h g = absurd h.0
 keys_alike place down p a b c d (Err R.Full) (Ok y) s t h g =
     absurd (let e = ap length (same_wait p a b s t) in let l = g.1 in let k = h.0.1 in omega (arith, e, l, k))
 keys_alike place down p a b c d (Err (R.Stuck q)) y s t h g = absurd h.0
 keys_alike place down p a b c d (Err R.Early) (Err R.Early) s t h g = refl
-keys_alike place down p a b c d (Err R.Early) (Err R.Over) s t h g = absurd g.0
+keys_alike place down p a b c d (Err R.Early) (Err R.LastCycle) s t h g = absurd g.0
 keys_alike place down p a b c d (Err R.Early) (Err R.Full) s t h g =
     absurd (let e = same_cycle p a b s t in let l = g.0.0 in let k = h.0 in omega (arith, e, l, k))
 keys_alike place down p a b c d (Err R.Early) (Err (R.Stuck q)) s t h g = absurd g.0
 keys_alike place down p a b c d (Err R.Full) (Err R.Early) s t h g =
     absurd (let e = same_cycle p a b s t in let l = h.0.0 in let k = g.0 in omega (arith, e, l, k))
-keys_alike place down p a b c d (Err R.Full) (Err R.Over) s t h g = absurd g.0
+keys_alike place down p a b c d (Err R.Full) (Err R.LastCycle) s t h g = absurd g.0
 keys_alike place down p a b c d (Err R.Full) (Err R.Full) s t h g = refl
 keys_alike place down p a b c d (Err R.Full) (Err (R.Stuck q)) s t h g = absurd g.0

@@ -1,5 +1,5 @@
 -- What an opened keyboard has been through.
-use Rattle.std.proofs.Common.{◌≡◌, ◌≤◌, ◌<◌, ◌^◌, ℕ, zero, suc, ◌+◌, ◌-◌, true, false, List, [], ◌∷◌, Some, None}
+use Rattle.std.proofs.Common.{◌≡◌, ◌≤◌, ◌<◌, ℕ, zero, suc, ◌+◌, ◌-◌, true, false, List, [], Some, None}
 use Rattle.std.proofs.Common.{Ok, Err, refl, ap, sym, subst, ◌∙◌, inl, inr, arith}
 use Rattle.std.proofs.lemmas.List.Elements.{All-cons, All-nil}
 use Rattle.std.specs.declared.option.Option.{Option}
@@ -25,7 +25,7 @@ use Rattle.live_board.proofs.Meeting.{rise_is_met}
 use Rattle.live_board.proofs.Timed.{before, joined, step_timed}
 use Rattle.live_board.specs.Calls.{IsActed}
 use Rattle.live_board.specs.Pasts.{Past, acted, gone_on, state_of, story_of, untouched}
-use Rattle.live_board.specs.Ready.{IsOpened, IsReady}
+use Rattle.live_board.specs.Ready.{IsOpened}
 use Rattle.live_board.specs.Running.{EndsSo, HasRun, at_rise, is_met}
 use Rattle.live_board.specs.States.{HasPast}
 use Rattle.live_board.specs.declared.parts.Parts.{Parts as Keyboard}

@@ -32,7 +32,7 @@ module _ (events : List HostEvent) (x : ℕ) (start : Beside) (old v : ℕ) (was
         (beside events x start old v was is frame fits idle 608).pc
 
   -- the looks of the cells are among those at which the controller leaves the clock alone
-  looks : (byte : ℕ) (fits : Fits old v was is (SentFrame byte))
+  pub looks : (byte : ℕ) (fits : Fits old v was is (SentFrame byte))
       → ((look : ℕ) → IsLook look → lets (beside events x start old v was is (SentFrame byte) fits idle (260 + look)) ≡ true)
       → (k : ℕ) → k < 10 → lets (beside events x start old v was is (SentFrame byte) fits idle (306 + 32 * k)) ≡ true
   looks byte fits h k l =

@@ -17,5 +17,7 @@ pub mod Cut
 pub mod HeardAtLastCell
 pub mod InTick
 pub mod Chain
+pub mod ATick
+pub mod OverTicks
 pub mod Run
 pub mod Probing

@@ -19,7 +19,8 @@ use crate::names::{Names, value_named};
 use crate::operands::is_reserved;
 use crate::places::count_of;
 use crate::statement::Statement;
-use crate::values::part_value;
+use crate::values::{GREATEST, part_value};
+use mcs48_isa::PLACES;
 use text_lines::split_once;
 
 /// Whether a value means a number past this one.
@@ -38,8 +39,8 @@ fn is_too_large(names: &Names<'_>, argument: Argument<'_>) -> bool
 {
     match argument.role {
         Role::Byte => is_above(names, 255, argument.value),
-        Role::Address => is_above(names, 2047, argument.value),
-        Role::Target => matches!(argument.value, Value::Number(number) if number > 65_535),
+        Role::Address => is_above(names, PLACES as u32 - 1, argument.value),
+        Role::Target => matches!(argument.value, Value::Number(number) if number > GREATEST),
     }
 }
 
@@ -133,8 +134,8 @@ fn has_wrong_number(statement: Statement<'_>) -> bool
     ensures { result ≡ has_wrong_number (statement_seen statement.entry) }
 {
     match statement {
-        Statement::Origin(number) => number > 2048,
-        Statement::Equate(_, number) => number > 65_535,
+        Statement::Origin(number) => number > PLACES as u32,
+        Statement::Equate(_, number) => number > GREATEST,
         _ => false,
     }
 }
@@ -211,7 +212,7 @@ pub(crate) fn is_past_end(line: Line<'_>, start: u32) -> bool
     ensures { result ≡ is_past_end (record { start = start; line = line_seen line.entry }) }
 {
     let count = count_of(line.statement);
-    count > 0 && start as usize + count > 2048
+    count > 0 && start as usize + count > PLACES
 }
 
 /// Whether a line has a byte at a place that an earlier line has filled.

@@ -8,9 +8,7 @@ ghost use Rattle.mcs48_asm.specs.Places.{count_of, start_of};
 ghost use Rattle.mcs48_asm.specs.Kept.{statement_seen};
 
 use crate::statement::Statement;
-
-/// What stands for all places past 65,535.
-const MOST: usize = 65_536;
+use crate::values::GREATEST;
 
 /// How many commas a text has.
 fn commas_in(text: &[u8]) -> usize
@@ -55,5 +53,5 @@ pub(crate) fn start_of(place: u32, statement: Statement<'_>) -> u32
 pub(crate) fn place_after(start: u32, statement: Statement<'_>) -> u32
     ensures { result ≡ capped (start + count_of (statement_seen statement.entry)) }
 {
-    (start as usize + count_of(statement)).min(MOST) as u32
+    (start as usize + count_of(statement)).min(GREATEST as usize + 1) as u32
 }

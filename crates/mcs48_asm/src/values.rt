@@ -12,8 +12,8 @@ ghost use Rattle.mcs48_asm.specs.Kept.{kept_part, value_seen};
 use crate::argument::Value;
 use crate::words::{is_name, next_token, only_token};
 
-/// What stands for all numbers past 65,535.
-const MOST: u32 = 65_536;
+/// The greatest number of a source. The next one stands for all past it.
+pub(crate) const GREATEST: u32 = 65_535;
 
 /// The value of a digit, 0 to 9 or A to F; any other character is 16, which is no digit of a base.
 fn digit_value(character: u8) -> u32
@@ -49,7 +49,7 @@ fn written(base: u32, digits: &[u8]) -> u32
 {
     let mut number = 0;
     for digit in digits {
-        number = (number * base + digit_value(*digit)).min(MOST);
+        number = (number * base + digit_value(*digit)).min(GREATEST + 1);
     }
     number
 }

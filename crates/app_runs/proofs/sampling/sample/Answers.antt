@@ -2,11 +2,20 @@ use Rattle.std.proofs.Common.{◌≡◌, ap, ◌∙◌, subst}
 use Rattle.fw_compile.specs.Image.{image_of}
 use Rattle.io_edge.specs.Said.{IsBrokenOff, IsSaid}
 use Rattle.joint_feed.specs.Stories.{story}
+use Rattle.key_file.specs.Accepted.{IsAcceptedFor}
 use Rattle.layout_reader.specs.Layouts.{IsKeyLayout}
 use Rattle.std.specs.Prelude.{IfOk, OnErr, OnOk}
 use Rattle.app_runs.specs.Sampling.{sample_history, sample_layout, sample_story}
 use Rattle.app_runs.proofs.RunsAreSaid.{said_sample, sampled}
 use Rattle.app_runs.proofs.sampling.sample.Goals as goal
+
+pub new-requires-2-clause-accepted : goal.new-requires-2-clause-accepted
+new-requires-2-clause-accepted g c =
+    let own = sample_layout c.args.debounced in
+    let layout : c.in_ok-layout.layout ≡ own = subst (λ r. IfOk r (λ l. l ≡ own)) c.in_ok-layout.ensures c.sample_layout.ensures.layout in
+    let accepted : IsAcceptedFor own c.in_ok-history.history =
+    subst (λ r. IfOk r (IsAcceptedFor own)) c.in_ok-history.ensures (c.sample_history.ensures.accepted c.args.debounced) in
+    rw (layout, c.new.ensures) accepted
 
 pub returns-clause-says : goal.returns-clause-says
 returns-clause-says g c =
