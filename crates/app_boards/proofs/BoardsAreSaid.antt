@@ -5,7 +5,7 @@ use Rattle.std.specs.Prelude.{OnErr, OnOk}
 use Rattle.std.specs.declared.result.Result.{Result}
 use Rattle.run_program.proofs.Lines.{are_lines}
 use Rattle.run_program.specs.BoardOutcomes.{IsOutcome, Outcome}
-use Rattle.run_loop.specs.declared.ending.End.TheVariants.{Over, Stuck as BoardStuck}
+use Rattle.run_loop.specs.declared.ending.End.TheVariants.{Reached, Stuck as BoardStuck}
 use Rattle.run_probes.specs.Probes.{Watch}
 use Rattle.io_edge.proofs.Pieces.{AreLines, broken_before, lines_after, said_then_broken, said_then_said}
 use Rattle.io_edge.specs.Said.{IsBrokenOff, IsSaid, Shown}
@@ -73,7 +73,7 @@ module _ (wanted : BoardCommand) (s : Story) (probes left : List Watch) where
           (board_log wanted s run, reported _ same, λ later broken. reported_in_part _ x y later same said broken, said)
 
       -- it is over
-      pub over_after : (result : Result (Unit {0}) SinkFault) (x y z : Shown) → run.end ≡ Over → IsSaid x y (board_log wanted s run)
+      pub over_after : (result : Result (Unit {0}) SinkFault) (x y z : Shown) → run.end ≡ Reached → IsSaid x y (board_log wanted s run)
           → OnOk result (IsSaid y z (board_end wanted run)) → OnErr result (IsBrokenOff y z (board_end wanted run))
           → IsSpoken MayBoard (Ok (Said result)) x z
       over_after (Ok done) x y z end said whole part =

@@ -3,9 +3,8 @@ use Rattle.std.specs.Prelude.{◌⊎◌, ℕ, List, [], Ok, Err, if◌then◌els
 use Rattle.run_program.specs.Putting.{HaveLookedToBreak}
 use Rattle.run_program.specs.BoardOutcomes.{Outcome}
 use Rattle.run_program.specs.Texts.{log_text}
-use Rattle.run_program.specs.Tracing.{HaveTracedToBreak}
 use Rattle.run_loop.specs.declared.ending.End.{End}
-use Rattle.run_loop.specs.declared.ending.End.TheVariants.{Over, Stuck}
+use Rattle.run_loop.specs.declared.ending.End.TheVariants.{Reached, Stuck}
 use Rattle.run_probes.specs.Probes.{Watch}
 use Rattle.io_edge.specs.Said.{Shown}
 use Rattle.joint_feed.specs.Filled.{filled_story}
@@ -13,6 +12,8 @@ use Rattle.joint_feed.specs.Stories.{Story}
 use Rattle.key_file.specs.Histories.{KeyHistory}
 use Rattle.mcs48_core.specs.StateText.{state_text_of}
 use Rattle.run_loop.specs.Reports.{IsBrokenAfter}
+use Rattle.run_loop.specs.declared.ending.Ending.TheVariants.{Stamp}
+use Rattle.run_wires.specs.Ending.{HaveTracedToBreak}
 use Rattle.run_wires.specs.Trace.{trace_to}
 use Rattle.app_words.specs.declared.refusal.Refusal.TheVariants as refusals
 use Rattle.app_words.specs.declared.words.BoardCommand.{BoardCommand}
@@ -40,14 +41,14 @@ board_end (Trace seen) run = []
 
 -- the answer after it: of a run that is stuck, if it is
 abbrev pub board_said : BoardCommand → Outcome → End → Answer
-board_said wanted run Over = Ok (board_end wanted run)
+board_said wanted run Reached = Ok (board_end wanted run)
 board_said wanted run (Stuck place) = Err (refusals.Stuck place)
 
 -- the log, or the trace, is broken off, and each probe has looked at the states up to the one that the step which said
 -- the broken line led to; in a trace's header, at none
 abbrev pub HaveLookedToLine : BoardCommand → Story → Shown → Shown → List Watch → List Watch → Type 0
 HaveLookedToLine (Log steps) s before after probes left = HaveLookedToBreak s before after probes left
-HaveLookedToLine (Trace seen) s before after probes left = HaveTracedToBreak seen s before after probes left
+HaveLookedToLine (Trace seen) s before after probes left = HaveTracedToBreak seen Stamp s before after probes left
 
 -- each has looked at the state after each step; if a put failed, at those up to the broken line, or, after the log,
 -- at all of them

@@ -2,8 +2,6 @@
 //! controller sees it, said line by line as it arises.
 
 ghost use Rattle.std.specs.Prelude.{◌≡◌, ◌≤◌, Err, length, map, Ok};
-ghost use Rattle.key_file.specs.Accepted.{IsAccepted};
-ghost use Rattle.run_loop.specs.Gliding.{history_of};
 ghost use Rattle.app_answers.specs.Spoken.{IsSpoken};
 ghost use Rattle.app_boards.specs.BoardAnswers.{IsBoardSaid};
 ghost use Rattle.app_boards.specs.BoardOfText.{MaySayOfBoard};
@@ -17,28 +15,27 @@ use key_file::Feed;
 use layout_reader::Layout;
 use mcs48_isa::Image;
 use run_probes::Probe;
-use run_program::{End, ProgramRun};
+use run_program::{End, ReadyRun, run_to, trace_to};
 use std::alloc::Global;
 
 /// Makes a run on the board and puts its log as it arises, and then, if the run is over, the state at its end if
 /// that is wanted. It takes no memory.
 fn put_log<F: Feed, K: Sink>(
-    board: ProgramRun<F>,
+    board: ReadyRun<F>,
     steps: bool,
     out: &mut K,
     probes: &mut Vec<Box<dyn Probe>>,
 ) -> Spoken
-    requires accepted { IsAccepted (history_of board) }
     ensures says { let before = map (λ b. watch b) probes.old.items in
         let after = map (λ b. watch b) probes.new.items in
         IsSpoken (λ answer taking log. IsBoardSaid (BoardCommand.Log steps) board answer before
         (record { probes = after; taking = taking; log = log }))
         (Ok result) (K.shown out.old) (K.shown out.new) }
 {
-    match board.run_to(out, probes) {
+    match run_to(board, out, probes) {
         Err(fault) => Spoken::Said(Err(fault)),
         Ok(ended) => match ended.end() {
-            End::Over => Spoken::Said(put_end(
+            End::Reached => Spoken::Said(put_end(
                 out,
                 ended.mcu(),
                 ended.steps(),
@@ -53,22 +50,21 @@ fn put_log<F: Feed, K: Sink>(
 /// Makes a run on the board and puts its two wires as they change, and if `seen`, data as the controller sees it. It takes
 /// no memory.
 fn put_trace<F: Feed, K: Sink>(
-    board: ProgramRun<F>,
+    board: ReadyRun<F>,
     seen: bool,
     out: &mut K,
     probes: &mut Vec<Box<dyn Probe>>,
 ) -> Spoken
-    requires accepted { IsAccepted (history_of board) }
     ensures says { let before = map (λ b. watch b) probes.old.items in
         let after = map (λ b. watch b) probes.new.items in
         IsSpoken (λ answer taking log. IsBoardSaid (BoardCommand.Trace seen) board answer before
         (record { probes = after; taking = taking; log = log }))
         (Ok result) (K.shown out.old) (K.shown out.new) }
 {
-    match board.trace_to(seen, out, probes) {
+    match trace_to(board, seen, out, probes) {
         Err(fault) => Spoken::Said(Err(fault)),
         Ok(ended) => match ended.end() {
-            End::Over => Spoken::Said(Ok(())),
+            End::Reached => Spoken::Said(Ok(())),
             End::Stuck(stuck) => Spoken::Stuck(stuck),
         },
     }
@@ -76,12 +72,11 @@ fn put_trace<F: Feed, K: Sink>(
 
 /// Makes a run on the board and puts what is wanted of it as it arises. It takes no memory.
 fn put_board<F: Feed, K: Sink>(
-    board: ProgramRun<F>,
+    board: ReadyRun<F>,
     wanted: BoardCommand,
     out: &mut K,
     probes: &mut Vec<Box<dyn Probe>>,
 ) -> Spoken
-    requires accepted { IsAccepted (history_of board) }
     ensures says { let before = map (λ b. watch b) probes.old.items in
         let after = map (λ b. watch b) probes.new.items in
         IsSpoken (λ answer taking log. IsBoardSaid wanted board answer before
@@ -114,7 +109,7 @@ pub fn run_board<K: Sink>(
     ensures unread { result ≡ Err Refusal.Read → ⊥ }
 {
     let feed = events_in(text, layout)?;
-    match ProgramRun::new(alloc, image, wanted.fill, feed) {
+    match ReadyRun::of_program(alloc, image, wanted.fill, feed) {
         Err(_) => Err(Refusal::Memory),
         Ok(board) => Ok(put_board(board, wanted.prints_what, out, probes)),
     }

@@ -3,7 +3,7 @@ use Rattle.std.proofs.Common.{◌≡◌, ℕ, List, [], ◌∷◌, None, Some, O
 use Rattle.std.specs.declared.option.Option.{Option}
 use Rattle.run_program.proofs.EndOf.{end_found, end_of, outcome_of}
 use Rattle.run_loop.specs.declared.ending.End.{End}
-use Rattle.run_loop.specs.declared.ending.End.TheVariants.{Over, Stuck}
+use Rattle.run_loop.specs.declared.ending.End.TheVariants.{Reached, Stuck}
 use Rattle.hexfile.specs.Hex.{hex_of}
 use Rattle.io_edge.specs.Shelf.{Shelved}
 use Rattle.key_file.specs.Histories.{KeyHistory}
@@ -44,7 +44,7 @@ module _ (n : ℕ) (wanted : BoardRun) (plan : Plan) (shelf : Shelved) (bytes im
   board_cause : (end : Option End) → end_of (board_story wanted image history) ≡ end
       → Cause n (Some (Board wanted)) plan shelf OfBoard (board_exit end)
   board_cause None e = inl refl
-  board_cause (Some Over) e = inl refl
+  board_cause (Some Reached) e = inl refl
   board_cause (Some (Stuck place)) e =
       let run = outcome_of (board_story wanted image history) (Stuck place) e in
       let hex : In OfBoard kinds.Hex bytes = inr (inr (inl (refl, refl))) in

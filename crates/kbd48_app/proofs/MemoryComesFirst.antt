@@ -5,7 +5,7 @@ use Rattle.std.specs.Option.{option_map}
 use Rattle.std.specs.declared.option.Option.{Option}
 use Rattle.run_program.specs.BoardOutcomes.{Outcome}
 use Rattle.run_loop.specs.declared.ending.End.{End}
-use Rattle.run_loop.specs.declared.ending.End.TheVariants.{Over, Stuck}
+use Rattle.run_loop.specs.declared.ending.End.TheVariants.{Reached, Stuck}
 use Rattle.run_probes.specs.Probes.{Watch}
 use Rattle.io_edge.specs.Said.{Shown, TakesAll}
 use Rattle.io_edge.specs.Shelf.{Shelved, after_fetch}
@@ -83,7 +83,7 @@ sample_keeps count debounced shelf answer after probes left h is =
     elim h.0 [ inl memory ↦ (memory.1, h.2) | inr said ↦ absurd (no_refusal said.0 Memory (sym said.3 ∙ is)) ]
 
 not_memory : (wanted : BoardCommand) (run : Outcome) (end : End) → board_said wanted run end ≡ Err Memory → ⊥
-not_memory wanted run Over is = cc
+not_memory wanted run Reached is = cc
 not_memory wanted run (Stuck place) is = cc
 
 -- the run of a program on the board

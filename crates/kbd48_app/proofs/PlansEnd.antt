@@ -5,7 +5,7 @@ use Rattle.std.specs.declared.option.Option.{Option}
 use Rattle.run_program.proofs.EndOf.{end_found, end_of}
 use Rattle.run_program.specs.BoardOutcomes.{Outcome}
 use Rattle.run_loop.specs.declared.ending.End.{End}
-use Rattle.run_loop.specs.declared.ending.End.TheVariants.{Over, Stuck}
+use Rattle.run_loop.specs.declared.ending.End.TheVariants.{Reached, Stuck}
 use Rattle.run_probes.specs.Probes.{Watch}
 use Rattle.debugger.specs.Sessions.{Debuggee}
 use Rattle.io_edge.specs.Said.{Shown}
@@ -44,7 +44,7 @@ exit_by (Some fault) = exits.Input
 
 -- the exit of a run on the board, by its end
 abbrev pub board_exit : Option End → Exit
-board_exit (Some Over) = exits.Done
+board_exit (Some Reached) = exits.Done
 board_exit (Some (Stuck place)) = exits.Stuck
 board_exit None = exits.Done
 
@@ -59,7 +59,7 @@ capture_led None text answer log h = ap exit_said h.0
 capture_led (Some fault) text answer log h = ap exit_said h.0
 
 board_led : (wanted : BoardCommand) (run : Outcome) (end : End) → exit_said (board_said wanted run end) ≡ board_exit (Some end)
-board_led wanted run Over = refl
+board_led wanted run Reached = refl
 board_led wanted run (Stuck place) = refl
 
 -- the exit unless memory runs out, and there are so many probes

@@ -3,7 +3,7 @@ use Rattle.std.proofs.Common.{◌≡◌, ◌≤◌, ◌<◌, ℕ, zero, suc, ◌
 use Rattle.std.proofs.Common.{ltb, Some, refl, ap, sym, subst, ◌∙◌, arith}
 use Rattle.std.proofs.lemmas.Bool.Decides.{nat_tests}
 use Rattle.run_loop.specs.declared.ending.End.{End}
-use Rattle.run_loop.specs.declared.ending.End.TheVariants.{Over, Stuck}
+use Rattle.run_loop.specs.declared.ending.End.TheVariants.{Reached, Stuck}
 use Rattle.law_runs_agree.specs.Boards.{SaysRun}
 use Rattle.run_program.specs.BoardOutcomes.{IsOutcome, Outcome}
 use Rattle.run_loop.specs.declared.ending.Ending.TheVariants.{Stamp}
@@ -25,8 +25,8 @@ use Rattle.run_loop.proofs.Steps.{on_at, said_between, step_later}
 
 module _ (s : Story) (t : KeepsTimeFrom (joint_start_of s.held) s.bytes s.edges s.events) where
   -- it is never stuck
-  ends_over : (k : ℕ) (w : World Beside) (end : End) → EndsAt Stamp s k w end → end ≡ Over
-  ends_over k w Over h = refl
+  ends_over : (k : ℕ) (w : World Beside) (end : End) → EndsAt Stamp s k w end → end ≡ Reached
+  ends_over k w Reached h = refl
   ends_over k w (Stuck place) h =
       let on = t.goes_on (suc k) in
       let there : state_at s (suc k) ≡ Some on.0 = on.1 in

@@ -1,6 +1,6 @@
 -- What a run on the board says, against the run of a layout.
 use Rattle.std.specs.Prelude.{◌≡◌, ◌≤◌, ◌<◌, ℕ, ◌+◌, Bool, List, ◌++◌}
-use Rattle.run_loop.specs.declared.ending.End.TheVariants.{Over}
+use Rattle.run_loop.specs.declared.ending.End.TheVariants.{Reached}
 use Rattle.run_program.specs.BoardOutcomes.{IsOutcome, Outcome}
 use Rattle.fw_compile.specs.Image.{image_of}
 use Rattle.host_turn.specs.declared.stamped.Stamped.{Stamped}
@@ -17,7 +17,7 @@ use Rattle.run_wires.specs.Trace.{trace_to}
 -- was said before it ended, and the layout's run said the same, with the ticks in place of the cycles, and then what
 -- it said from there on; and its trace is the beginning of the trace of the layout's run
 pub record SaysRun (s : Story) (board : Outcome) (run : layout.Outcome) : Type 0 where
-  pub over : board.end ≡ Over
+  pub over : board.end ≡ Reached
   pub reaches : 4096 + s.stop ≤ board.cycles
   pub soon : board.cycles < 4096 + s.stop + 2
   pub steps : board.steps ≤ run.steps

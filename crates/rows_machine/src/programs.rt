@@ -9,7 +9,7 @@ use layout_reader::us84_layout;
 use mcs48_core::{ALL_HIGH, Mcu, reset};
 use mcs48_isa::Image;
 use run_probes::Probe;
-use run_program::{End, Ended, ProgramRun};
+use run_program::{End, Finished, ReadyRun, run_to};
 use std::alloc::{AllocError, Global};
 use std::process::Abort;
 use std::test::Fail;
@@ -32,13 +32,13 @@ fn ran(
     image: &Image,
     keys: &[u8],
     probes: &mut Vec<Box<dyn Probe>>,
-) -> Result<(MemSink, Ended), AllocError>
+) -> Result<(MemSink, Finished), AllocError>
     requires { length keys.now ≤ 4194304 }
 {
     let history = history_of(rt, alloc, keys)?;
-    let board = ProgramRun::new(alloc, image, 0, ListFeed::new(&history))?;
+    let board = ReadyRun::of_program(alloc, image, 0, ListFeed::new(&history))?;
     let mut out = MemSink::new(alloc, 65536, Vec::new(alloc))?;
-    match board.run_to(&mut out, probes) {
+    match run_to(board, &mut out, probes) {
         Ok(ended) => Ok((out, ended)),
         Err(_) => panic!(rt; "the sink failed"),
     }
@@ -77,7 +77,7 @@ fn run_alone(image: &Image) -> (Mcu, u64, End) {
             Err(place) => return (mcu, cycles, End::Stuck(place)),
         }
     }
-    (mcu, cycles, End::Over)
+    (mcu, cycles, End::Reached)
 }
 
 #[test]
@@ -95,7 +95,7 @@ fn a_program_that_leaves_port_2_runs_as_the_processor_alone(rt: HostRuntime) -> 
             "program {program}"
         );
         assert!(rt; are_alike(ended.mcu(), &mcu), "program {program}");
-        if end != End::Over {
+        if end != End::Reached {
             stuck = stuck.saturating_add(1);
         }
     }

@@ -17,7 +17,7 @@ use Rattle.joint_run.specs.declared.machine.Machine.{Machine}
 use Rattle.mcs48_core.specs.declared.stepping.Stuck.{Stuck}
 use Rattle.run_loop.specs.declared.ending.End.TheVariants as ends
 use Rattle.run_loop.specs.declared.ending.Halt.{Halt}
-use Rattle.run_loop.specs.Advance.{IsEnding}
+use Rattle.run_loop.specs.Finished.{IsFinished}
 use Rattle.run_loop.specs.Gliding.{IsGoing, IsHeldUp, IsSilent}
 use Rattle.run_loop.specs.Running.{GoesOnTo, is_over, place_of}
 
@@ -67,15 +67,21 @@ module _ (u : Halt) (s : Story) (first : List Watch) (old new : Course) (after :
   still_quiet = subst (λ (k : ℕ). IsSilent u.ending u.wires s old.joint.steps k) (sym steps_same) h.onward.quiet
 
   -- a run whose processor is stuck has ended there
-  pub stuck_end : IsEnding u.ending s new (ends.Stuck stuck)
+  pub stuck_end : IsFinished u.ending s (record { end = ends.Stuck stuck; joint = new.joint })
   stuck_end = record {
-    run_so_far = record { on = on_now; goes_on = subst (GoesOnTo u.ending s) (sym steps_same) going.run_so_far.goes_on };
-    ends = record {
-      before_end = ap (is_over u.ending s) same_world ∙ going.not_over;
-      no_row = stuck_where_none s on_now.world no_step;
-      none = none;
-      at = place_stuck last.ahead.due last.joint new.joint _ stuck h.step
-          ∙ ap (λ (b : List ℕ). place_of b last.joint.mcu) going.run_so_far.on.image
-          ∙ ap (place_of s.bytes) (going.run_so_far.on.in_run.mcu ∙ ap (λ (w : World Beside). w.cpu) (sym same_world));
+    after = record {
+      world = on_now.world;
+      goes_on = subst (GoesOnTo u.ending s) (sym steps_same) going.run_so_far.goes_on;
+      reached = there;
+      ends = record {
+        before_end = ap (is_over u.ending s) same_world ∙ going.not_over;
+        no_row = stuck_where_none s on_now.world no_step;
+        none = none;
+        at = place_stuck last.ahead.due last.joint new.joint _ stuck h.step
+            ∙ ap (λ (b : List ℕ). place_of b last.joint.mcu) going.run_so_far.on.image
+            ∙ ap (place_of s.bytes) (going.run_so_far.on.in_run.mcu ∙ ap (λ (w : World Beside). w.cpu) (sym same_world));
+      };
     };
+    processor = on_now.in_run.mcu;
+    cycles = on_now.in_run.cycle;
   }

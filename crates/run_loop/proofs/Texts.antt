@@ -6,7 +6,14 @@ use Rattle.std.specs.Prelude.{flat_map}
 use Rattle.std.proofs.lemmas.List.{append-nil, append_assoc}
 use Rattle.io_edge.proofs.Pieces.{AreLines, EndsLine, broken_before, lines_after, none_said, said_then_broken, said_then_said}
 use Rattle.io_edge.specs.Said.{IsBrokenOff, IsSaid, Shown}
+use Rattle.joint_feed.specs.Stories.{Story}
+use Rattle.run_loop.specs.declared.ending.End.{End}
+use Rattle.run_loop.specs.declared.ending.Ending.{Ending}
+use Rattle.run_loop.specs.Looking.{BrokeOff}
 use Rattle.run_loop.specs.Reports.{IsBrokenAfter}
+use Rattle.run_loop.specs.Running.{IsEndAfter}
+use Rattle.run_loop.proofs.Ended.{none_after}
+use Rattle.run_probes.specs.Probes.{Watch}
 
 -- a line for each of some things
 module _ {A : Type 0} (line : A → List ℕ) where
@@ -110,8 +117,7 @@ module _ (text added : ℕ → List ℕ) (most : ℕ) (more : (k : ℕ) → k < 
       let all = further m k (omega (arith, e)) in
       (all.0, ap text (sym e) ∙ all.1)
 
-  -- a put that fails in what a step adds breaks off the text of all steps
-  pub broken_in_all : ((k : ℕ) → AreLines (text k)) → (k : ℕ) → k < most → (before after : Shown)
+  broken_in_all : ((k : ℕ) → AreLines (text k)) → (k : ℕ) → k < most → (before after : Shown)
       → IsBrokenAfter before after (text k) (added k) → IsBrokenOff before after (text most)
   broken_in_all are_lines k l before after h =
       let part : IsBrokenOff before after (text (suc k)) =
@@ -120,3 +126,11 @@ module _ (text added : ℕ → List ℕ) (most : ℕ) (more : (k : ℕ) → k < 
       let rest = later (suc k) (omega (arith, l)) in
       subst (λ v. IsBrokenOff before after v) (sym rest.1)
       (broken_before before after (text (suc k)) rest.0 (are_lines (suc k)) part)
+
+-- if the report of a run broke off, the run's text is broken off
+pub broken_in_run : (e : Ending) (s : Story) (text added : ℕ → List ℕ) (n : ℕ) (end : End) → IsEndAfter e s n end
+    → ((k : ℕ) → k < n → text (suc k) ≡ text k ++ added k) → ((k : ℕ) → AreLines (text k)) → (x y : Shown) (before after : List Watch)
+    → BrokeOff e s (λ k. IsBrokenAfter x y (text k) (added k)) before after → IsBrokenOff x y (text n)
+broken_in_run e s text added n end ends more are_lines x y before after b =
+    let within = none_after e s n end ends (suc b.last) b.led_to b.goes_on b.made in
+    broken_in_all text added n more are_lines b.last (omega (arith, within)) x y b.broken_so

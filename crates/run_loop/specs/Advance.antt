@@ -4,10 +4,9 @@ use Rattle.joint_feed.specs.Stories.{Story, state_at}
 use Rattle.joint_feed.specs.declared.course.Course.{Course}
 use Rattle.joint_run.specs.Joint.{Beside}
 use Rattle.joint_run.specs.Run.{World}
-use Rattle.run_loop.specs.declared.ending.End.{End}
 use Rattle.run_loop.specs.declared.ending.Ending.{Ending}
 use Rattle.run_loop.specs.Gliding.{IsSilent, HasRunSoFar, IsTimely}
-use Rattle.run_loop.specs.Running.{AreIn, EndsAt, log_at}
+use Rattle.run_loop.specs.Running.{AreIn, log_at}
 
 -- the course is after a step that may have something to be reported, and of those before it, back to step k, there is
 -- nothing; what this one said is after the log, in later cycles than that of the state after step k
@@ -23,8 +22,3 @@ pub record IsAtReport (e : Ending) (wires : Bool) (s : Story) (k : ℕ) (c : Cou
   pub later : from.cycle < c.joint.cycle
   pub near : c.joint.cycle < 2 ^ 31
   pub items : AreIn from.cycle c.joint.cycle c.seen.items.items
-
--- the machine is at a state at which the run ends
-pub record IsEnding (e : Ending) (s : Story) (c : Course) (end : End) : Type 0 where
-  pub run_so_far : HasRunSoFar e s c
-  pub ends : EndsAt e s c.joint.steps run_so_far.on.world end

@@ -4,6 +4,7 @@ pub mod Answers
 pub mod Gliding
 pub mod Stretching
 pub mod Ready
+pub mod Finished
 pub mod Advance
 pub mod Reports
 pub mod Looking

@@ -10,7 +10,7 @@ use Rattle.joint_run.specs.Run.{World}
 use Rattle.mcs48_core.specs.Cpu.{Cpu}
 use Rattle.mcs48_core.specs.declared.stepping.Stuck.{Stuck as Place}
 use Rattle.run_loop.specs.declared.ending.End.{End}
-use Rattle.run_loop.specs.declared.ending.End.TheVariants.{Over, Stuck}
+use Rattle.run_loop.specs.declared.ending.End.TheVariants.{Reached, Stuck}
 use Rattle.run_loop.specs.declared.ending.Ending.{Ending}
 use Rattle.run_loop.specs.declared.ending.Ending.TheVariants.{TickStart, Stamp}
 pub use Rattle.run_loop.specs.Starts.{start_stamp, starts_among}
@@ -40,15 +40,19 @@ pub record IsStuckAt (e : Ending) (s : Story) (k : ℕ) (w : World Beside) (plac
 
 -- the run ends at the state after the first k steps
 abbrev pub EndsAt : Ending → Story → ℕ → World Beside → End → Type 0
-EndsAt e s k w Over = is_over e s w ≡ true
+EndsAt e s k w Reached = is_over e s w ≡ true
 EndsAt e s k w (Stuck place) = IsStuckAt e s k w place
 
--- the run is over after the first k steps, and goes on at each state before
-pub record IsOverAfter (e : Ending) (s : Story) (k : ℕ) : Type 0 where
+-- the run ends after the first k steps, and goes on at each state before
+pub record IsEndAfter (e : Ending) (s : Story) (k : ℕ) (end : End) : Type 0 where
   pub goes_on : GoesOnTo e s k
   pub world : World Beside
   pub reached : state_at s k ≡ Some world
-  pub over : is_over e s world ≡ true
+  pub ends : EndsAt e s k world end
+
+-- it is over there
+abbrev pub IsOverAfter : Ending → Story → ℕ → Type 0
+IsOverAfter e s k = IsEndAfter e s k Reached
 
 -- what was said up to the state after the first k steps; nothing if there is no such state
 abbrev pub logged : Option (World Beside) → List Stamped

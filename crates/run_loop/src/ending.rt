@@ -20,8 +20,8 @@ pub enum Ending {
 /// Why a run ended.
 #[derive(Clone, Copy, Debug, PartialEq, Eq, Drop)]
 pub enum End {
-    /// It was over, as its ending says.
-    Over,
+    /// What its ending says was reached.
+    Reached,
     /// The next step would execute a byte that begins no instruction: the program counter, and the byte there.
     Stuck(Stuck),
 }

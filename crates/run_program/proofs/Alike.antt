@@ -1,43 +1,30 @@
 -- What is run has one run on the board.
-use Rattle.std.proofs.Common.{◌≡◌, ◌<◌, ℕ, suc, false, List, Some, refl, ap, sym, subst, ◌∙◌, arith}
+use Rattle.std.proofs.Common.{◌≡◌, ℕ, List, refl, ap, sym, subst, ◌∙◌, arith}
 use Rattle.run_loop.specs.declared.ending.End.{End}
-use Rattle.run_loop.specs.declared.ending.End.TheVariants.{Over, Stuck}
+use Rattle.run_loop.specs.declared.ending.End.TheVariants.{Reached, Stuck}
 use Rattle.run_program.specs.BoardOutcomes.{IsOutcome, Outcome}
 use Rattle.run_loop.specs.declared.ending.Ending.TheVariants.{Stamp}
-use Rattle.run_loop.specs.Running.{EndsAt, GoesOnTo, is_over}
+use Rattle.run_loop.specs.Running.{EndsAt}
 use Rattle.host_turn.specs.declared.stamped.Stamped.{Stamped}
 use Rattle.joint_feed.proofs.Going.{same_state}
 use Rattle.joint_feed.specs.Stories.{Story, state_at}
 use Rattle.joint_run.specs.Joint.{Beside, log_of}
 use Rattle.joint_run.specs.Run.{World}
 use Rattle.mcs48_core.specs.Cpu.{Cpu}
-use Rattle.run_loop.proofs.Steps.{on_at, reached_by}
+use Rattle.run_loop.proofs.Ended.{none_after}
+use Rattle.run_program.proofs.Ends.{outcome_ends}
 
 module _ (s : Story) where
-  -- a run doesn't go on where it ends
-  ends_not_on : (k : ℕ) (w v : World Beside) (end : End)
-      → EndsAt Stamp s k w end → is_over Stamp s w ≡ false → state_at s (suc k) ≡ Some v → ⊥
-  ends_not_on k w v Over h on next = absurd (cc (h, on))
-  ends_not_on k w v (Stuck place) h on next = let none = h.none in absurd (cc (none, next))
-
-  -- no run ends before a state up to which it goes on
-  not_before : (a : Outcome) (m : ℕ) (v : World Beside) → IsOutcome s a → GoesOnTo Stamp s m → state_at s m ≡ Some v → a.steps < m → ⊥
-  not_before a m v p on there l =
-      let here = on_at s Stamp m a.steps on l in
-      let same : p.world ≡ here.0 = same_state (sym p.reached ∙ here.1) in
-      let after = reached_by s m a.steps v there l in
-      ends_not_on a.steps p.world after.0 a.end p.ends (ap (is_over Stamp s) same ∙ here.2) after.1
-
   same_steps : (a b : Outcome) → IsOutcome s a → IsOutcome s b → a.steps ≡ b.steps
   same_steps a b p q =
-      let first = not_before a b.steps q.world p q.goes_on q.reached in
-      let second = not_before b a.steps p.world q p.goes_on p.reached in
-      grind (arith, first, second)
+      let first = none_after Stamp s a.steps a.end (outcome_ends s a p) b.steps q.world q.goes_on q.reached in
+      let second = none_after Stamp s b.steps b.end (outcome_ends s b q) a.steps p.world p.goes_on p.reached in
+      omega (arith, first, second)
 
   same_end : (k : ℕ) (w : World Beside) (d e : End) → EndsAt Stamp s k w d → EndsAt Stamp s k w e → d ≡ e
-  same_end k w Over Over h g = refl
-  same_end k w Over (Stuck place) h g = let on = g.before_end in absurd (cc (h, on))
-  same_end k w (Stuck place) Over h g = let on = h.before_end in absurd (cc (g, on))
+  same_end k w Reached Reached h g = refl
+  same_end k w Reached (Stuck place) h g = let on = g.before_end in absurd (cc (h, on))
+  same_end k w (Stuck place) Reached h g = let on = h.before_end in absurd (cc (g, on))
   same_end k w (Stuck place) (Stuck other) h g = ap (λ p. Stuck p) (h.at ∙ sym g.at)
 
 same_parts : (a b : Outcome) → a.log ≡ b.log → a.end ≡ b.end → a.mcu ≡ b.mcu → a.steps ≡ b.steps → a.cycles ≡ b.cycles → a ≡ b

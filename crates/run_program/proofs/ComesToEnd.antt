@@ -6,7 +6,7 @@ use Rattle.joint_feed.specs.Stories.{Story, state_at}
 use Rattle.joint_run.specs.Joint.{Beside, joint_board, log_of}
 use Rattle.joint_run.specs.Run.{World, joint_step, step_on}
 use Rattle.run_loop.specs.declared.ending.End.{End}
-use Rattle.run_loop.specs.declared.ending.End.TheVariants.{Over, Stuck}
+use Rattle.run_loop.specs.declared.ending.End.TheVariants.{Reached, Stuck}
 use Rattle.run_loop.specs.declared.ending.Ending.TheVariants.{Stamp}
 use Rattle.run_loop.specs.Running.{EndsAt, GoesOnTo, IsStuckAt, is_over, place_of}
 use Rattle.run_loop.proofs.Steps.{step_later}
@@ -43,10 +43,10 @@ module _ (s : Story) where
       → EndsAfter k
   ends_within zero k w on there l =
       let over : is_over Stamp s w ≡ true = grind (arith, nat_tests, l) in
-      ends_here k w Over on there over
+      ends_here k w Reached on there over
   ends_within (suc most) k w on there l =
       elim (is_over Stamp s w) as (λ b. is_over Stamp s w ≡ b → EndsAfter k) [
-        | true ↦ λ over. ends_here k w Over on there over
+        | true ↦ λ over. ends_here k w Reached on there over
         | false ↦ λ before. elim (state_at s (suc k)) as (λ o. state_at s (suc k) ≡ o → EndsAfter k) [
           | None ↦ λ none. ends_here k w (Stuck (place_of s.bytes w.cpu)) on there (is_stuck k w there before none)
           | Some v ↦ λ next.

@@ -1,8 +1,7 @@
 pub mod Lines
 pub mod ComesToEnd
+pub mod Ends
 pub mod BrokenOff
 pub mod ReportedByStamp
-pub mod Traced
-pub mod Ends
 pub mod Alike
 pub mod EndOf

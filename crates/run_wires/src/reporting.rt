@@ -17,7 +17,7 @@ use run_probes::LineDecoder;
 /// Samples the wires, and puts what a sample adds. A sample of wires that are as they were adds nothing. `SEEN` says whether
 /// data is put as the controller sees it, too.
 #[derive(Drop)]
-pub struct Changes<const SEEN: bool> {
+pub(crate) struct Changes<const SEEN: bool> {
     pub decoder: LineDecoder,
 }
 

@@ -1,6 +1,6 @@
 //! The trace of a run.
 
-ghost use Rattle.std.specs.Prelude.{◌≡◌, Err, OnErr, OnOk};
+ghost use Rattle.std.specs.Prelude.{◌≡◌, map, Err, IfOk, OnErr, OnOk};
 ghost use Rattle.fw_compile.specs.Image.{image_of};
 ghost use Rattle.io_edge.specs.Said.{IsBrokenOff, IsSaid};
 ghost use Rattle.joint_feed.specs.Stories.{story};
@@ -8,21 +8,25 @@ ghost use Rattle.key_file.specs.Accepted.{IsAcceptedFor};
 ghost use Rattle.key_file.specs.Feeds.{Fed};
 ghost use Rattle.layout_reader.specs.Layouts.{IsKeyLayout, KeyLayout};
 ghost use Rattle.run_loop.specs.declared.ending.Ending.TheVariants.{TickStart};
-ghost use Rattle.run_loop.specs.Ready.{IsReady};
+ghost use Rattle.run_loop.specs.Finished.{IsFinished};
+ghost use Rattle.run_loop.specs.Gliding.{IsTimely};
+ghost use Rattle.run_loop.specs.Looking.{HaveLookedAtSome};
+ghost use Rattle.run_probes.specs.Looks.{looks};
 ghost use Rattle.run_wires.specs.declared.fault.TraceFault.TheVariants.{Memory, Write};
-ghost use Rattle.run_wires.specs.Ending.{IsTraceBrokenOff, IsTraceSaid};
+ghost use Rattle.run_wires.specs.Ending.{HaveTracedToBreak, IsTraceBrokenOff, IsTraceSaid};
 ghost use Rattle.run_wires.specs.Text.{header};
+ghost use Rattle.run_wires.specs.Trace.{trace_to};
 ghost use Rattle.law_wires_heard.specs.Hearing.{HearsAll};
 
 use crate::fault::TraceFault;
 use crate::reporting::Changes;
 use io_edge::{Sink, SinkFault, say};
-use joint_feed::Course;
 use key_file::Feed;
 use law_agreement::run_and_model_agree;
 use law_wires_heard::wires_are_heard;
 use layout_reader::Layout;
-use run_loop::{Ending, begin_run, make_run};
+use run_loop::{Ending, Finished, ReadyRun};
+use run_probes::Probe;
 use std::alloc::Global;
 
 /// What is before the first sample of the two wires.
@@ -35,7 +39,7 @@ const HEADER_WITH_SEEN: &[u8] =
 
 /// Puts what is before the first sample: the unit of time, the signals with their letters, and that all are high at time
 /// 0. They are the two wires, and if `seen`, data as the controller sees it.
-pub fn put_header<K: Sink>(out: &mut K, seen: bool) -> Result<(), SinkFault>
+fn put_header<K: Sink>(out: &mut K, seen: bool) -> Result<(), SinkFault>
     ensures said { OnOk result (IsSaid (K.shown out.old) (K.shown out.new) (header seen)) }
     ensures broken { OnErr result (IsBrokenOff (K.shown out.old) (K.shown out.new) (header seen)) }
 {
@@ -45,63 +49,59 @@ pub fn put_header<K: Sink>(out: &mut K, seen: bool) -> Result<(), SinkFault>
     say(out, HEADER)
 }
 
-/// Puts the text of a run that is at power-on; `SEEN` says whether it has data as the controller sees it. `SITE` is a number
-/// that no other place of the program gives.
-fn put_run<F: Feed, K: Sink, const SEEN: bool, const SITE: u8>(
-    alloc: Global,
-    course: &mut Course,
-    feed: &mut F,
+/// Makes a run, and puts its two wires as a value change dump, each line whole. The wires are sampled after each step, after
+/// the probes' look; each change has its time, in units of 100 ns, of which a cycle has 25; and a byte whose frame is whole,
+/// so that the decoder hears it, is a comment after the change that completes it. `SEEN` says whether each change has the
+/// level of data that the controller sees, too: the other one while the clock is low in a bit of the keyboard that noise
+/// turns. `SITE` is a number that no other place of the program gives.
+///
+/// On Ok the sink has taken the whole text, its count of faults is as it was, and the probes have looked at each state. A
+/// failure comes only if a put failed. A sink that shows what it took has a prefix of the text, and the probes have looked
+/// at the states up to the one whose sample adds the line; in the header, at none.
+#[inline(always)]
+pub fn put_trace<F: Feed, K: Sink, const SEEN: bool, const SITE: u8>(
+    run: ReadyRun<F>,
+    ending: Ending,
     out: &mut K,
-) -> Result<(), SinkFault>
-    requires ready { let run = story course.old.joint.image.bytes (F.feeds feed.old).history in
-        IsReady TickStart run (F.feeds feed.old) course.old }
-    ensures said { let run = story course.old.joint.image.bytes (F.feeds feed.old).history in
-        OnOk result (IsTraceSaid SEEN run (K.shown out.old) (K.shown out.new)) }
-    ensures broken { let run = story course.old.joint.image.bytes (F.feeds feed.old).history in
-        OnErr result (IsTraceBrokenOff SEEN run (K.shown out.old) (K.shown out.new)) }
+    probes: &mut Vec<Box<dyn Probe>>,
+) -> Result<Finished, SinkFault>
+    requires timely { IsTimely ending run }
+    ensures finished { IfOk result (λ made. IsFinished ending run made) }
+    ensures said { IfOk result (λ made. IsSaid (K.shown out.old) (K.shown out.new) (trace_to SEEN run made.joint.steps)) }
+    ensures looked { let before = map (λ b. watch b) probes.old.items in
+        IfOk result (λ made. map (λ b. watch b) probes.new.items ≡ looks run made.joint.steps before) }
+    ensures looked_so_far { HaveLookedAtSome ending run
+        (map (λ b. watch b) probes.old.items) (map (λ b. watch b) probes.new.items) }
+    ensures broken { OnErr result (HaveTracedToBreak SEEN ending run (K.shown out.old) (K.shown out.new)
+        (map (λ b. watch b) probes.old.items) (map (λ b. watch b) probes.new.items)) }
 {
-    let mut changes = Changes::<SEEN>::new();
-    let mut probes = Vec::new(alloc);
     put_header(out, SEEN)?;
-    let _end = make_run::<F, K, SinkFault, Changes<SEEN>, SITE>(
-        course,
-        feed,
-        0,
-        Ending::TickStart,
-        &mut changes,
-        out,
-        &mut probes,
-    )?;
-    Ok(())
+    let mut changes = Changes::<SEEN>::new();
+    run.make::<K, SinkFault, Changes<SEEN>, SITE>(ending, &mut changes, out, probes)
 }
 
-/// Puts the text of a run that is at power-on; if `seen`, with data as the controller sees it.
-fn put_trace<F: Feed, K: Sink>(
+/// Puts the trace of a run of a program that keeps its time, at which no probe looks; if `seen`, with data as the controller
+/// sees it.
+fn put_timely<F: Feed, K: Sink>(
     alloc: Global,
-    course: &mut Course,
-    feed: &mut F,
+    run: ReadyRun<F>,
     seen: bool,
     out: &mut K,
-) -> Result<(), SinkFault>
-    requires ready { let run = story course.old.joint.image.bytes (F.feeds feed.old).history in
-        IsReady TickStart run (F.feeds feed.old) course.old }
-    ensures said { let run = story course.old.joint.image.bytes (F.feeds feed.old).history in
-        OnOk result (IsTraceSaid seen run (K.shown out.old) (K.shown out.new)) }
-    ensures broken { let run = story course.old.joint.image.bytes (F.feeds feed.old).history in
-        OnErr result (IsTraceBrokenOff seen run (K.shown out.old) (K.shown out.new)) }
+) -> Result<Finished, SinkFault>
+    requires timely { IsTimely TickStart run }
+    ensures said { OnOk result (IsTraceSaid seen run (K.shown out.old) (K.shown out.new)) }
+    ensures broken { OnErr result (IsTraceBrokenOff seen run (K.shown out.old) (K.shown out.new)) }
 {
+    let mut probes = Vec::new(alloc);
     if seen {
-        return put_run::<F, K, true, 12>(alloc, course, feed, out);
+        return put_trace::<F, K, true, 12>(run, Ending::TickStart, out, &mut probes);
     }
-    put_run::<F, K, false, 11>(alloc, course, feed, out)
+    put_trace::<F, K, false, 11>(run, Ending::TickStart, out, &mut probes)
 }
 
-/// Puts the two wires of the run of a layout's compiled image, under the history of a feed of which nothing was taken and
-/// which is accepted for this layout, as a value change dump, each line whole. The wires are sampled after each step of
-/// the run, from power-on to the first tick start at or after the end stamp; each change has its time, in units of 100 ns,
-/// of which a cycle has 25; and a byte that passes over the wires is a comment after the change that completes it. If
-/// `seen`, each change has the level of data that the controller sees, too: the other one while the clock is low in a bit
-/// of the keyboard that noise turns.
+/// Puts the trace of the run of a layout's compiled image, under the history of a feed of which nothing was taken and which is
+/// accepted for this layout, from power-on to the first tick start at or after the end stamp; if `seen`, with data as the
+/// controller sees it.
 ///
 /// On Ok the whole text was said, and the sink's count of faults is as it was. Write comes only if that count rose: then
 /// the saying was broken off, and a sink that shows what it took has a prefix of the text. Memory comes only before
@@ -129,15 +129,11 @@ pub fn trace<F: Feed, K: Sink>(
 {
     run_and_model_agree();
     wires_are_heard();
-    let mut feed = feed;
-    match begin_run(alloc, layout, &mut feed) {
+    match ReadyRun::of_layout(alloc, layout, feed) {
         Err(_error) => Err(TraceFault::Memory),
-        Ok(course) => {
-            let mut course = course;
-            match put_trace(alloc, &mut course, &mut feed, seen, out) {
-                Err(_fault) => Err(TraceFault::Write),
-                Ok(()) => Ok(()),
-            }
-        }
+        Ok(run) => match put_timely(alloc, run, seen, out) {
+            Err(_fault) => Err(TraceFault::Write),
+            Ok(_run) => Ok(()),
+        },
     }
 }

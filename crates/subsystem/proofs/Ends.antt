@@ -41,7 +41,7 @@ module _ (s : Story) (t : KeepsTimeFrom (joint_start_of s.held) s.bytes s.edges 
   w = h.world
 
   over : (starts_tick s w ≡ true) × (4096 + s.stop ≤ w.cycle)
-  over = at_start (starts_tick s w) s.stop w.cycle h.over
+  over = at_start (starts_tick s w) s.stop w.cycle h.ends
 
   among : starts_among s (suc k) ≡ starts_among s k ++ (w.cycle - 4096) ∷ []
   among =

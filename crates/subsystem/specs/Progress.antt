@@ -3,8 +3,10 @@ use Rattle.std.specs.Prelude.{◌≡◌, ◌/◌, ℕ, ◌+◌, ◌-◌, List, [
 use Rattle.board_terms.specs.Cadence.{begun, listed}
 use Rattle.host_turn.specs.declared.stamped.Stamped.{Stamped}
 use Rattle.joint_feed.specs.Stories.{Story}
-use Rattle.key_file.specs.Feeds.{Fed}
 use Rattle.model_link.specs.declared.line.LogLine.{LogLine}
+use Rattle.mcs48_core.specs.Reset.{reset_cpu}
+use Rattle.run_loop.specs.declared.ending.Ending.TheVariants.{TickStart}
+use Rattle.run_loop.specs.Gliding.{IsTimely}
 use Rattle.run_loop.specs.Running.{log_at}
 use Rattle.run_loop.specs.Starts.{starts_among}
 use Rattle.subsystem.specs.declared.starts.Starts.{Starts}
@@ -25,7 +27,10 @@ lines_so_far s k = lines_to s (starts_among s k) k
 abbrev pub most_starts : ℕ → ℕ
 most_starts end = (end + 2047) / 2048 + 1
 
--- there is room for all starts of a run, and for no more
-pub record HasRoom (fed : Fed) (starts : Starts) : Type 0 where
+-- a run that hasn't begun, with cleared memory, of a program that keeps its time; there is room for all its starts, and for no
+-- more
+pub record IsPrepared (s : Story) (starts : Starts) : Type 0 where
+  pub cleared : s.held ≡ reset_cpu
+  pub timely : IsTimely TickStart s
   pub none : starts.stamps.items ≡ []
-  pub room : vec_capacity starts.stamps ≡ most_starts fed.history.end
+  pub room : vec_capacity starts.stamps ≡ most_starts s.stop

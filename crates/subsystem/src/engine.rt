@@ -26,11 +26,10 @@ use crate::reporting::Putting;
 use crate::starts::Starts;
 use board_terms::TICK_CYCLES;
 use io_edge::{Sink, SinkFault};
-use joint_feed::Course;
 use key_file::Feed;
 use law_agreement::run_and_model_agree;
 use layout_reader::Layout;
-use run_loop::{Ending, begin_run, make_run};
+use run_loop::{Ending, ReadyRun};
 use run_probes::Probe;
 use std::alloc::{AllocError, Global};
 use std::marker::Model;
@@ -39,43 +38,19 @@ use std::marker::Model;
 /// clause sees what is run.
 #[derive(Drop)]
 pub struct Engine<F: Feed> {
-    feed: F,
-    course: Course,
+    run: ReadyRun<F>,
     starts: Starts,
 }
 
 impl<F: Feed> Model for Engine<F> {
-    ghost use Rattle.joint_feed.specs.Stories.{Story, story};
-    ghost use Rattle.run_loop.specs.declared.ending.Ending.TheVariants.{TickStart};
-    ghost use Rattle.run_loop.specs.Ready.{IsReady};
-    ghost use Rattle.subsystem.specs.Progress.{HasRoom};
+    ghost use Rattle.joint_feed.specs.Stories.{Story};
+    ghost use Rattle.subsystem.specs.Progress.{IsPrepared};
 
     ghost Value = { Story };
 
-    ghost view = { λ e. story e.course.joint.image.bytes (F.feeds e.feed).history };
+    ghost view = { λ e. e.run };
 
-    ghost invariant = { λ e. IsReady TickStart (story e.course.joint.image.bytes (F.feeds e.feed).history) (F.feeds e.feed) e.course
-        × HasRoom (F.feeds e.feed) e.starts };
-}
-
-/// The outcome of a run that is over.
-fn ended_of(course: &Course, reported: Putting) -> Ended
-    ensures starts { result.starts ≡ reported.starts.stamps }
-    ensures end { result.end ≡ course.now.joint.mcu }
-    ensures steps { result.steps ≡ course.now.joint.steps }
-    ensures cycles { result.cycles ≡ course.now.joint.cycle }
-    ensures counts { result.counts ≡ reported.counts }
-{
-    let steps = course.joint.steps();
-    let cycles = course.joint.cycle();
-    let end = copied(course.joint.mcu());
-    Ended {
-        starts: reported.starts.stamps,
-        end,
-        steps,
-        cycles,
-        counts: reported.counts,
-    }
+    ghost invariant = { λ e. IsPrepared e.run e.starts };
 }
 
 impl<F: Feed> Engine<F> {
@@ -91,13 +66,11 @@ impl<F: Feed> Engine<F> {
         ensures accepted { IfOk result (λ engine. IsAccepted (history_of engine)) }
     {
         run_and_model_agree();
-        let mut feed = feed;
-        let course = begin_run(alloc, layout, &mut feed)?;
         let most = (feed.end() + TICK_CYCLES - 1) / TICK_CYCLES + 1;
+        let run = ReadyRun::of_layout(alloc, layout, feed)?;
         let stamps = Vec::with_capacity(alloc, most as usize)?;
         Ok(Engine {
-            feed,
-            course,
+            run,
             starts: Starts { stamps },
         })
     }
@@ -131,21 +104,19 @@ impl<F: Feed> Engine<F> {
             (K.shown out.new) (map (λ b. watch b) probes.old.items) (map (λ b. watch b) probes.new.items)) }
     {
         runs_are_expected();
-        let mut feed = self.feed;
-        let mut course = self.course;
         let mut putting = Putting {
             starts: self.starts,
             counts: Counts::none(),
         };
-        let _end = make_run::<F, K, SinkFault, Putting, 9>(
-            &mut course,
-            &mut feed,
-            0,
-            Ending::TickStart,
-            &mut putting,
-            out,
-            probes,
-        )?;
-        Ok(ended_of(&course, putting))
+        let made = self
+            .run
+            .make::<K, SinkFault, Putting, 9>(Ending::TickStart, &mut putting, out, probes)?;
+        Ok(Ended {
+            starts: putting.starts.stamps,
+            end: copied(made.mcu()),
+            steps: made.steps(),
+            cycles: made.cycles(),
+            counts: putting.counts,
+        })
     }
 }

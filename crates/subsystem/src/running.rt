@@ -16,34 +16,13 @@ use crate::law::runs_are_expected;
 use crate::outcome::{Run, copied};
 use crate::reporting::Keeping;
 use crate::starts::Starts;
-use joint_feed::Course;
 use key_file::{History, ListFeed};
 use law_agreement::run_and_model_agree;
 use layout_reader::Layout;
 use model_link::LogLine;
-use run_loop::{Ending, begin_run, make_run};
+use run_loop::{Ending, ReadyRun};
 use run_probes::Probe;
 use std::alloc::{AllocError, Global};
-
-/// The outcome of a run that is over.
-fn outcome_of(course: &Course, starts: Starts, log: Vec<LogLine>) -> Run
-    ensures log { result.log ≡ log }
-    ensures starts { result.starts ≡ starts.stamps }
-    ensures end { result.end ≡ course.now.joint.mcu }
-    ensures steps { result.steps ≡ course.now.joint.steps }
-    ensures cycles { result.cycles ≡ course.now.joint.cycle }
-{
-    let steps = course.joint.steps();
-    let cycles = course.joint.cycle();
-    let end = copied(course.joint.mcu());
-    Run {
-        log,
-        starts: starts.stamps,
-        end,
-        steps,
-        cycles,
-    }
-}
 
 /// The joint run of a layout's compiled image under a history that is accepted for it, from power-on to the first tick start
 /// at or after the end stamp, before the step that begins there. After each step each probe looks at the state that it led
@@ -77,21 +56,24 @@ pub fn run(
 {
     run_and_model_agree();
     runs_are_expected();
-    let mut feed = ListFeed::new(history);
-    let mut course = begin_run(alloc, layout, &mut feed)?;
+    let feed = ListFeed::new(history);
+    let ready = ReadyRun::of_layout(alloc, layout, feed)?;
     let mut log = Vec::new(alloc);
     let stamps = Vec::new(alloc);
     let mut keeping = Keeping {
         starts: Starts { stamps },
     };
-    let _end = make_run::<ListFeed, Vec<LogLine>, AllocError, Keeping, 4>(
-        &mut course,
-        &mut feed,
-        0,
+    let made = ready.make::<Vec<LogLine>, AllocError, Keeping, 4>(
         Ending::TickStart,
         &mut keeping,
         &mut log,
         probes,
     )?;
-    Ok(outcome_of(&course, keeping.starts, log))
+    Ok(Run {
+        log,
+        starts: keeping.starts.stamps,
+        end: copied(made.mcu()),
+        steps: made.steps(),
+        cycles: made.cycles(),
+    })
 }

@@ -9,15 +9,16 @@ ghost use Rattle.layout_reader.specs.Layouts.{IsKeyLayout};
 ghost use Rattle.subsystem.specs.Looking.{HaveLookedAtSome};
 ghost use Rattle.subsystem.specs.Starts.{AreStartsOf};
 
-use crate::running::run;
-use key_file::History;
+use crate::engine::Engine;
+use io_edge::DropSink;
+use key_file::{History, ListFeed};
 use layout_reader::Layout;
 use run_probes::Probe;
 use std::alloc::{AllocError, Global};
 
-/// The stamps of the tick starts in the run that `run` makes. After each step each probe looks at the state that it led
-/// to. Each start is at its multiple of 2,048 or at most five cycles past it. Only memory may run out: then the probes have
-/// looked at the states of some first steps.
+/// The stamps of the tick starts in the run that `run` makes, of which no log is kept. After each step each probe looks at
+/// the state that it led to. Each start is at its multiple of 2,048 or at most five cycles past it. Only memory may run out:
+/// then the probes have looked at the states of some first steps.
 pub fn tick_starts(
     alloc: Global,
     layout: &Layout,
@@ -32,6 +33,11 @@ pub fn tick_starts(
     ensures looked_so_far { let s = story (image_of layout.now) history.now in
         HaveLookedAtSome s (map (λ b. watch b) probes.old.items) (map (λ b. watch b) probes.new.items) }
 {
-    let made = run(alloc, layout, history, probes)?;
-    Ok(made.starts)
+    let feed = ListFeed::new(history);
+    let engine = Engine::new(alloc, layout, feed)?;
+    match engine.run_to(&mut DropSink::new(), probes) {
+        Ok(ended) => Ok(ended.starts),
+        // The sink never fails.
+        Err(_) => unreachable!(),
+    }
 }

@@ -23,8 +23,8 @@ returns g c =
           c.in-Stuck.stuck x y (sym c.end.ensures.end ∙ c.in-Stuck.is) c.in-Ok.ensures.said;
     }
 
-pub returns-in-Over : goal.returns-in-Over
-returns-in-Over g c =
+pub returns-in-Reached : goal.returns-in-Reached
+returns-in-Reached g c =
     let x = g.K.Sink.shown c.args.out.now in
     let y = g.K.Sink.shown c.run_to.new.out in
     let z = g.K.Sink.shown c.put_end.new.out in
@@ -33,7 +33,7 @@ returns-in-Over g c =
     c.mcu.ensures.processor c.steps.ensures.steps c.cycles.ensures.cycles in
     record {
       says = over_after (Log c.args.steps) c.args.board _ _ run c.in-Ok.ensures.run c.in-Ok.ensures.looked c.put_end.result
-          x y z (sym c.end.ensures.end ∙ c.in-Over.is) c.in-Ok.ensures.said
+          x y z (sym c.end.ensures.end ∙ c.in-Reached.is) c.in-Ok.ensures.said
           (subst (λ t. OnOk c.put_end.result (IsSaid y z t)) same c.put_end.ensures.said)
           (subst (λ t. OnErr c.put_end.result (IsBrokenOff y z t)) same c.put_end.ensures.broken);
     }

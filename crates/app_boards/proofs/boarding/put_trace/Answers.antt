@@ -21,12 +21,12 @@ returns g c =
           c.in-Stuck.stuck x y (sym c.end.ensures.end ∙ c.in-Stuck.is) c.in-Ok.ensures.said;
     }
 
-pub returns-in-Over : goal.returns-in-Over
-returns-in-Over g c =
+pub returns-in-Reached : goal.returns-in-Reached
+returns-in-Reached g c =
     let x = g.K.Sink.shown c.args.out.now in
     let y = g.K.Sink.shown c.trace_to.new.out in
     let run = ending c.args.board c.in-Ok.ended in
     record {
       says = over_after (Trace c.args.seen) c.args.board _ _ run c.in-Ok.ensures.run c.in-Ok.ensures.looked (Ok tt)
-          x y y (sym c.end.ensures.end ∙ c.in-Over.is) c.in-Ok.ensures.said (none_said y) tt;
+          x y y (sym c.end.ensures.end ∙ c.in-Reached.is) c.in-Ok.ensures.said (none_said y) tt;
     }

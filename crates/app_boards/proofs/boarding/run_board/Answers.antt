@@ -16,4 +16,4 @@ returns-in-Ok-clause-says g c =
     c.in_ok-feed.ensures.history c.in-Ok.board _ _ (Ok c.put_board.result)
     (g.K.Sink.shown c.args.out.now)
     (g.K.Sink.shown c.put_board.new.out)
-    c.in-Ok.ensures.board c.put_board.ensures.says
+    c.in-Ok.ensures.run c.put_board.ensures.says

@@ -1,47 +1,65 @@
-use Rattle.std.proofs.Common.{ap, subst, sym, ◌∙◌}
+use Rattle.std.proofs.Common.{◌≡◌, refl, ap, subst, sym, ◌∙◌}
 use Rattle.std.proofs.lemmas.List.{append-nil}
 use Rattle.fw_compile.specs.Image.{image_of}
-use Rattle.fw_ticks.specs.JointRun.{KeepsTime}
 use Rattle.joint_feed.specs.Stories.{Story, story}
-use Rattle.subsystem.specs.LayoutOutcomes.{IsOutcome, outcome}
-use Rattle.subsystem.proofs.Begun.{begins}
 use Rattle.run_loop.specs.declared.ending.Ending.TheVariants.{TickStart}
-use Rattle.run_loop.proofs.Looked.{looked_by, some_looked, some_looked_to_break}
-use Rattle.subsystem.proofs.Came.{came_kept}
+use Rattle.run_loop.specs.Gliding.{IsTimely}
+use Rattle.subsystem.specs.LayoutOutcomes.{IsOutcome, Outcome}
+use Rattle.subsystem.specs.Looking.{HaveLookedAtSome}
+use Rattle.subsystem.proofs.Begun.{begins}
+use Rattle.subsystem.proofs.Came.{by_name, came_kept, looked_by_name}
 use Rattle.subsystem.proofs.Timekeeping.{serves_at_end}
 use Rattle.key_file.proofs.Lawful.{lawful_for}
+use Rattle.subsystem.proofs.running.run.Given as given
 use Rattle.subsystem.proofs.running.run.Goals as goal
+use Rattle.subsystem.proofs.running.run.Goals.{In_ok-ready}
 
-pub begin_run-requires-clause-timely : goal.begin_run-requires-clause-timely
-begin_run-requires-clause-timely g c = λ sound.
-    subst (λ f. KeepsTime (image_of c.args.layout.now) f.history.edges f.history.host) (sym c.new-feed.ensures)
-    (c.run_and_model_agree.ensures.agreement c.args.layout.now c.args.history.now sound (lawful_for c.requires)).0
+-- what is run, by the layout and the history
+is_story : (g : given.Over) (c : In_ok-ready g) → c.in_ok-ready.ready ≡ story (image_of c.args.layout.now) c.args.history.now
+is_story g c = c.in_ok-ready.ensures.run ∙ ap (λ f. story (image_of c.args.layout.now) f.history) c.new-feed.ensures
 
-pub make_run-requires-clause-reported : goal.make_run-requires-clause-reported
-make_run-requires-clause-reported g c =
-    let s = story c.in_ok-course.course.joint.image.bytes c.begin_run.new.feed.history in (
-      begins s c.in_ok-course.ensures.ready.timely (record { stamps = c.new-stamps.result }) c.new-stamps.ensures.items,
-      sym (append-nil c.new-log.result.items),
-    )
+timely : (g : given.Over) (c : In_ok-ready g) → IsTimely TickStart c.in_ok-ready.ready
+timely g c =
+    subst (λ (s : Story). IsTimely TickStart s) (sym (is_story g c))
+    (c.run_and_model_agree.ensures.agreement c.args.layout.now c.args.history.now c.of_layout.ensures.layout (lawful_for c.requires)).0
+
+pub make-requires : goal.make-requires
+make-requires g c =
+    let it = (goal.at.make-requires g c).In_ok-ready in
+    record {
+      timely = timely g it;
+      reported = (
+        begins c.in_ok-ready.ready (timely g it) (record { stamps = c.new-stamps.result }) c.new-stamps.ensures.items,
+        sym (append-nil c.new-log.result.items),
+      );
+    }
 
 pub returns : goal.returns
 returns g c =
-    let begun = c.in_ok-course.ensures in
-    let e = c.outcome_of.ensures in
-    let r = c.in_ok-_end.ensures in
-    let run = outcome c.outcome_of.result in
-    let s = story c.in_ok-course.course.joint.image.bytes c.begin_run.new.feed.history in
-    let to = begun.run ∙ ap (λ f. story (image_of c.args.layout.now) f.history) c.new-feed.ensures in
-    let came =
-    came_kept s begun.ready.timely c.make_run.new.course c.in_ok-_end._end r.ended c.make_run.new.reporter.starts
-    c.new-log.result.items c.make_run.new.out.items c.new-log.ensures.items
-    r.reported run (ap (λ v. v.items) e.log) (ap (λ v. v.items) e.starts) e.end e.steps e.cycles in
-    let ran = subst (λ (t : Story). IsOutcome t run) to came in
-    let expected =
-    c.runs_are_expected.ensures.expected c.args.layout.now c.args.history.now run c.begin_run.ensures.layout (lawful_for c.requires) ran in
-    let serving = serves_at_end s begun.ready.timely run came in
+    let ready = (goal.at.returns g c).In_ok-ready in
+    let r = c.in_ok-made.ensures in
+    let it = c.make.new.reporter.starts in
+    let run : Outcome =
     record {
-      layout = c.begin_run.ensures.layout;
+      log = c.make.new.out.items;
+      starts = it.stamps.items;
+      end = c.copied.result;
+      steps = c.steps.result;
+      cycles = c.cycles.result;
+    } in
+    let steps = c.steps.ensures.steps in
+    let s = c.in_ok-ready.ready in
+    let t = story (image_of c.args.layout.now) c.args.history.now in
+    let to = is_story g ready in
+    let came =
+    came_kept s (timely g ready) c.in_ok-made.made r.finished it c.new-log.result.items c.make.new.out.items c.new-log.ensures.items
+    r.reported run refl refl (c.copied.ensures.copy ∙ c.mcu.ensures.processor) steps c.cycles.ensures.cycles in
+    let ran = subst (λ (v : Story). IsOutcome v run) to came in
+    let expected =
+    c.runs_are_expected.ensures.expected c.args.layout.now c.args.history.now run c.of_layout.ensures.layout (lawful_for c.requires) ran in
+    let serving = serves_at_end s (timely g ready) run came in
+    record {
+      layout = c.of_layout.ensures.layout;
       run = ran;
       agrees = expected.log;
       quiet = expected.quiet;
@@ -49,11 +67,11 @@ returns g c =
       few = expected.few c.requires.accepted;
       serves = serving.0;
       bank = serving.1;
-      looked = looked_by _ _ to _ _ c.make_run.new.course.joint.steps run.steps e.steps r.looked;
-      looked_so_far = some_looked _ _ to _ _ TickStart c.make_run.new.course.joint.steps r.ended.run_so_far.goes_on r.looked;
+      looked = looked_by_name s t to _ _ _ run.steps steps r.looked;
+      looked_so_far = by_name HaveLookedAtSome s t to _ _ r.looked_so_far;
     }
 
-pub returns-in_err-_end-clause-looked_so_far : goal.returns-in_err-_end-clause-looked_so_far
-returns-in_err-_end-clause-looked_so_far g c =
-    let to = c.in_ok-course.ensures.run ∙ ap (λ f. story (image_of c.args.layout.now) f.history) c.new-feed.ensures in
-    some_looked_to_break _ _ to _ _ TickStart _ c.in_err-_end.ensures.broken
+pub returns-in_err-made-clause-looked_so_far : goal.returns-in_err-made-clause-looked_so_far
+returns-in_err-made-clause-looked_so_far g c =
+    by_name HaveLookedAtSome c.in_ok-ready.ready (story (image_of c.args.layout.now) c.args.history.now)
+    (is_story g (goal.at.returns-in_err-made-clause-looked_so_far g c).In_ok-ready) _ _ c.in_err-made.ensures.looked_so_far

@@ -1,31 +1,30 @@
-use Rattle.std.proofs.Common.{ap, sym, subst, ◌∙◌, arith}
+use Rattle.std.proofs.Common.{◌≡◌, refl, ap, sym, subst, ◌∙◌, arith}
+use Rattle.fw_compile.specs.Image.{image_of}
 use Rattle.io_edge.proofs.Pieces.{none_said}
 use Rattle.io_edge.proofs.Taken.{on_err}
-use Rattle.joint_feed.specs.Stories.{Story, story}
-use Rattle.key_file.specs.Accepted.{IsAcceptedFor}
-use Rattle.run_loop.specs.declared.ending.Ending.TheVariants.{TickStart}
+use Rattle.joint_feed.specs.Stories.{Story, story, story_from}
+use Rattle.mcs48_core.specs.Cpu.{Cpu}
 use Rattle.run_loop.specs.Gliding.{history_of}
-use Rattle.run_loop.proofs.Looked.{broke_by, looked_by, some_looked, some_looked_to_break}
-use Rattle.subsystem.specs.Agreement.{IsAsExpected}
+use Rattle.subsystem.specs.declared.ended.Ended.{Ended}
 use Rattle.subsystem.specs.Ending.{ending}
-use Rattle.subsystem.specs.Putting.{IsLogBrokenAt, IsLogBrokenOff}
+use Rattle.subsystem.specs.Looking.{HaveLookedAtSome}
+use Rattle.subsystem.specs.Putting.{HaveLookedToBreak, IsLogBrokenOff}
 use Rattle.subsystem.specs.LayoutOutcomes.{IsOutcome}
 use Rattle.subsystem.proofs.Begun.{begins}
-use Rattle.subsystem.proofs.Came.{HasCome, broken_whole, came}
+use Rattle.subsystem.proofs.Came.{HasCome, broken_whole, by_name, came, looked_by_name}
 use Rattle.subsystem.proofs.Timekeeping.{keeps_cadence}
 use Rattle.key_file.proofs.Lawful.{lawful_for}
 use Rattle.subsystem.proofs.engine.Engine.run_to.Goals as goal
 
-pub make_run-requires : goal.make_run-requires
-make_run-requires g c =
-    let room = c.self.invariant.1 in
-    let s = story c.self.inside.course.joint.image.bytes (g.F.Feed.feeds c.self.inside.feed).history in
+pub make-requires : goal.make-requires
+make-requires g c =
+    let i = c.self.invariant in
     record {
-      ready = c.self.invariant.0;
+      timely = i.timely;
       reported = (
         record {
-          noted = begins s c.self.invariant.0.timely c.self.inside.starts room.none;
-          room = let exact = room.room in omega (arith, exact);
+          noted = begins c.self.inside.run i.timely c.self.inside.starts i.none;
+          room = let exact = i.room in omega (arith, exact);
           counts = c.none.ensures;
           short = omega arith;
         },
@@ -35,49 +34,50 @@ make_run-requires g c =
 
 pub returns : goal.returns
 returns g c =
-    let h = (g.F.Feed.feeds c.self.inside.feed).history in
-    let s = story c.self.inside.course.joint.image.bytes h in
-    let time = c.self.invariant.0.timely in
+    let s = c.self.inside.run in
+    let t = c.args.self in
+    let time = c.self.invariant.timely in
     let x = g.K.Sink.shown c.args.out.now in
-    let y = g.K.Sink.shown c.make_run.new.out in
-    let r = c.in_ok-_end.ensures in
-    let e = c.ended_of.ensures in
-    let ended = c.ended_of.result in
+    let y = g.K.Sink.shown c.make.new.out in
+    let r = c.in_ok-made.ensures in
+    let it = c.make.new.reporter in
+    let ended : Ended =
+    record { starts = it.starts.stamps; end = c.copied.result; steps = c.steps.result; cycles = c.cycles.result; counts = it.counts } in
+    let steps = c.steps.ensures.steps in
     let here =
-    came s time c.make_run.new.course c.in_ok-_end._end r.ended c.make_run.new.reporter x y r.reported
-    ended e.starts e.end e.steps e.cycles e.counts in
-    let there = subst (λ (t : Story). HasCome t ended x y) c.self.view_is here in
+    came s time c.in_ok-made.made r.finished it x y r.reported ended refl (c.copied.ensures.copy ∙ c.mcu.ensures.processor) steps
+    c.cycles.ensures.cycles refl in
+    let there = subst (λ (v : Story). HasCome v ended x y) c.self.view_is here in
     record {
       run = there.run;
       said = there.said;
       counts = there.counts;
       agrees = λ layout sound accepted bytes.
-          let image = ap (λ (t : Story). t.bytes) c.self.view_is ∙ bytes in
-          subst (λ (t : Story). IsAsExpected layout (history_of t) (ending t ended)) c.self.view_is
-          (c.runs_are_expected.ensures.expected layout h (ending s ended) sound
-          (lawful_for (subst (λ (t : Story). IsAcceptedFor layout (history_of t)) (sym c.self.view_is) accepted))
-          (subst (λ b. IsOutcome (story b h) (ending s ended)) image here.run));
+          let cleared = sym (ap (λ (v : Story). v.held) c.self.view_is) ∙ c.self.invariant.cleared in
+          let same : t ≡ story (image_of layout) (history_of t) =
+          ap (λ (held : Cpu). story_from held t.bytes (history_of t)) cleared ∙ ap (λ b. story b (history_of t)) bytes in
+          c.runs_are_expected.ensures.expected layout (history_of t) (ending t ended) sound (lawful_for accepted)
+          (subst (λ (v : Story). IsOutcome v (ending t ended)) same there.run);
       cadence = keeps_cadence s time (ending s ended) here.run;
       broken = tt;
-      looked = looked_by _ _ c.self.view_is _ _ c.make_run.new.course.joint.steps ended.steps e.steps r.looked;
-      looked_so_far =
-          some_looked _ _ c.self.view_is _ _ TickStart c.make_run.new.course.joint.steps r.ended.run_so_far.goes_on r.looked;
+      looked = looked_by_name s t c.self.view_is _ _ _ ended.steps steps r.looked;
+      looked_so_far = by_name HaveLookedAtSome s t c.self.view_is _ _ r.looked_so_far;
       looked_to_break = tt;
     }
 
-pub returns-in_err-_end-clause-broken : goal.returns-in_err-_end-clause-broken
-returns-in_err-_end-clause-broken g c =
-    let s = story c.self.inside.course.joint.image.bytes (g.F.Feed.feeds c.self.inside.feed).history in
+pub returns-in_err-made-clause-broken : goal.returns-in_err-made-clause-broken
+returns-in_err-made-clause-broken g c =
     let x = g.K.Sink.shown c.args.out.now in
-    let y = g.K.Sink.shown c.make_run.new.out in
-    on_err c.from_residual.result _ (subst (λ (t : Story). IsLogBrokenOff t x y) c.self.view_is
-    (broken_whole s c.self.invariant.0.timely x y _ _ c.in_err-_end.ensures.broken))
+    let y = g.K.Sink.shown c.make.new.out in
+    on_err c.from_residual.result _ (subst (λ (v : Story). IsLogBrokenOff v x y) c.self.view_is
+    (broken_whole c.self.inside.run c.self.invariant.timely x y _ _ c.in_err-made.ensures.broken))
 
-pub returns-in_err-_end-clause-looked_so_far : goal.returns-in_err-_end-clause-looked_so_far
-returns-in_err-_end-clause-looked_so_far g c = some_looked_to_break _ _ c.self.view_is _ _ TickStart _ c.in_err-_end.ensures.broken
+pub returns-in_err-made-clause-looked_so_far : goal.returns-in_err-made-clause-looked_so_far
+returns-in_err-made-clause-looked_so_far g c =
+    by_name HaveLookedAtSome c.self.inside.run c.args.self c.self.view_is _ _ c.in_err-made.ensures.looked_so_far
 
-pub returns-in_err-_end-clause-looked_to_break : goal.returns-in_err-_end-clause-looked_to_break
-returns-in_err-_end-clause-looked_to_break g c =
-    let x = g.K.Sink.shown c.args.out.now in
-    let y = g.K.Sink.shown c.make_run.new.out in
-    on_err c.from_residual.result _ (broke_by _ _ c.self.view_is _ _ TickStart (λ s. IsLogBrokenAt s x y) c.in_err-_end.ensures.broken)
+pub returns-in_err-made-clause-looked_to_break : goal.returns-in_err-made-clause-looked_to_break
+returns-in_err-made-clause-looked_to_break g c =
+    on_err c.from_residual.result _
+    (by_name (λ v. HaveLookedToBreak v (g.K.Sink.shown c.args.out.now) (g.K.Sink.shown c.make.new.out)) c.self.inside.run c.args.self
+    c.self.view_is _ _ c.in_err-made.ensures.broken)

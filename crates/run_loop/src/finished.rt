@@ -1,21 +1,20 @@
-//! The outcome of a run on the board.
+//! A run at its end.
 
 ghost use Rattle.std.specs.Prelude.{◌≡◌};
 
+use crate::ending::End;
 use joint_run::Joint;
 use mcs48_core::Mcu;
-use run_loop::End;
 
-/// A run on the board from power-on to its end, whose log was put into a sink line by line.
+/// A run that was made from power-on to its end: why it ended, and the machine there.
 #[derive(Drop)]
-pub struct Ended {
+pub struct Finished {
     pub end: End,
     pub joint: Joint,
 }
 
-impl Ended {
-    /// Why it ended: the next step would begin at or after the end stamp, or would execute a byte that begins no
-    /// instruction.
+impl Finished {
+    /// Why it ended: its ending was reached, or the next step would execute a byte that begins no instruction.
     pub fn end(&self) -> End
         ensures end { result ≡ self.now.end }
     {
