@@ -2,6 +2,8 @@
 //! controller sees it, said line by line as it arises.
 
 ghost use Rattle.std.specs.Prelude.{◌≡◌, ◌≤◌, Err, length, map, Ok};
+ghost use Rattle.key_file.specs.Accepted.{IsAccepted};
+ghost use Rattle.run_loop.specs.Gliding.{history_of};
 ghost use Rattle.app_answers.specs.Spoken.{IsSpoken};
 ghost use Rattle.app_boards.specs.BoardAnswers.{IsBoardSaid};
 ghost use Rattle.app_boards.specs.BoardOfText.{MaySayOfBoard};
@@ -26,6 +28,7 @@ fn put_log<F: Feed, K: Sink>(
     out: &mut K,
     probes: &mut Vec<Box<dyn Probe>>,
 ) -> Spoken
+    requires accepted { IsAccepted (history_of board) }
     ensures says { let before = map (λ b. watch b) probes.old.items in
         let after = map (λ b. watch b) probes.new.items in
         IsSpoken (λ answer taking log. IsBoardSaid (BoardCommand.Log steps) board answer before
@@ -55,6 +58,7 @@ fn put_trace<F: Feed, K: Sink>(
     out: &mut K,
     probes: &mut Vec<Box<dyn Probe>>,
 ) -> Spoken
+    requires accepted { IsAccepted (history_of board) }
     ensures says { let before = map (λ b. watch b) probes.old.items in
         let after = map (λ b. watch b) probes.new.items in
         IsSpoken (λ answer taking log. IsBoardSaid (BoardCommand.Trace seen) board answer before
@@ -77,6 +81,7 @@ fn put_board<F: Feed, K: Sink>(
     out: &mut K,
     probes: &mut Vec<Box<dyn Probe>>,
 ) -> Spoken
+    requires accepted { IsAccepted (history_of board) }
     ensures says { let before = map (λ b. watch b) probes.old.items in
         let after = map (λ b. watch b) probes.new.items in
         IsSpoken (λ answer taking log. IsBoardSaid wanted board answer before

@@ -1,5 +1,5 @@
 -- What C does with a queue of edges.
-use Rattle.std.specs.Prelude.{◌≡◌, ◌^◌, ◌+◌, ◌-◌, ℕ, ℤ, pos, nat_lt, nat_le, ◌&&◌, Bool, not, ◌==◌, if◌then◌else◌}
+use Rattle.std.specs.Prelude.{◌≡◌, ◌^◌, ◌-◌, ℕ, ℤ, pos, nat_lt, nat_le, ◌&&◌, Bool, not, ◌==◌, if◌then◌else◌}
 use Rattle.std.specs.Prelude.{length, slice_index, Option, Some, None, Ok, Err}
 use Rattle.std.specs.declared.result.Result.{Result}
 use Rattle.edge_queue.specs.Queue.{Queue, after_taken, answer_of, due_of, edge_at, pushed, taken}

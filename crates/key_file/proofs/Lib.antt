@@ -14,4 +14,3 @@ pub mod Kept
 pub mod Left
 pub mod ReadsDescribed
 pub mod DescribesRead
-pub mod Following

@@ -1,14 +1,15 @@
 -- A tick in which a byte is received: the keyboard gets the byte that a host sends which keeps the rules, once and right.
-use Rattle.std.proofs.Common.{◌≡◌, ◌≤◌, ◌<◌, ℕ, zero, suc, ◌+◌, ◌-◌, ◌*◌, Bool, true, false, nat_le, nat_lt, ◌==◌}
+use Rattle.std.proofs.Common.{◌≡◌, ◌≤◌, ◌<◌, ℕ, zero, suc, ◌+◌, ◌-◌, ◌*◌, Bool, true, false, ◌==◌}
 use Rattle.std.proofs.Common.{List, [], ◌∷◌, ◌++◌, length, refl, ap, sym, ◌∙◌, subst, arith, inl, inr}
 use Rattle.std.proofs.lemmas.Bool.Decides.{nat_tests}
 use Rattle.bits.proofs.Every.{by_byte, tests_by}
 use Rattle.law_fw_link.specs.Latch.{ReceivedFrame, frame_bit}
 use Rattle.law_fw_link.specs.Reading.{byte_in, right_in}
 use Rattle.law_agreement.proofs.AtLook.{one_byte}
+use Rattle.law_any_host.proofs.CellClock.{DrivesCells, falls_in_cell, none_after, none_in_cell}
 use Rattle.law_any_host.proofs.Ears.{AtMost, Kept, NoFall, held, keeps_on, no_fall, went}
 use Rattle.law_any_host.proofs.FrameLines.{got_clock, got_data, got_late, got_up}
-use Rattle.law_any_host.proofs.Offsets.{falls_at, high_at, low_at, not_both, pulled_by, risen_at, same_on}
+use Rattle.law_any_host.proofs.Offsets.{not_both, pulled_by, risen_at, same_on}
 use Rattle.law_any_host.proofs.Still.{to_next}
 use Rattle.law_any_host.specs.Ears.{Ear, Gives, Mode, Takes, ear_to, fell, moved, with_bit, with_fall}
 use Rattle.law_any_host.specs.Rules.{IsRuleful}
@@ -73,6 +74,16 @@ module _ (w : Wiring) (wires : AreWires w) (rules : IsRuleful w) where
     -- before the first fall of a received frame the keyboard lets the clock go
     pub up_clk : (o : ℕ) → o < 288 → (w.keyboard (x + o)).clk ≡ true
     up_clk o l = clk o (omega (arith, l)) ∙ ap (λ l. l.clk) (got_up o l)
+
+    cells : DrivesCells w x y
+    cells = record {
+      most = 338;
+      long = omega arith;
+      short = omega arith;
+      up = up_clk;
+      clock = λ k i l m. clk (288 + 32 * k + i) (omega (arith, m)) ∙ got_clock k i l m;
+      late = λ o l m. ap (λ l. l.clk) (drives o m) ∙ got_late o l;
+    }
 
     up_dat : (o : ℕ) → o < 288 → (w.keyboard (x + o)).dat ≡ true
     up_dat o l = dat o (omega (arith, l)) ∙ ap (λ l. l.dat) (got_up o l)
@@ -192,51 +203,9 @@ module _ (w : Wiring) (wires : AreWires w) (rules : IsRuleful w) where
         }
 
     module _ (k : ℕ) (few : k ≤ 10) (h : At k) where
-      before : (i : ℕ) → i < 3 → (w.keyboard (x + (285 + 32 * k + i))).clk ≡ true
-      before i l = clk (285 + 32 * k + i) (omega (arith, few, l)) ∙ by k few
-        where
-          by : (k : ℕ) → k ≤ 10 → (frame_lines ReceivedFrame (285 + 32 * k + i)).clk ≡ true
-          by zero few = ap (λ l. l.clk) (got_up (285 + 32 * 0 + i) (omega (arith, l)))
-          by (suc j) few =
-              let p : 285 + 32 * suc j + i ≡ 288 + 32 * j + (29 + i) = omega arith in
-              let up : nat_le 16 (29 + i) ≡ true = grind (arith, nat_tests) in
-              ap (λ o. (frame_lines ReceivedFrame o).clk) p
-              ∙ got_clock j (29 + i) (omega (arith, l)) (omega (arith, l, few)) ∙ up
-
-      abbrev o : ℕ
-      o = 285 + 32 * k
-
-      at0 : o + 0 ≡ o
-      at0 = omega arith
-
-      at1 : o + 1 ≡ suc o
-      at1 = omega arith
-
-      at2 : o + 2 ≡ suc (suc o)
-      at2 = omega arith
-
-      at3 : suc (suc (suc o)) ≡ 288 + 32 * k
-      at3 = omega arith
-
-      high : (w.seen (x + suc (suc o))).clk ≡ true
-      high =
-          high_at (λ c. (w.keyboard c).clk) (λ c. (w.host c).clk) (λ c. (w.pins c).clk) (λ c. (w.seen c).clk) wires.clock x
-          o (ap (λ i. (w.keyboard (x + i)).clk) (sym at0) ∙ before 0 (omega arith))
-          (ap (λ i. (w.host (x + i)).clk) (sym at0) ∙ h.host 0 (omega arith))
-          (ap (λ i. (w.keyboard (x + i)).clk) (sym at1) ∙ before 1 (omega arith))
-          (ap (λ i. (w.host (x + i)).clk) (sym at1) ∙ h.host 1 (omega arith))
-          (ap (λ i. (w.keyboard (x + i)).clk) (sym at2) ∙ before 2 (omega arith))
-          (ap (λ i. (w.host (x + i)).clk) (sym at2) ∙ h.host 2 (omega arith))
-
-      down : (w.keyboard (x + suc (suc (suc o)))).clk ≡ false
-      down =
-          let z : 288 + 32 * k ≡ 288 + 32 * k + 0 = omega arith in
-          ap (λ i. (w.keyboard (x + i)).clk) (at3 ∙ z) ∙ clk (288 + 32 * k + 0) (omega (arith, few))
-          ∙ got_clock k 0 (omega arith) (omega (arith, few))
-
       -- at each cell's begin the host sees the clock fall
       pub falls : fell w (x + (288 + 32 * k)) ≡ true
-      falls = ap (λ i. fell w (x + i)) (sym at3) ∙ falls_at w wires x (suc (suc o)) high down
+      falls = falls_in_cell w wires x y cells k few h.host
 
       -- with a cell's fall the host counts one more
       pub fallen : ear_to w (suc (x + (288 + 32 * k))) ≡ with_fall byte k (E (288 + 32 * k))
@@ -260,23 +229,7 @@ module _ (w : Wiring) (wires : AreWires w) (rules : IsRuleful w) where
 
       -- in the rest of a cell the keyboard lets no clock fall
       pub no_fall_in : (i : ℕ) → i < 31 → NoFall w wires (x + (289 + 32 * k + i))
-      no_fall_in i l = by (nat_le 16 (suc i)) refl
-        where
-          p : 289 + 32 * k + i ≡ 288 + 32 * k + suc i
-          p = omega arith
-
-          by : (b : Bool) → nat_le 16 (suc i) ≡ b → NoFall w wires (x + (289 + 32 * k + i))
-          by true up =
-              inl (ap (λ v. (w.keyboard (x + v)).clk) p ∙ clk (288 + 32 * k + suc i) (omega (arith, few, l))
-              ∙ got_clock k (suc i) (omega (arith, l)) (omega (arith, l, few)) ∙ up)
-          by false low =
-              let m : suc i < 16 = grind (arith, nat_tests, low) in
-              let below : nat_le 16 i ≡ false = grind (arith, nat_tests, m) in
-              let q : suc (288 + 32 * k + i) ≡ 289 + 32 * k + i = omega arith in
-              subst (λ v. NoFall w wires (x + v)) q
-              (low_at w wires x (288 + 32 * k + i)
-              (clk (288 + 32 * k + i) (omega (arith, few, l))
-              ∙ got_clock k i (omega (arith, l)) (omega (arith, l, few)) ∙ below))
+      no_fall_in = none_in_cell w wires x y cells k few
 
       stay : (i : ℕ) → i ≤ 31 → E (289 + 32 * k + i) ≡ E (289 + 32 * k)
       stay i l =
@@ -374,26 +327,7 @@ module _ (w : Wiring) (wires : AreWires w) (rules : IsRuleful w) where
 
     -- after the eleventh fall the clock falls no more in the tick
     pub no_more : (o : ℕ) → 609 ≤ o → x + o < y → NoFall w wires (x + o)
-    no_more o l m = by (nat_lt o 624) refl (nat_lt o 626) refl
-      where
-        by : (a : Bool) → nat_lt o 624 ≡ a → (b : Bool) → nat_lt o 626 ≡ b → NoFall w wires (x + o)
-        by true s b t =
-            let u : o < 624 = grind (arith, nat_tests, s) in
-            let i : ℕ = o - 609 in
-            let below : nat_le 16 i ≡ false = grind (arith, nat_tests, u) in
-            let p : suc (288 + 32 * 10 + i) ≡ o = omega (arith, l) in
-            subst (λ v. NoFall w wires (x + v)) p
-            (low_at w wires x (288 + 32 * 10 + i)
-            (clk (288 + 32 * 10 + i) (omega (arith, u)) ∙ got_clock 10 i (omega (arith, u)) (omega (arith, u)) ∙ below))
-        by false s true t =
-            let a : 624 ≤ o = grind (arith, nat_tests, s) in
-            let u : o < 626 = grind (arith, nat_tests, t) in
-            let i : ℕ = o - 608 in
-            let up : nat_le 16 i ≡ true = grind (arith, nat_tests, a) in
-            let p : o ≡ 288 + 32 * 10 + i = omega (arith, l) in
-            inl (ap (λ v. (w.keyboard (x + v)).clk) p
-            ∙ clk (288 + 32 * 10 + i) (omega (arith, u)) ∙ got_clock 10 i (omega (arith, u)) (omega (arith, u)) ∙ up)
-        by false s false t = inl (ap (λ l. l.clk) (drives o m) ∙ got_late o (grind (arith, nat_tests, t)))
+    no_more = none_after w wires x y cells
 
     -- at the next tick start the host has given its byte, and nothing is under way
     pub given_there : Kept 0 then_has (ear_to w y)

@@ -9,6 +9,7 @@ pub mod Offsets
 pub mod Still
 pub mod Alone
 pub mod SentTick
+pub mod CellClock
 pub mod GotTick
 pub mod Tenth
 pub mod TenthTick

@@ -7,9 +7,10 @@ use Rattle.board_terms.proofs.Frames.{read_back}
 use Rattle.board_terms.specs.Frame.{byte_of, frame_bits}
 use Rattle.law_fw_link.specs.Latch.{SentFrame, IsLook, frame_bit}
 use Rattle.law_any_host.proofs.Alone.{leaves, lets_data, lets_data_on, taking_there}
+use Rattle.law_any_host.proofs.CellClock.{DrivesCells, falls_in_cell, none_after, none_in_cell}
 use Rattle.law_any_host.proofs.Ears.{Kept, NoFall, keeps_on, no_fall, went}
 use Rattle.law_any_host.proofs.FrameLines.{sent_clock, sent_data, sent_late, sent_start, sent_up}
-use Rattle.law_any_host.proofs.Offsets.{falls_at, high_at, low_at, same_on}
+use Rattle.law_any_host.proofs.Offsets.{high_at, same_on}
 use Rattle.law_any_host.proofs.Still.{to_next}
 use Rattle.law_any_host.specs.Ears.{Ear, Eleventh, Takes, ear_to, fell, with_bit}
 use Rattle.law_any_host.specs.Rules.{Ends, IsRuleful}
@@ -69,6 +70,16 @@ module _ (w : Wiring) (wires : AreWires w) (rules : IsRuleful w) (x y : ℕ) (lo
   dat : (o : ℕ) → o < 628 → (w.keyboard (x + o)).dat ≡ (frame_lines (SentFrame byte) o).dat
   dat o l = ap (λ l. l.dat) (drives o (omega (arith, long, l)))
 
+  cells : DrivesCells w x y
+  cells = record {
+    most = 340;
+    long = omega arith;
+    short = omega arith;
+    up = λ o l. clk o (omega (arith, l)) ∙ sent_up byte o l;
+    clock = λ k i l m. clk (288 + 32 * k + i) (omega (arith, m)) ∙ sent_clock byte k i l m;
+    late = λ o l m. ap (λ l. l.clk) (drives o m) ∙ sent_late byte o l;
+  }
+
   there : Kept 0 first (E 257)
   there = keeps_on w wires 0 257 x first (λ i u. inl (clk i (omega (arith, u)) ∙ sent_up byte i (omega (arith, u)))) rests
 
@@ -121,52 +132,9 @@ module _ (w : Wiring) (wires : AreWires w) (rules : IsRuleful w) (x y : ℕ) (lo
       }
 
   module _ (k : ℕ) (few : k ≤ 10) (h : At k) where
-    -- the keyboard lets the clock go before it falls
-    before : (i : ℕ) → i < 3 → (w.keyboard (x + (285 + 32 * k + i))).clk ≡ true
-    before i l = clk (285 + 32 * k + i) (omega (arith, few, l)) ∙ by k few
-      where
-        by : (k : ℕ) → k ≤ 10 → (frame_lines (SentFrame byte) (285 + 32 * k + i)).clk ≡ true
-        by zero few = sent_up byte (285 + 32 * 0 + i) (omega (arith, l))
-        by (suc j) few =
-            let p : 285 + 32 * suc j + i ≡ 288 + 32 * j + (29 + i) = omega arith in
-            let up : nat_le 16 (29 + i) ≡ true = grind (arith, nat_tests) in
-            ap (λ o. (frame_lines (SentFrame byte) o).clk) p
-            ∙ sent_clock byte j (29 + i) (omega (arith, l)) (omega (arith, l, few)) ∙ up
-
-    abbrev o : ℕ
-    o = 285 + 32 * k
-
-    at0 : o + 0 ≡ o
-    at0 = omega arith
-
-    at1 : o + 1 ≡ suc o
-    at1 = omega arith
-
-    at2 : o + 2 ≡ suc (suc o)
-    at2 = omega arith
-
-    at3 : suc (suc (suc o)) ≡ 288 + 32 * k
-    at3 = omega arith
-
-    high : (w.seen (x + suc (suc o))).clk ≡ true
-    high =
-        high_at (λ c. (w.keyboard c).clk) (λ c. (w.host c).clk) (λ c. (w.pins c).clk) (λ c. (w.seen c).clk) wires.clock x o
-        (ap (λ i. (w.keyboard (x + i)).clk) (sym at0) ∙ before 0 (omega arith))
-        (ap (λ i. (w.host (x + i)).clk) (sym at0) ∙ h.host 0 (omega arith))
-        (ap (λ i. (w.keyboard (x + i)).clk) (sym at1) ∙ before 1 (omega arith))
-        (ap (λ i. (w.host (x + i)).clk) (sym at1) ∙ h.host 1 (omega arith))
-        (ap (λ i. (w.keyboard (x + i)).clk) (sym at2) ∙ before 2 (omega arith))
-        (ap (λ i. (w.host (x + i)).clk) (sym at2) ∙ h.host 2 (omega arith))
-
-    down : (w.keyboard (x + suc (suc (suc o)))).clk ≡ false
-    down =
-        let z : 288 + 32 * k ≡ 288 + 32 * k + 0 = omega arith in
-        ap (λ i. (w.keyboard (x + i)).clk) (at3 ∙ z) ∙ clk (288 + 32 * k + 0) (omega (arith, few))
-        ∙ sent_clock byte k 0 (omega arith) (omega (arith, few))
-
     -- at each cell's begin the host sees the clock fall
     pub falls : fell w (x + (288 + 32 * k)) ≡ true
-    falls = ap (λ i. fell w (x + i)) (sym at3) ∙ falls_at w wires x (suc (suc o)) high down
+    falls = falls_in_cell w wires x y cells k few h.host
 
     -- the bit of the cell is read
     module _ (i : ℕ) (l : i ≤ 16) where
@@ -246,23 +214,7 @@ module _ (w : Wiring) (wires : AreWires w) (rules : IsRuleful w) (x y : ℕ) (lo
 
     -- in the rest of a cell the keyboard lets no clock fall
     pub no_fall_in : (i : ℕ) → i < 31 → NoFall w wires (x + (289 + 32 * k + i))
-    no_fall_in i l = by (nat_le 16 (suc i)) refl
-      where
-        p : 289 + 32 * k + i ≡ 288 + 32 * k + suc i
-        p = omega arith
-
-        by : (b : Bool) → nat_le 16 (suc i) ≡ b → NoFall w wires (x + (289 + 32 * k + i))
-        by true up =
-            inl (ap (λ v. (w.keyboard (x + v)).clk) p ∙ clk (288 + 32 * k + suc i) (omega (arith, few, l))
-            ∙ sent_clock byte k (suc i) (omega (arith, l)) (omega (arith, l, few)) ∙ up)
-        by false low =
-            let m : suc i < 16 = grind (arith, nat_tests, low) in
-            let below : nat_le 16 i ≡ false = grind (arith, nat_tests, m) in
-            let q : suc (288 + 32 * k + i) ≡ 289 + 32 * k + i = omega arith in
-            subst (λ v. NoFall w wires (x + v)) q
-            (low_at w wires x (288 + 32 * k + i)
-            (clk (288 + 32 * k + i) (omega (arith, few, l))
-            ∙ sent_clock byte k i (omega (arith, l)) (omega (arith, l, few)) ∙ below))
+    no_fall_in = none_in_cell w wires x y cells k few
 
   -- from one cell to the next
   pub next : (k : ℕ) → k ≤ 9 → At k → LetsGo k → At (suc k)
@@ -343,26 +295,7 @@ module _ (w : Wiring) (wires : AreWires w) (rules : IsRuleful w) (x y : ℕ) (lo
 
   -- after the eleventh fall the clock falls no more in the tick
   pub no_more : (o : ℕ) → 609 ≤ o → x + o < y → NoFall w wires (x + o)
-  no_more o l m = by (nat_lt o 624) refl (nat_lt o 628) refl
-    where
-      by : (a : Bool) → nat_lt o 624 ≡ a → (b : Bool) → nat_lt o 628 ≡ b → NoFall w wires (x + o)
-      by true s b t =
-          let u : o < 624 = grind (arith, nat_tests, s) in
-          let i : ℕ = o - 609 in
-          let below : nat_le 16 i ≡ false = grind (arith, nat_tests, u) in
-          let p : suc (288 + 32 * 10 + i) ≡ o = omega (arith, l) in
-          subst (λ v. NoFall w wires (x + v)) p
-          (low_at w wires x (288 + 32 * 10 + i)
-          (clk (288 + 32 * 10 + i) (omega (arith, u)) ∙ sent_clock byte 10 i (omega (arith, u)) (omega (arith, u)) ∙ below))
-      by false s true t =
-          let a : 624 ≤ o = grind (arith, nat_tests, s) in
-          let u : o < 628 = grind (arith, nat_tests, t) in
-          let i : ℕ = o - 608 in
-          let up : nat_le 16 i ≡ true = grind (arith, nat_tests, a) in
-          let p : o ≡ 288 + 32 * 10 + i = omega (arith, l) in
-          inl (ap (λ v. (w.keyboard (x + v)).clk) p
-          ∙ clk (288 + 32 * 10 + i) (omega (arith, u)) ∙ sent_clock byte 10 i (omega (arith, u)) (omega (arith, u)) ∙ up)
-      by false s false t = inl (ap (λ l. l.clk) (drives o m) ∙ sent_late byte o (grind (arith, nat_tests, t)))
+  no_more = none_after w wires x y cells
 
   -- a host that counts eleven falls lets the clock go up to the eleventh
   module _ (ends : Ends Eleventh w) where

@@ -20,13 +20,15 @@ use Rattle.joint_run.specs.declared.due.Seen.{Seen}
 use Rattle.joint_run.specs.declared.machine.Machine.{Machine}
 use Rattle.joint_feed.proofs.Going.{made as step_made, same_state}
 use Rattle.joint_feed.specs.Stories.{state_at}
+use Rattle.joint_run.proofs.OneStep.{step_of_run}
 use Rattle.std.specs.declared.option.Option.{Option}
 use Rattle.std.specs.declared.result.Result.{Result}
 use Rattle.mcs48_core.specs.declared.stepping.Stuck.{Stuck}
 use Rattle.live_board.proofs.Acting.{HasDone, has_done}
 use Rattle.live_board.proofs.Growing.{grows}
 use Rattle.live_board.proofs.Stepping.{edges_left, edges_there, handed, here, image_same}
-use Rattle.live_board.proofs.Stepping.{later_edges, later_events, on, parted_on, steps_more, world_later}
+use Rattle.live_board.proofs.Stepping.{later_edges, later_events, of_run, on, parted_on, steps_more, world_later}
+use Rattle.live_board.proofs.Timed.{few_cycles}
 use Rattle.live_board.specs.Acts.{IsAnswered}
 use Rattle.live_board.specs.Calls.{IsActed, Says, place_of}
 use Rattle.live_board.specs.Pasts.{Past, acted, pressed, state_of, story_of}
@@ -84,7 +86,6 @@ edge_grown p k s e late =
 -- the host acts
 module _ (old : Keyboard) (act : HostAct) (late : 4096 ≤ old.joint.cycle) (room : waits act old.joint.outside.desk.port.core ≡ false)
     (due : Due) (new : Machine) (seen : Seen) (only : due.host.items ≡ record { stamp = old.joint.cycle - 4096; act = act } ∷ [])
-    (some : 0 < seen.cycles)
     (is : IsJointStep due old.joint (due_step due old.joint) (Ok seen) new) where
   abbrev pub event : HostEvent
   event = record { stamp = old.joint.cycle - 4096; act = act }
@@ -93,14 +94,17 @@ module _ (old : Keyboard) (act : HostAct) (late : 4096 ≤ old.joint.cycle) (roo
   done_here =
       let made = step_made due old.joint seen new is in
       let count = made.seen_so.cycles in
+      let some = (few_cycles due old.joint new seen is).0 in
       has_done due old.joint event only (omega (arith, late)) room made.world (omega (arith, count, some)) made.step
 
   -- the call of the host is answered in the step
   pub answered_here : IsAnswered act seen.items.items
   answered_here = subst (IsAnswered act) (sym (step_made due old.joint seen new is).seen_so.items) done_here.answered
 
-  module _ (p : Past) (s : HasPast p old) (wait : due.edges.items ≡ old.due.edges.items)
-      (run : IsStepOfRun due old.joint (Ok seen) new) where
+  module _ (p : Past) (s : HasPast p old) (wait : due.edges.items ≡ old.due.edges.items) where
+    run : IsStepOfRun due old.joint (Ok seen) new
+    run = of_run due old.joint new seen is
+
     grown_run : IsInRunFrom p.held p.edges (p.events ++ event ∷ []) old.joint s.made s.world
     grown_run = event_grown p old s event (omega (arith, late))
 
@@ -180,8 +184,9 @@ module _ (old : Keyboard) (act : HostAct) (late : 4096 ≤ old.joint.cycle) (roo
 -- where the processor is stuck no state follows
 pub acted_stuck : (old : Keyboard) (act : HostAct) → 4096 ≤ old.joint.cycle → (due : Due) (new : Machine) (stuck : Stuck)
     → due.host.items ≡ record { stamp = old.joint.cycle - 4096; act = act } ∷ [] → due.edges.items ≡ old.due.edges.items
-    → IsStepOfRun due old.joint (Err stuck) new → (p : Past) → HasPast p old → state_of (acted p (old.joint.cycle - 4096) act) ≡ None
-acted_stuck old act late due new stuck only wait run p s =
+    → IsJointStep due old.joint (due_step due old.joint) (Err stuck) new → (p : Past) → HasPast p old → state_of (acted p (old.joint.cycle - 4096) act) ≡ None
+acted_stuck old act late due new stuck only wait is p s =
+    let run : IsStepOfRun due old.joint (Err stuck) new = step_of_run due old.joint (Err stuck) new is tt in
     let e : HostEvent = record { stamp = old.joint.cycle - 4096; act = act } in
     let h = handed p.edges s.made s.world.cycle due.edges.items (wait ∙ s.edges_wait) in
     let host : due.host.items ≡ take 2 (drop s.world.board.pc.side.done (p.events ++ e ∷ [])) =

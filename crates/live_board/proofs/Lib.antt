@@ -7,6 +7,7 @@ pub mod Calling
 pub mod Meeting
 pub mod Passed
 pub mod Gliding
+mod Answering
 mod LastBit
 mod Limits
 mod Tallying

@@ -20,6 +20,7 @@ use mcs48_core::Stuck;
 
 /// In how many cycles quiet steps may be made: in none if the run is to stop at a place of the program, and else in as
 /// many as leave the step after them within both limits, and its begin before the count's end.
+#[inline(always)]
 fn quiet_room(stops: &Stops, cycles: u64, steps: Option<u64>, made: u64, cycle: u64) -> u64
     requires cycles { 0 < cycles }
     requires steps { IfSome steps (λ most. made < most) }
@@ -40,6 +41,7 @@ fn quiet_room(stops: &Stops, cycles: u64, steps: Option<u64>, made: u64, cycle: 
 }
 
 /// Whether as many steps were made as there may be.
+#[inline(always)]
 fn is_full(made: u64, steps: Option<u64>) -> bool
     ensures full { result ≡ true → MatchOption steps ⊥ (λ most. most ≤ made) }
     ensures room { result ≡ false → IfSome steps (λ most. made < most) }
@@ -58,7 +60,6 @@ impl Parts {
         requires near { self.old.joint.cycle + most < 2 ^ 62 }
         requires few { self.old.rises < 2 ^ 63 }
         ensures gone { HasGone self.old.due 2048 most self.old.joint (with_seen result self.new.seen) self.new.joint }
-        ensures some { OnOk result (0 < self.new.seen.cycles) }
         ensures edges { OnOk result (self.new.due.edges.items ≡ drop self.new.seen.edges self.old.due.edges.items) }
         ensures host { self.new.due.host ≡ self.old.due.host }
         ensures kept { OnOk result (self.new.heard ≡ heard_all self.old.heard
@@ -75,6 +76,7 @@ impl Parts {
     }
 
     /// What the last step did of what is asked for, before which the line and the wires were so.
+    #[inline(always)]
     fn met(&self, stops: &Stops, was: Irq, lines: Lines) -> Met
         ensures { result ≡ met_by stops.now was lines self.now }
     {

@@ -4,7 +4,6 @@ ghost use Rattle.std.specs.Prelude.{ℕ, ◌≡◌, ◌≤◌, ◌<◌, ◌+◌,
 ghost use Rattle.int09.specs.Bios.{start};
 ghost use Rattle.joint_run.specs.Due.{due_step, with_seen, IsJointStep};
 ghost use Rattle.joint_run.specs.Filled.{filled};
-ghost use Rattle.joint_run.specs.History.{IsStepOfRun};
 ghost use Rattle.live_board.specs.Answers.{line_in, raises};
 ghost use Rattle.live_board.specs.Heard.{heard_all, rise, said_so};
 ghost use Rattle.live_board.specs.Looks.{IsCopied};
@@ -195,9 +194,6 @@ impl Parts {
         requires near { self.old.joint.cycle < 2 ^ 62 }
         ensures step { IsJointStep self.old.due self.old.joint (due_step self.old.due self.old.joint)
             (with_seen result self.new.seen) self.new.joint }
-        ensures run { IsStepOfRun self.old.due self.old.joint (with_seen result self.new.seen) self.new.joint }
-        ensures some { OnOk result (0 < self.new.seen.cycles) }
-        ensures few { OnOk result (self.new.seen.cycles < 3) }
         ensures edges { OnOk result (self.new.due.edges.items ≡ drop self.new.seen.edges self.old.due.edges.items) }
         ensures host { self.new.due.host ≡ self.old.due.host }
         ensures kept { OnOk result (self.new.heard ≡ heard_all self.old.heard

@@ -2,7 +2,9 @@
 
 ghost use Rattle.std.specs.Prelude.{◌≡◌, map, IfOk, OnErr};
 ghost use Rattle.io_edge.specs.Said.{IsSaid};
+ghost use Rattle.key_file.specs.Accepted.{IsAccepted};
 ghost use Rattle.run_loop.specs.declared.ending.Ending.TheVariants.{Stamp};
+ghost use Rattle.run_loop.specs.Gliding.{history_of};
 ghost use Rattle.run_probes.specs.Looks.{looks};
 ghost use Rattle.run_program.specs.BoardOutcomes.{IsOutcome};
 ghost use Rattle.run_program.specs.Ending.{ending};
@@ -33,6 +35,7 @@ pub fn run_to<F: Feed, K: Sink>(
     out: &mut K,
     probes: &mut Vec<Box<dyn Probe>>,
 ) -> Result<Finished, SinkFault>
+    requires accepted { IsAccepted (history_of run) }
     ensures run { IfOk result (λ made. IsOutcome run (ending run made)) }
     ensures said { IfOk result (λ made. IsSaid (K.shown out.old) (K.shown out.new) (log_text (ending run made).log)) }
     ensures broken { OnErr result (IsLogBrokenOff run (K.shown out.old) (K.shown out.new)) }
@@ -57,6 +60,7 @@ pub fn trace_to<F: Feed, K: Sink>(
     out: &mut K,
     probes: &mut Vec<Box<dyn Probe>>,
 ) -> Result<Finished, SinkFault>
+    requires accepted { IsAccepted (history_of run) }
     ensures run { IfOk result (λ made. IsOutcome run (ending run made)) }
     ensures said { IfOk result (λ made. IsSaid (K.shown out.old) (K.shown out.new) (trace_to seen run made.joint.steps)) }
     ensures broken { OnErr result (IsTraceBrokenOff seen run (K.shown out.old) (K.shown out.new)) }

@@ -1,5 +1,8 @@
-use Rattle.std.proofs.Common.{Ok}
+use Rattle.std.proofs.Common.{Ok, subst, sym}
+use Rattle.joint_feed.specs.Stories.{Story}
+use Rattle.key_file.specs.Accepted.{IsAccepted}
 use Rattle.key_file.specs.KeyFile.{history_of}
+use Rattle.run_loop.specs.Gliding.{history_of as history_run}
 use Rattle.app_answers.proofs.AreSpoken.{keys_refused}
 use Rattle.app_boards.proofs.BoardsAreSaid.{MayRun, boarded}
 use Rattle.app_boards.proofs.boarding.run_board.Goals as goal
@@ -17,3 +20,8 @@ returns-in-Ok-clause-says g c =
     (g.K.Sink.shown c.args.out.now)
     (g.K.Sink.shown c.put_board.new.out)
     c.in-Ok.ensures.run c.put_board.ensures.says
+
+pub put_board-requires : goal.put_board-requires
+put_board-requires g c = record {
+  accepted = subst (λ (s : Story). IsAccepted (history_run s)) (sym c.in-Ok.ensures.run) c.in_ok-feed.ensures.accepted.accepted;
+}

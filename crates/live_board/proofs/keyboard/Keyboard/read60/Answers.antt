@@ -1,27 +1,16 @@
-use Rattle.std.proofs.Common.{◌-◌, Ok, ap, sym, subst, ◌∙◌}
+use Rattle.std.proofs.Common.{ap, sym, ◌∙◌}
 use Rattle.board_terms.specs.declared.event.HostAct.TheVariants.{Read60}
+use Rattle.live_board.proofs.Answering.{acted_so, gives_so, kept_so}
 use Rattle.live_board.specs.Answers.{first_in}
-use Rattle.live_board.specs.Calls.{GivesFirst, IsActed}
-use Rattle.live_board.specs.Heard.{IsKeptLog}
-use Rattle.live_board.specs.Pasts.{Past, acted}
-use Rattle.live_board.specs.States.{HasPast}
-use Rattle.live_board.specs.declared.parts.Parts.{Parts}
 use Rattle.live_board.proofs.keyboard.Keyboard.read60.Goals as goal
 
 pub returns-clause-acted : goal.returns-clause-acted
-returns-clause-acted c =
-    subst (λ (k : Parts). IsActed {X = Unit {0}} Read60 k (Ok tt) c.act.new.self) c.self.view_is c.in_ok-act.ensures.acted
+returns-clause-acted c = acted_so Read60 _ _ c.act.new.self c.self.view_is c.in_ok-act.ensures.acted
 
 pub returns-clause-log_kept : goal.returns-clause-log_kept
-returns-clause-log_kept c =
-    subst (λ (k : Parts). IsKeptLog {X = Unit {0}} Read60 k (Ok tt) c.act.new.self) c.self.view_is c.in_ok-act.ensures.log_kept
+returns-clause-log_kept c = kept_so Read60 _ _ c.act.new.self c.self.view_is c.in_ok-act.ensures.log_kept
 
 pub returns-clause-byte : goal.returns-clause-byte
 returns-clause-byte c =
-    subst (λ (k : Parts). (p : Past) → HasPast p k → GivesFirst (λ t. t.read) p (acted p (k.joint.cycle - 4096) Read60) c.read_in.result)
-    c.self.view_is
-    (λ p s. (
-      c.act.new.self.seen.items.items,
-      c.in_ok-act.ensures.said p s,
-      ap (first_in (λ t. t.read)) (sym c.as_slice.ensures.value) ∙ c.read_in.ensures,
-    ))
+    gives_so Read60 _ _ c.act.new.self c.self.view_is c.read_in.result (λ t. t.read) c.in_ok-act.ensures.said
+    (ap (first_in (λ t. t.read)) (sym c.as_slice.ensures.value) ∙ c.read_in.ensures)

@@ -33,8 +33,8 @@ returns-in-Ok-clause-acted c =
     c.one_event-self.ensures ∙ ap (λ n. record { stamp = n - 4096; act = act } ∷ []) cycle in
     let e = c.in-Ok.ensures in (
       record { late = late; near = near; room = room },
-      λ p s. acted_on k act late room due c.step.new.self.joint c.step.new.self.seen only e.some
-          e.step p s refl e.run _ refl e.edges c.new-self.ensures,
+      λ p s. acted_on k act late room due c.step.new.self.joint c.step.new.self.seen only
+          e.step p s refl _ refl e.edges c.new-self.ensures,
     )
 
 pub returns-in-Ok-clause-said : goal.returns-in-Ok-clause-said
@@ -49,7 +49,7 @@ returns-in-Ok-clause-said c =
     let only : due.host.items ≡ record { stamp = k.joint.cycle - 4096; act = act } ∷ [] =
     c.one_event-self.ensures ∙ ap (λ n. record { stamp = n - 4096; act = act } ∷ []) cycle in
     let e = c.in-Ok.ensures in
-    λ p s. says_on k act late room due c.step.new.self.joint c.step.new.self.seen only e.some e.step p s refl e.run
+    λ p s. says_on k act late room due c.step.new.self.joint c.step.new.self.seen only e.step p s refl
 
 pub returns-in-Ok-clause-log_kept : goal.returns-in-Ok-clause-log_kept
 returns-in-Ok-clause-log_kept c =
@@ -66,11 +66,11 @@ returns-in-Ok-clause-log_kept c =
     let new : Keyboard = record c.step.new.self { due = record c.step.new.self.due { host = c.new-self.result } } in
     λ p s.
     let t : HasPast (acted p (k.joint.cycle - 4096) act) new =
-    acted_on k act late room due c.step.new.self.joint c.step.new.self.seen only e.some
-    e.step p s refl e.run new refl e.edges c.new-self.ensures in
+    acted_on k act late room due c.step.new.self.joint c.step.new.self.seen only
+    e.step p s refl new refl e.edges c.new-self.ensures in
     record {
       items = c.step.new.self.seen.items.items;
-      said = says_on k act late room due c.step.new.self.joint c.step.new.self.seen only e.some e.step p s refl e.run;
+      said = says_on k act late room due c.step.new.self.joint c.step.new.self.seen only e.step p s refl;
       kept =
           let cycles = (counted due k.joint c.step.new.self.joint c.step.new.self.seen e.step).0 in
           let at : c.step.new.self.joint.cycle - c.step.new.self.seen.cycles ≡ k.joint.cycle = omega (arith, cycles) in
@@ -95,7 +95,7 @@ returns-in-Ok-clause-answered c =
     let only : due.host.items ≡ record { stamp = k.joint.cycle - 4096; act = act } ∷ [] =
     c.one_event-self.ensures ∙ ap (λ n. record { stamp = n - 4096; act = act } ∷ []) cycle in
     let e = c.in-Ok.ensures in
-    answered_here k act late room due c.step.new.self.joint c.step.new.self.seen only e.some e.step
+    answered_here k act late room due c.step.new.self.joint c.step.new.self.seen only e.step
 
 pub returns-in-Ok-clause-stepped : goal.returns-in-Ok-clause-stepped
 returns-in-Ok-clause-stepped c =
@@ -139,7 +139,7 @@ returns-in-Err-clause-acted c =
       (
         record { late = late; near = near; room = room },
         stuck_at due k.joint c.step.new.self.joint c.in-Err.stuck (due_step due k.joint) e.step,
-        λ p s. acted_stuck k act late due c.step.new.self.joint c.in-Err.stuck only refl e.run p s,
+        λ p s. acted_stuck k act late due c.step.new.self.joint c.in-Err.stuck only refl e.step p s,
       ),
       e.unchanged.0,
       λ p s. holds_still p k _ e.unchanged.0 (ap (λ (d : Due). d.edges.items) e.unchanged.1) c.new-self-in-Err.ensures s,
